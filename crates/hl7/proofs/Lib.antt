@@ -1,0 +1,6 @@
+pub mod Comparing
+pub mod Cutting
+pub mod Walking
+pub mod Placing
+pub mod Refusing
+pub mod Samples

@@ -1,0 +1,287 @@
+-- Laws of `specs/Refusals.antt`: tables of rows, the loops that look for a wrong byte and a wrong segment, and what a sound message is.
+-- Assumes nothing.
+use mathlib.Core.Path.{_≡_, refl, sym, ap, subst, _∙_}
+use mathlib.Core.Bool.{Bool, true, false, cond, not, true≢false}
+use mathlib.Core.Logic.{_↔_, _⊎_, inl, inr}
+use mathlib.Core.List.{List, [], _∷_}
+use Prim.Native.Nat.{ℕ, zero, suc, _+_, _-_, _≤_, _<_}
+use native.Mathlib.Numerals.{add-one}
+use native.Mathlib.Nat.{add-zero}
+use native.Mathlib.Omega.{arith}
+use lib.Dec.{eqb, ltb}
+use lib.ListN.{length, getD, drop, length-drop, drop-of-length-le}
+use borrow.Author.Tests.{eq-eqb, ne-eqb, lt-ltb, le-ltb, eqb-true, ltb-false, not-false}
+use Rattle.hl7.specs.declared.place.Delims.{Delims}
+use Rattle.hl7.specs.declared.refusal.Found.{Found}
+use Rattle.hl7.specs.declared.refusal.Found.the-variants.{At, Nothing}
+use Rattle.hl7.specs.declared.refusal.Reading.{Reading}
+use Rattle.hl7.specs.declared.refusal.Reading.the-variants.{Sound, Empty, TooLong, WrongByte, NoHeader, WrongSegment}
+use Rattle.hl7.specs.Bytes.{all, begins}
+use Rattle.hl7.specs.Cut.{cut, partAt, endFrom, butLast}
+use Rattle.hl7.specs.Place.{delimsOf, carriageReturn, segmentsOf, segmentOf, nthOf, cutUnless, place}
+use Rattle.hl7.specs.Spans.{between}
+use Rattle.hl7.specs.Refusals.{Told, told, Row, row, rowAt, firstRow, holdsAt, First, messageLimit, allowed, wrongBytes, header, hasForm, wrongSegments, formRows, messageRows, firstOf, isSome, paper, isSound, located}
+use Rattle.hl7.proofs.Comparing.{rest-at, none-of, and-true}
+use Rattle.hl7.proofs.Cutting.{first, first-at, cut-some, parts-more, parts-last}
+use Rattle.hl7.proofs.Walking.{ended-same}
+
+-- ---- tables of rows
+pub row-passed : (r : Row) (rows : List Row) → r .holds ≡ false → firstRow (r ∷ rows) ≡ firstRow rows
+unfolding firstRow
+row-passed r rows e = rw e
+
+pub row-taken : (r : Row) (rows : List Row) → r .holds ≡ true → firstRow (r ∷ rows) ≡ r .answer
+unfolding firstRow
+row-taken r rows e = rw e
+
+-- the first row that holds answers
+pub first-answers : (rows : List Row) (k : ℕ) → First rows k → firstRow rows ≡ getD rows k (row 0 false) .answer
+first-answers [] k f = absurd (omega (arith, f .within))
+first-answers (r ∷ rows) zero f = row-taken r rows (f .holds)
+first-answers (r ∷ rows) (suc k) f =
+    row-passed r rows (f .noneBefore 0 (omega arith))
+    ∙ first-answers rows k (record { within = omega (arith, f .within); holds = f .holds; noneBefore = λ i h. f .noneBefore (suc i) (omega arith) })
+
+-- row i has the number i + n
+abbrev pub Numbered : ℕ → List Row → Type 0
+Numbered n [] = Unit {0}
+Numbered n (r ∷ rows) = (r .answer .number ≡ n) × Numbered (suc n) rows
+
+pub number-at : (rows : List Row) (n : ℕ) → Numbered n rows → (k : ℕ) → k < length rows → getD rows k (row 0 false) .answer .number ≡ n + k
+number-at [] n numbered k h = absurd (omega arith)
+number-at (r ∷ rows) n numbered zero h = numbered .0 ∙ sym (add-zero n)
+number-at (r ∷ rows) n numbered (suc k) h = number-at rows (suc n) (numbered .1) k (omega arith) ∙ omega arith
+
+pub none-answers : (rows : List Row) → ((i : ℕ) → holdsAt rows i ≡ false) → firstRow rows ≡ told 0 0
+unfolding firstRow
+none-answers [] none = refl
+none-answers (r ∷ rows) none = row-passed r rows (none 0) ∙ none-answers rows (λ i. none (suc i))
+
+-- one row is the first that holds, or none holds
+pub first-or-none : (rows : List Row) → ((k : ℕ) × First rows k) ⊎ ((i : ℕ) → holdsAt rows i ≡ false)
+first-or-none [] = inr (λ i. refl)
+first-or-none (r ∷ rows) = by (r .holds) refl (first-or-none rows)
+  where
+    later : r .holds ≡ false → (k : ℕ) → First rows k → First (r ∷ rows) (suc k)
+    later t k f = record { within = omega (arith, f .within); holds = f .holds; noneBefore = before }
+      where
+        before : (i : ℕ) → i < suc k → holdsAt (r ∷ rows) i ≡ false
+        before zero h = t
+        before (suc i) h = f .noneBefore i (omega arith)
+
+    never : r .holds ≡ false → ((i : ℕ) → holdsAt rows i ≡ false) → (i : ℕ) → holdsAt (r ∷ rows) i ≡ false
+    never t none zero = t
+    never t none (suc i) = none i
+
+    by : (b : Bool) → r .holds ≡ b → ((k : ℕ) × First rows k) ⊎ ((i : ℕ) → holdsAt rows i ≡ false) → ((k : ℕ) × First (r ∷ rows) k) ⊎ ((i : ℕ) → holdsAt (r ∷ rows) i ≡ false)
+    by true t rest = inl (0, record { within = omega arith; holds = t; noneBefore = λ i h. absurd (omega arith) })
+    by false t (inl found) = inl (suc (found .0), later t (found .0) (found .1))
+    by false t (inr none) = inr (never t none)
+
+-- ---- the general law: the answer is that of row k exactly when row k holds and no earlier one does
+module _ (rows : List Row) (numbered : Numbered 1 rows) where
+  number-first : (k : ℕ) → First rows k → firstRow rows .number ≡ suc k
+  number-first k f = ap (λ (a : Told). a .number) (first-answers rows k f) ∙ number-at rows 1 numbered k (f .within) ∙ omega arith
+
+  pub row-exactly : (k : ℕ) → (firstRow rows .number ≡ suc k) ↔ First rows k
+  row-exactly k = (by (first-or-none rows), number-first k)
+    where
+      by : ((j : ℕ) × First rows j) ⊎ ((i : ℕ) → holdsAt rows i ≡ false) → firstRow rows .number ≡ suc k → First rows k
+      by (inl found) e =
+          let same : found .0 ≡ k = omega (arith, number-first (found .0) (found .1), e) in
+          subst (First rows) same (found .1)
+      by (inr none) e = absurd (omega (arith, ap (λ (a : Told). a .number) (none-answers rows none), e))
+
+  -- and number 0 exactly when none holds
+  pub none-exactly : (firstRow rows .number ≡ 0) ↔ ((i : ℕ) → holdsAt rows i ≡ false)
+  none-exactly = (by (first-or-none rows), λ none. ap (λ (a : Told). a .number) (none-answers rows none))
+    where
+      by : ((j : ℕ) × First rows j) ⊎ ((i : ℕ) → holdsAt rows i ≡ false) → firstRow rows .number ≡ 0 → (i : ℕ) → holdsAt rows i ≡ false
+      by (inl found) e = absurd (omega (arith, number-first (found .0) (found .1), e))
+      by (inr none) e = none
+
+-- ---- a row for what stands at some positions
+pub position-some : (n at : ℕ) (positions : List ℕ) (rows : List Row) → At at ≡ firstOf positions → firstRow (rowAt n positions ∷ rows) ≡ told n at
+unfolding firstRow
+position-some n at [] rows e = let z : _≡_ {A = ℕ} 0 1 = cc in absurd (omega arith)
+position-some n at (x ∷ l) rows e = let same : at ≡ x = cc in ap (told n) (sym same)
+
+pub position-none : (n : ℕ) (positions : List ℕ) (rows : List Row) → Nothing ≡ firstOf positions → firstRow (rowAt n positions ∷ rows) ≡ firstRow rows
+unfolding firstRow
+position-none n [] rows e = refl
+position-none n (x ∷ l) rows e = let z : _≡_ {A = ℕ} 0 1 = cc in absurd (omega arith)
+
+-- ---- wrong bytes
+module _ (m : List ℕ) (i : ℕ) where
+  pub byte-right : i < length m → allowed (getD m i 0) ≡ true → wrongBytes i (drop i m) ≡ wrongBytes (i + 1) (drop (i + 1) m)
+  unfolding wrongBytes
+  byte-right h t = ap (wrongBytes i) (rest-at m i h) ∙ rw (t, add-one i)
+
+  pub byte-wrong : i < length m → allowed (getD m i 0) ≡ false → firstOf (wrongBytes i (drop i m)) ≡ At i
+  unfolding wrongBytes
+  byte-wrong h t = ap (λ (l : List ℕ). firstOf (wrongBytes i l)) (rest-at m i h) ∙ rw t
+
+  pub bytes-over : length m ≤ i → wrongBytes i (drop i m) ≡ []
+  unfolding wrongBytes
+  bytes-over h = ap (wrongBytes i) (drop-of-length-le m h)
+
+pub all-right : (m : List ℕ) (at : ℕ) → all allowed m ≡ true → wrongBytes at m ≡ []
+unfolding all wrongBytes
+all-right [] at e = refl
+all-right (x ∷ m) at e = let both = and-true (allowed x) (all allowed m) e in rw (both .0) (all-right m (suc at) (both .1))
+
+-- ---- wrong segments: `end` is what `find` answered from `at`
+module _ (d : Delims) (m : List ℕ) (at : ℕ) {end : ℕ} (found : end ≡ endFrom carriageReturn m at) where
+  one-more : (p t : List ℕ) → wrongSegments d at (p ∷ cut carriageReturn t) ≡ cond (hasForm d p) (wrongSegments d (at + length p + 1) (cut carriageReturn t)) (at ∷ wrongSegments d (at + length p + 1) (cut carriageReturn t))
+  unfolding wrongSegments
+  one-more p t = rw (cut-some carriageReturn t)
+
+  segment-step : end < length m → (b : Bool) → hasForm d (between m at end) ≡ b → wrongSegments d at (cut carriageReturn (drop at m)) ≡ cond b (wrongSegments d (end + 1) (cut carriageReturn (drop (end + 1) m))) (at ∷ wrongSegments d (end + 1) (cut carriageReturn (drop (end + 1) m)))
+  segment-step h b t =
+      let form : hasForm d (first carriageReturn (drop at m)) ≡ b = ap (hasForm d) (first-at carriageReturn m at ∙ ap (between m at) (sym found)) ∙ t in
+      ap (wrongSegments d at) (parts-more carriageReturn m at (omega arith))
+      ∙ one-more (first carriageReturn (drop at m)) (drop (endFrom carriageReturn m at + 1) m)
+      ∙ rw (form, found)
+
+  pub segment-right : end < length m → hasForm d (between m at end) ≡ true → wrongSegments d at (cut carriageReturn (drop at m)) ≡ wrongSegments d (end + 1) (cut carriageReturn (drop (end + 1) m))
+  segment-right h t = segment-step h true t
+
+  pub segment-wrong : end < length m → hasForm d (between m at end) ≡ false → firstOf (wrongSegments d at (cut carriageReturn (drop at m))) ≡ At at
+  segment-wrong h t = ap firstOf (segment-step h false t)
+
+  pub segment-open : at < length m → length m ≤ end → firstOf (wrongSegments d at (cut carriageReturn (drop at m))) ≡ At at
+  unfolding wrongSegments
+  segment-open h last = rw (parts-last carriageReturn m at (omega arith), ne-eqb (length (drop at m)) 0 (λ e. omega (arith, e, length-drop at m)))
+
+pub segments-over : (d : Delims) (m : List ℕ) (at : ℕ) → length m ≤ at → wrongSegments d at (cut carriageReturn (drop at m)) ≡ []
+unfolding wrongSegments cut
+segments-over d m at h = rw (drop-of-length-le m h)
+
+-- ---- one answer
+-- what the code answers can be told from the paper
+unpaper : Told → Reading
+unpaper a =
+    cond (eqb (a .number) 0) Sound
+    (cond (eqb (a .number) 1) Empty
+    (cond (eqb (a .number) 2) TooLong
+    (cond (eqb (a .number) 3) (WrongByte (a .detail))
+    (cond (eqb (a .number) 4) NoHeader (WrongSegment (a .detail))))))
+
+unpaper-paper : (r : Reading) → unpaper (paper r) ≡ r
+unfolding unpaper
+unpaper-paper Sound = refl
+unpaper-paper Empty = refl
+unpaper-paper TooLong = refl
+unpaper-paper (WrongByte at) = refl
+unpaper-paper NoHeader = refl
+unpaper-paper (WrongSegment start) = refl
+
+-- any two answers that the contract of `check` allows are equal
+pub check-once : (m : List ℕ) {r q : Reading} → paper r ≡ firstRow (messageRows m) → paper q ≡ firstRow (messageRows m) → r ≡ q
+check-once m {r} {q} e f = sym (unpaper-paper r) ∙ ap unpaper (e ∙ sym f) ∙ unpaper-paper q
+
+-- ---- rows 1 to 5
+pub message-numbered : (m : List ℕ) → Numbered 1 (messageRows m)
+unfolding messageRows formRows
+message-numbered m = (refl, (refl, (refl, (refl, (refl, tt)))))
+
+-- the number is that of row k exactly when row k is the first to hold
+pub refusal-exactly : (m : List ℕ) (k : ℕ) → (firstRow (messageRows m) .number ≡ suc k) ↔ First (messageRows m) k
+refusal-exactly m = row-exactly (messageRows m) (message-numbered m)
+
+-- the same in the code's words: the tests that it made on the way
+module _ (m : List ℕ) where
+  pub form-none : begins header m ≡ false → told 4 0 ≡ firstRow (formRows m)
+  unfolding firstRow formRows
+  form-none e = rw e
+
+  module _ (e : begins header m ≡ true) where
+    form-passed : firstRow (formRows m) ≡ firstRow (rowAt 5 (wrongSegments (delimsOf m) 0 (cut carriageReturn m)) ∷ [])
+    unfolding firstRow formRows
+    form-passed = rw e
+
+    pub form-wrong : {d : Delims} {start : ℕ} → d ≡ delimsOf m → At start ≡ firstOf (wrongSegments d 0 (cut carriageReturn m)) → told 5 start ≡ firstRow (formRows m)
+    form-wrong {d} {start} own f = sym (form-passed ∙ position-some 5 start (wrongSegments (delimsOf m) 0 (cut carriageReturn m)) [] (rw (← own) f))
+
+    pub form-sound : {d : Delims} → d ≡ delimsOf m → Nothing ≡ firstOf (wrongSegments d 0 (cut carriageReturn m)) → told 0 0 ≡ firstRow (formRows m)
+    unfolding firstRow
+    form-sound {d} own f = sym (form-passed ∙ position-none 5 (wrongSegments (delimsOf m) 0 (cut carriageReturn m)) [] (rw (← own) f))
+
+  pub message-empty : length m ≡ 0 → told 1 0 ≡ firstRow (messageRows m)
+  unfolding firstRow messageRows
+  message-empty e = rw (eq-eqb (length m) 0 e)
+
+  module _ (some : length m ≡ 0 → ⊥) where
+    pub message-long : messageLimit < length m → told 2 0 ≡ firstRow (messageRows m)
+    unfolding firstRow messageRows
+    message-long h = rw (ne-eqb (length m) 0 some, lt-ltb messageLimit (length m) h)
+
+    module _ (short : length m ≤ messageLimit) where
+      lengths-passed : firstRow (messageRows m) ≡ firstRow (rowAt 3 (wrongBytes 0 m) ∷ formRows m)
+      unfolding firstRow messageRows
+      lengths-passed = rw (ne-eqb (length m) 0 some, le-ltb messageLimit (length m) short)
+
+      pub message-byte : {at : ℕ} → At at ≡ firstOf (wrongBytes 0 m) → told 3 at ≡ firstRow (messageRows m)
+      message-byte {at} f = sym (lengths-passed ∙ position-some 3 at (wrongBytes 0 m) (formRows m) f)
+
+      pub message-form : Nothing ≡ firstOf (wrongBytes 0 m) → firstRow (formRows m) ≡ firstRow (messageRows m)
+      message-form f = sym (lengths-passed ∙ position-none 3 (wrongBytes 0 m) (formRows m) f)
+
+-- ---- sound messages
+pub sound-is : (m : List ℕ) {r x : Reading} → paper r ≡ firstRow (messageRows m) → r ≡ x → eqb (paper x .number) 0 ≡ isSound m
+unfolding isSound
+sound-is m {r} {x} e told-so = ap (λ (a : Told). eqb (a .number) 0) (ap paper (sym told-so) ∙ e)
+
+-- none of rows 1 to 5 holds of a sound message
+pub sound-none : (m : List ℕ) → isSound m ≡ true → (i : ℕ) → holdsAt (messageRows m) i ≡ false
+unfolding isSound
+sound-none m e = none-exactly (messageRows m) (message-numbered m) .0 (eqb-true _ 0 e)
+
+pub sound-short : (m : List ℕ) → isSound m ≡ true → length m ≤ messageLimit
+unfolding messageRows
+sound-short m e = ltb-false messageLimit (length m) (sound-none m e 1)
+
+pub sound-begins : (m : List ℕ) → isSound m ≡ true → begins header m ≡ true
+unfolding messageRows formRows
+sound-begins m e = not-false _ (sound-none m e 3)
+
+-- every byte is allowed, and every segment has its form and its CR
+none-at : (positions : List ℕ) → isSome positions ≡ false → positions ≡ []
+none-at [] e = refl
+none-at (x ∷ l) e = absurd (true≢false e)
+
+pub sound-bytes : (m : List ℕ) → isSound m ≡ true → wrongBytes 0 m ≡ []
+unfolding messageRows
+sound-bytes m e = none-at (wrongBytes 0 m) (sound-none m e 2)
+
+pub sound-segments : (m : List ℕ) → isSound m ≡ true → wrongSegments (delimsOf m) 0 (cut carriageReturn m) ≡ []
+unfolding messageRows formRows
+sound-segments m e = none-at (wrongSegments (delimsOf m) 0 (cut carriageReturn m)) (sound-none m e 4)
+
+-- what stands after the last CR of a sound message is nothing, so that looking a segment up may count it as a part
+ended-empty : (d : Delims) (at : ℕ) (ps : List (List ℕ)) → wrongSegments d at ps ≡ [] → partAt ps (length (butLast ps)) ≡ []
+unfolding wrongSegments butLast
+ended-empty d at [] e = refl
+ended-empty d at (p ∷ []) e = by (eqb (length p) 0) refl e
+  where
+    by : (b : Bool) → eqb (length p) 0 ≡ b → cond b [] (at ∷ []) ≡ [] → p ≡ []
+    by true t e = none-of p (omega (arith, eqb-true (length p) 0 t))
+    by false t e = let z : _≡_ {A = ℕ} 0 1 = cc in absurd (omega arith)
+ended-empty d at (p ∷ (q ∷ ps)) e = by (hasForm d p) e (ended-empty d (at + length p + 1) (q ∷ ps))
+  where
+    by : (b : Bool) → cond b (wrongSegments d (at + length p + 1) (q ∷ ps)) (at ∷ wrongSegments d (at + length p + 1) (q ∷ ps)) ≡ [] → (wrongSegments d (at + length p + 1) (q ∷ ps) ≡ [] → partAt (q ∷ ps) (length (butLast (q ∷ ps))) ≡ []) → partAt (q ∷ ps) (length (butLast (q ∷ ps))) ≡ []
+    by true e ih = ih e
+    by false e ih = let z : _≡_ {A = ℕ} 0 1 = cc in absurd (omega arith)
+
+pub sound-segment : (m : List ℕ) (n : ℕ) → isSound m ≡ true → segmentOf m (suc n) .bytes ≡ partAt (segmentsOf m) n
+unfolding nthOf cutUnless
+sound-segment m n e = sym (ended-same (cut carriageReturn m) n (ended-empty (delimsOf m) 0 (cut carriageReturn m) (sound-segments m e)))
+
+-- ---- locating
+pub located-sound : (m : List ℕ) (n f r c : ℕ) {d : Delims} → isSound m ≡ true → d ≡ delimsOf m → located m n f r c ≡ place d m n f r c
+unfolding located
+located-sound m n f r c e own = rw (e, own)
+
+pub located-refused : (m : List ℕ) (n f r c : ℕ) → isSound m ≡ false → located m n f r c ≡ record { start = 0; bytes = [] }
+unfolding located
+located-refused m n f r c e = rw e

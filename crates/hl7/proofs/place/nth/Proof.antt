@@ -1,0 +1,28 @@
+-- `hl7::place::nth` meets its contract: each `return` is a case of `nthOf`. Assumes nothing.
+use native.Mathlib.Omega.{arith}
+use Rattle.hl7.proofs.Cutting.{spans-as, spans-missing, spans-whole}
+use Rattle.hl7.proofs.Placing.{nth-zero, nth-whole, nth-past-whole, nth-cut}
+use borrow.Author.Needs.{needs}
+use Rattle.hl7.proofs.place.nth.Statement.{statement}
+use Rattle.hl7.proofs.place.nth.Tie as tie
+
+returns : tie.Need-returns
+returns c = spans-as (nth-zero _ _ (omega arith)) (spans-missing _)
+
+returns-2 : tie.Need-returns-2
+returns-2 c = spans-as (nth-whole _ _ (cc) (omega arith)) (spans-whole _)
+
+returns-3 : tie.Need-returns-3
+returns-3 c = spans-as (nth-past-whole _ _ (cc) (omega arith) (omega arith)) (spans-missing _)
+
+sub-part : tie.Need-sub-part
+sub-part c = search needs
+
+part-requires : tie.Need-part-requires
+part-requires c κs = search needs
+
+returns-4 : tie.Need-returns-4
+returns-4 c = spans-as (nth-cut _ _ (cc) (omega arith)) (c .part .ensures)
+
+pub nth-spec : {M : Type 1} → statement M
+nth-spec = tie.close (tie.spec returns returns-2 returns-3 sub-part part-requires returns-4)

@@ -1,0 +1,32 @@
+-- Comparing bytes. Bytes are a list of numbers. Assumes nothing.
+use Prim.Native.Nat.{ℕ}
+use mathlib.Core.Bool.{Bool, true, false, _&&_, _||_}
+use mathlib.Core.List.{List, [], _∷_}
+use lib.Dec.{eqb, leb}
+
+-- from low to high, both included
+abbrev pub within : ℕ → ℕ → ℕ → Bool
+within low high n = leb low n && leb n high
+
+-- every byte of s passes the test
+unfoldable pub all : (ℕ → Bool) → List ℕ → Bool
+all test [] = true
+all test (x ∷ s) = test x && all test s
+
+-- v and w are the same bytes
+unfoldable pub same : List ℕ → List ℕ → Bool
+same [] [] = true
+same [] (y ∷ w) = false
+same (x ∷ v) [] = false
+same (x ∷ v) (y ∷ w) = eqb x y && same v w
+
+-- v is one of the texts
+unfoldable pub among : List ℕ → List (List ℕ) → Bool
+among v [] = false
+among v (text ∷ texts) = same v text || among v texts
+
+-- s begins with the bytes p
+unfoldable pub begins : List ℕ → List ℕ → Bool
+begins [] s = true
+begins (x ∷ p) [] = false
+begins (x ∷ p) (y ∷ s) = eqb y x && begins p s

@@ -1,0 +1,25 @@
+-- What a part of a lent slice is: the names that contracts are stated with. Assumes nothing.
+use Prim.Native.Nat.{ℕ, _+_, _-_, _≤_}
+use mathlib.Core.Path.{_≡_}
+use mathlib.Core.List.{List}
+use lib.ListN.{length, take, drop}
+use denote.Ref.{RefT}
+use Rattle.hl7.specs.declared.cut.Span.{Span}
+use Rattle.hl7.specs.Cut.{Piece}
+
+-- the bytes of s from start to end: what `&s[start..end]` holds
+abbrev pub between : List ℕ → ℕ → ℕ → List ℕ
+between s start end = take (end - start) (drop start s)
+
+-- r says where the piece p stands in s
+pub record Spans (s : List ℕ) (p : Piece) (r : Span) : Type 0 where
+  pub start : r .start ≡ p .start
+  pub bytes : between s (r .start) (r .end) ≡ p .bytes
+  pub forward : r .start ≤ r .end
+  pub inside : r .end ≤ length s
+
+-- r is the piece p of the slice s itself: the same memory, and not a copy
+pub record Lies (s r : RefT (List ℕ)) (p : Piece) : Type 0 where
+  pub bytes : r .now ≡ p .bytes
+  pub block : r .ptr .0 ≡ s .ptr .0
+  pub offset : r .ptr .1 ≡ s .ptr .1 + p .start

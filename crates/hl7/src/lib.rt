@@ -1,0 +1,6 @@
+// Reading a message: refusals 1 to 5, cutting, locating.
+pub mod bytes;
+pub mod cut;
+pub mod locate;
+pub mod place;
+pub mod refusal;
