@@ -1,15 +1,15 @@
 -- Laws of `specs/Bytes.antt`, each in the words of a loop that goes along the bytes by index. Assumes nothing.
 use mathlib.Core.Path.{_≡_, refl, sym, ap, ap₂, _∙_}
 use mathlib.Core.Bool.{Bool, true, false, _&&_, and-false, and-assoc, true≢false}
-use mathlib.Core.List.{List, [], _∷_}
+use mathlib.Core.List.{List, [], _∷_, _++_, map}
 use Prim.Native.Nat.{ℕ, zero, suc, _+_, _-_, _≤_, _<_}
 use native.Mathlib.Numerals.{add-one}
-use native.Mathlib.Nat.{le-of-eq}
+use native.Mathlib.Nat.{le-of-eq, not-suc-le-zero, le-of-suc-le-suc, add-zero, sub-zero}
 use native.Mathlib.Omega.{arith}
 use lib.Dec.{eqb}
 use lib.ListN.{length, getD, take, drop, length-drop, drop-of-length-le}
-use lib.Seq.{drop-cons, take-all, drop-length, take-nil, slice}
-use borrow.Author.Tests.{eq-eqb, ne-eqb}
+use lib.Seq.{drop-cons, drop-drop, getD-drop, take-all, drop-length, take-nil, slice}
+use borrow.Author.Tests.{eq-eqb, ne-eqb, eqb-true, eqb-false}
 use Rattle.hl7.specs.Bytes.{all, same, among, begins}
 
 -- ---- lists
@@ -30,9 +30,41 @@ pub none-of : (l : List ℕ) → length l ≤ 0 → l ≡ []
 none-of [] h = refl
 none-of (x ∷ l) h = absurd (omega arith)
 
-pub and-true : (t u : Bool) → (t && u) ≡ true → (t ≡ true) × (u ≡ true)
-and-true true u e = (refl, e)
-and-true false u e = absurd (true≢false (sym e))
+pub and-both : (t u : Bool) → (t && u) ≡ true → (t ≡ true) × (u ≡ true)
+and-both true u e = (refl, e)
+and-both false u e = absurd (true≢false (sym e))
+
+-- a part as the code cuts it, `&v[from..to]`, is the slice from `from` up to `to`
+pub part-slice : (v : List ℕ) (from to : ℕ) → from ≤ to → take (to - from) (drop from v) ≡ slice from to v
+part-slice v zero to h = rw sub-zero
+part-slice v (suc from) zero h = absurd (not-suc-le-zero h)
+part-slice [] (suc from) (suc to) h = take-nil (suc to - suc from)
+part-slice (x ∷ v) (suc from) (suc to) h =
+    let e : suc to - suc from ≡ to - from = omega arith in
+    rw e (part-slice v from to (le-of-suc-le-suc h))
+
+-- a list that is taken apart at i
+module _ {A : Type 0} (l : List A) (i : ℕ) (x : A) (rest : List A) (e : drop i l ≡ x ∷ rest) where
+  pub drop-head : (d : A) → getD l i d ≡ x
+  drop-head d = rw (← add-zero i, ← getD-drop i l 0 d, e)
+
+  pub drop-rest : drop (i + 1) l ≡ rest
+  drop-rest = rw (← drop-drop 1 i l, e)
+
+-- a test of every number below k, to be computed
+abbrev pub upto : (ℕ → Bool) → ℕ → Bool
+upto test zero = true
+upto test (suc k) = test k && upto test k
+
+pub upto-at : (test : ℕ → Bool) (k n : ℕ) → upto test k ≡ true → n < k → test n ≡ true
+upto-at test zero n h l = absurd (not-suc-le-zero l)
+upto-at test (suc k) n h l =
+    let t = and-both (test k) (upto test k) h in
+    go (eqb n k) refl (t .0) (upto-at test k n (t .1))
+  where
+    go : (e : Bool) → eqb n k ≡ e → test k ≡ true → (n < k → test n ≡ true) → test n ≡ true
+    go true e t f = rw (eqb-true n k e) t
+    go false e t f = let d = eqb-false n k e in f (omega (arith, d))
 
 -- ---- every byte passes a test
 pub all-more : (test : ℕ → Bool) (v : List ℕ) (i : ℕ) → i < length v → test (getD v i 0) ≡ true → all test (drop i v) ≡ all test (drop (i + 1) v)
@@ -46,6 +78,18 @@ all-stop test v i h t = ap (all test) (rest-at v i h) ∙ rw t
 pub all-none : (test : ℕ → Bool) (v : List ℕ) (i : ℕ) → length v ≤ i → all test (drop i v) ≡ true
 unfolding all
 all-none test v i h = ap (all test) (drop-of-length-le v h)
+
+-- a test that all pass is passed by each, and by one more
+pub all-at : (test : ℕ → Bool) (v : List ℕ) (i : ℕ) → all test v ≡ true → i < length v → test (getD v i 0) ≡ true
+unfolding all
+all-at test [] i h k = absurd (not-suc-le-zero k)
+all-at test (x ∷ v) zero h k = and-both (test x) (all test v) h .0
+all-at test (x ∷ v) (suc i) h k = all-at test v i (and-both (test x) (all test v) h .1) (le-of-suc-le-suc k)
+
+pub all-snoc : (test : ℕ → Bool) (v : List ℕ) (x : ℕ) → all test v ≡ true → test x ≡ true → all test (v ++ (x ∷ [])) ≡ true
+unfolding all
+all-snoc test [] x h k = rw k
+all-snoc test (y ∷ v) x h k = let t = and-both (test y) (all test v) h in rw (t .0) (all-snoc test v x (t .1) k)
 
 -- gathered by a loop without an early exit
 pub all-gathered : (test : ℕ → Bool) (v : List ℕ) (i : ℕ) (b : Bool) → i < length v → (b && all test (drop i v)) ≡ ((b && test (getD v i 0)) && all test (drop (i + 1) v))
@@ -82,6 +126,44 @@ module _ (v w : List ℕ) (i : ℕ) where
   pub same-none : length v ≤ i → length w ≤ i → same (drop i v) (drop i w) ≡ true
   unfolding same
   same-none h k = ap₂ same (drop-of-length-le v h) (drop-of-length-le w k)
+
+-- equal bytes are the same, and the same bytes are equal
+pub same-self : (v : List ℕ) → same v v ≡ true
+unfolding same
+same-self [] = refl
+same-self (x ∷ v) = rw (eq-eqb x x refl) (same-self v)
+
+pub same-equal : (v w : List ℕ) → same v w ≡ true → v ≡ w
+unfolding same
+same-equal [] [] h = refl
+same-equal [] (y ∷ w) h = absurd (true≢false (sym h))
+same-equal (x ∷ v) [] h = absurd (true≢false (sym h))
+same-equal (x ∷ v) (y ∷ w) h =
+    let t = and-both (eqb x y) (same v w) h in
+    ap₂ _∷_ (eqb-true x y (t .0)) (same-equal v w (t .1))
+
+-- ---- texts
+-- what stands at the positions of a list, from number i on
+module _ {A : Type 0} (f : ℕ → A) (l : List ℕ) (i : ℕ) where
+  pub from-done : length l ≤ i → map f (drop i l) ≡ []
+  from-done h = rw (drop-of-length-le l h)
+
+  pub from-step : i < length l → map f (drop i l) ≡ f (getD l i 0) ∷ map f (drop (i + 1) l)
+  from-step h = rw (rest-at l i h)
+
+-- a text among those that stand at the positions
+module _ (f : ℕ → List ℕ) (l : List ℕ) (i : ℕ) (v : List ℕ) where
+  pub among-done : length l ≤ i → among v (map f (drop i l)) ≡ false
+  unfolding among
+  among-done h = rw (from-done f l i h)
+
+  pub among-stop : i < length l → same v (f (getD l i 0)) ≡ true → among v (map f (drop i l)) ≡ true
+  unfolding among
+  among-stop h e = rw (from-step f l i h, e)
+
+  pub among-more : i < length l → same v (f (getD l i 0)) ≡ false → among v (map f (drop (i + 1) l)) ≡ among v (map f (drop i l))
+  unfolding among
+  among-more h e = rw (from-step f l i h, e)
 
 -- ---- beginnings
 module _ (p s : List ℕ) (i : ℕ) where

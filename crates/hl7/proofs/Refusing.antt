@@ -3,7 +3,7 @@
 use mathlib.Core.Path.{_≡_, refl, sym, ap, subst, _∙_}
 use mathlib.Core.Bool.{Bool, true, false, cond, not, true≢false}
 use mathlib.Core.Logic.{_↔_, _⊎_, inl, inr}
-use mathlib.Core.List.{List, [], _∷_}
+use mathlib.Core.List.{List, [], _∷_, _++_}
 use Prim.Native.Nat.{ℕ, zero, suc, _+_, _-_, _≤_, _<_}
 use native.Mathlib.Numerals.{add-one}
 use native.Mathlib.Nat.{add-zero}
@@ -20,8 +20,8 @@ use Rattle.hl7.specs.Bytes.{all, begins}
 use Rattle.hl7.specs.Cut.{cut, partAt, endFrom, butLast}
 use Rattle.hl7.specs.Place.{delimsOf, carriageReturn, segmentsOf, segmentOf, nthOf, cutUnless, place}
 use Rattle.hl7.specs.Spans.{between}
-use Rattle.hl7.specs.Refusals.{Told, told, Row, row, rowAt, firstRow, holdsAt, First, messageLimit, allowed, wrongBytes, header, hasForm, wrongSegments, formRows, messageRows, firstOf, isSome, paper, isSound, located}
-use Rattle.hl7.proofs.Comparing.{rest-at, none-of, and-true}
+use Rattle.hl7.specs.Refusals.{Told, told, Row, row, rowAt, firstRow, holdsAt, First, messageLimit, allowed, wrongBytes, header, hasForm, wrongSegments, formRows, messageRows, firstOf, isSome, paper, readsSound, readingOf, isSound, located}
+use Rattle.hl7.proofs.Comparing.{rest-at, none-of, and-both}
 use Rattle.hl7.proofs.Cutting.{first, first-at, cut-some, parts-more, parts-last}
 use Rattle.hl7.proofs.Walking.{ended-same}
 
@@ -100,6 +100,16 @@ module _ (rows : List Row) (numbered : Numbered 1 rows) where
       by (inl found) e = absurd (omega (arith, number-first (found .0) (found .1), e))
       by (inr none) e = none
 
+-- two tables one after the other: the second is tried where no row of the first holds
+pub rows-append : (rows more : List Row) (n : ℕ) → Numbered (suc n) rows → firstRow (rows ++ more) ≡ cond (eqb (firstRow rows .number) 0) (firstRow more) (firstRow rows)
+unfolding firstRow
+rows-append [] more n numbered = refl
+rows-append (r ∷ rows) more n numbered = by (r .holds) (rows-append rows more (suc n) (numbered .1))
+  where
+    by : (b : Bool) → firstRow (rows ++ more) ≡ cond (eqb (firstRow rows .number) 0) (firstRow more) (firstRow rows) → cond b (r .answer) (firstRow (rows ++ more)) ≡ cond (eqb (cond b (r .answer) (firstRow rows) .number) 0) (firstRow more) (cond b (r .answer) (firstRow rows))
+    by true ih = rw (ne-eqb (r .answer .number) 0 (λ e. omega (arith, e, numbered .0)))
+    by false ih = ih
+
 -- ---- a row for what stands at some positions
 pub position-some : (n at : ℕ) (positions : List ℕ) (rows : List Row) → At at ≡ firstOf positions → firstRow (rowAt n positions ∷ rows) ≡ told n at
 unfolding firstRow
@@ -128,7 +138,7 @@ module _ (m : List ℕ) (i : ℕ) where
 pub all-right : (m : List ℕ) (at : ℕ) → all allowed m ≡ true → wrongBytes at m ≡ []
 unfolding all wrongBytes
 all-right [] at e = refl
-all-right (x ∷ m) at e = let both = and-true (allowed x) (all allowed m) e in rw (both .0) (all-right m (suc at) (both .1))
+all-right (x ∷ m) at e = let both = and-both (allowed x) (all allowed m) e in rw (both .0) (all-right m (suc at) (both .1))
 
 -- ---- wrong segments: `end` is what `find` answered from `at`
 module _ (d : Delims) (m : List ℕ) (at : ℕ) {end : ℕ} (found : end ≡ endFrom carriageReturn m at) where
@@ -158,27 +168,22 @@ unfolding wrongSegments cut
 segments-over d m at h = rw (drop-of-length-le m h)
 
 -- ---- one answer
--- what the code answers can be told from the paper
-unpaper : Told → Reading
-unpaper a =
-    cond (eqb (a .number) 0) Sound
-    (cond (eqb (a .number) 1) Empty
-    (cond (eqb (a .number) 2) TooLong
-    (cond (eqb (a .number) 3) (WrongByte (a .detail))
-    (cond (eqb (a .number) 4) NoHeader (WrongSegment (a .detail))))))
+reading-paper : (r : Reading) → readingOf (paper r) ≡ r
+unfolding readingOf
+reading-paper Sound = refl
+reading-paper Empty = refl
+reading-paper TooLong = refl
+reading-paper (WrongByte at) = refl
+reading-paper NoHeader = refl
+reading-paper (WrongSegment start) = refl
 
-unpaper-paper : (r : Reading) → unpaper (paper r) ≡ r
-unfolding unpaper
-unpaper-paper Sound = refl
-unpaper-paper Empty = refl
-unpaper-paper TooLong = refl
-unpaper-paper (WrongByte at) = refl
-unpaper-paper NoHeader = refl
-unpaper-paper (WrongSegment start) = refl
+-- the contract of `check` fixes its answer
+pub reading-is : (m : List ℕ) {r : Reading} → paper r ≡ firstRow (messageRows m) → r ≡ readingOf (firstRow (messageRows m))
+reading-is m {r} e = sym (reading-paper r) ∙ ap readingOf e
 
 -- any two answers that the contract of `check` allows are equal
 pub check-once : (m : List ℕ) {r q : Reading} → paper r ≡ firstRow (messageRows m) → paper q ≡ firstRow (messageRows m) → r ≡ q
-check-once m {r} {q} e f = sym (unpaper-paper r) ∙ ap unpaper (e ∙ sym f) ∙ unpaper-paper q
+check-once m e f = reading-is m e ∙ sym (reading-is m f)
 
 -- ---- rows 1 to 5
 pub message-numbered : (m : List ℕ) → Numbered 1 (messageRows m)
@@ -228,9 +233,17 @@ module _ (m : List ℕ) where
       message-form f = sym (lengths-passed ∙ position-none 3 (wrongBytes 0 m) (formRows m) f)
 
 -- ---- sound messages
-pub sound-is : (m : List ℕ) {r x : Reading} → paper r ≡ firstRow (messageRows m) → r ≡ x → eqb (paper x .number) 0 ≡ isSound m
+reads-sound : (r : Reading) → readsSound r ≡ eqb (paper r .number) 0
+reads-sound Sound = refl
+reads-sound Empty = refl
+reads-sound TooLong = refl
+reads-sound (WrongByte at) = refl
+reads-sound NoHeader = refl
+reads-sound (WrongSegment start) = refl
+
+pub sound-is : (m : List ℕ) (r : Reading) → paper r ≡ firstRow (messageRows m) → readsSound r ≡ isSound m
 unfolding isSound
-sound-is m {r} {x} e told-so = ap (λ (a : Told). eqb (a .number) 0) (ap paper (sym told-so) ∙ e)
+sound-is m r e = reads-sound r ∙ ap (λ (a : Told). eqb (a .number) 0) e
 
 -- none of rows 1 to 5 holds of a sound message
 pub sound-none : (m : List ℕ) → isSound m ≡ true → (i : ℕ) → holdsAt (messageRows m) i ≡ false

@@ -112,6 +112,22 @@ paper (WrongByte at) = told 3 at
 paper NoHeader = told 4 0
 paper (WrongSegment start) = told 5 start
 
+abbrev pub readsSound : Reading → Bool
+readsSound Sound = true
+readsSound Empty = false
+readsSound TooLong = false
+readsSound (WrongByte at) = false
+readsSound NoHeader = false
+readsSound (WrongSegment start) = false
+
+-- what a paper's answer about a message is in the code's words: the other way round
+unfoldable pub readingOf : Told → Reading
+readingOf a =
+    cond (eqb (a .number) 0) Sound
+    (cond (eqb (a .number) 1) Empty
+    (cond (eqb (a .number) 2) TooLong
+    (cond (eqb (a .number) 3) (WrongByte (a .detail)) (cond (eqb (a .number) 4) NoHeader (WrongSegment (a .detail))))))
+
 -- ---- locating
 -- refusals 1 to 5 do not apply
 unfoldable pub isSound : List ℕ → Bool

@@ -8,7 +8,7 @@ ghost use mathlib.Core.Path.{_≡_};
 ghost use Rattle.hl7.specs.Bytes.{all};
 ghost use Rattle.hl7.specs.Cut.{cut};
 ghost use Rattle.hl7.specs.Place.{carriageReturn};
-ghost use Rattle.hl7.specs.Refusals.{allowed, wrongBytes, isUpper, isUpperOrDigit, hasForm, wrongSegments, formRows, messageRows, firstRow, firstOf, paper, isSound};
+ghost use Rattle.hl7.specs.Refusals.{allowed, wrongBytes, isUpper, isUpperOrDigit, hasForm, wrongSegments, formRows, messageRows, firstRow, firstOf, paper, readsSound, isSound};
 
 const MESSAGE_LIMIT: usize = 32768;
 
@@ -142,11 +142,11 @@ pub fn check(m: &[u8]) -> Reading
     }
 }
 
-// Whether none of refusals 1 to 5 applies.
-pub fn is_sound(m: &[u8]) -> bool
-    ensures { λ r. ⌜ r ≡ isSound (now (m .entry)) ⌝ }
+// Whether a reading is that of a sound message.
+pub fn is_sound_reading(reading: Reading) -> bool
+    ensures { λ r. ⌜ r ≡ readsSound reading ⌝ }
 {
-    match check(m) {
+    match reading {
         Reading::Sound => true,
         Reading::Empty => false,
         Reading::TooLong => false,
@@ -154,4 +154,11 @@ pub fn is_sound(m: &[u8]) -> bool
         Reading::NoHeader => false,
         Reading::WrongSegment(start) => false,
     }
+}
+
+// Whether none of refusals 1 to 5 applies.
+pub fn is_sound(m: &[u8]) -> bool
+    ensures { λ r. ⌜ r ≡ isSound (now (m .entry)) ⌝ }
+{
+    is_sound_reading(check(m))
 }
