@@ -181,6 +181,20 @@ reading-paper (WrongSegment start) = refl
 pub reading-is : (m : List ℕ) {r : Reading} → paper r ≡ firstRow (messageRows m) → r ≡ readingOf (firstRow (messageRows m))
 reading-is m {r} e = sym (reading-paper r) ∙ ap readingOf e
 
+-- and the other way round
+pub paper-reading : (m : List ℕ) → paper (readingOf (firstRow (messageRows m))) ≡ firstRow (messageRows m)
+unfolding readingOf messageRows formRows firstRow
+paper-reading m = by (eqb (length m) 0) (ltb messageLimit (length m)) (wrongBytes 0 m) (begins header m) (wrongSegments (delimsOf m) 0 (cut carriageReturn m))
+  where
+    by : (empty long : Bool) (bytes : List ℕ) (headed : Bool) (segments : List ℕ) →
+        let a = firstRow (row 1 empty ∷ row 2 long ∷ rowAt 3 bytes ∷ row 4 (not headed) ∷ rowAt 5 segments ∷ []) in paper (readingOf a) ≡ a
+    by true long bytes headed segments = refl
+    by false true bytes headed segments = refl
+    by false false (x ∷ bytes) headed segments = refl
+    by false false [] false segments = refl
+    by false false [] true (x ∷ segments) = refl
+    by false false [] true [] = refl
+
 -- any two answers that the contract of `check` allows are equal
 pub check-once : (m : List ℕ) {r q : Reading} → paper r ≡ firstRow (messageRows m) → paper q ≡ firstRow (messageRows m) → r ≡ q
 check-once m e f = reading-is m e ∙ sym (reading-is m f)

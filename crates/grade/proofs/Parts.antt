@@ -1,0 +1,292 @@
+-- What a text, a set, a rule and a section that were read are made of. Assumes nothing.
+use Prim.Native.Nat.{ℕ, _+_, _-_, _*_, _<_, _≤_}
+use native.Mathlib.Omega.{arith}
+use mathlib.Core.Path.{_≡_, refl, sym, ap, ap₂, subst₂, _∙_}
+use mathlib.Core.Bool.{Bool, true, false, cond, _&&_, false≢true}
+use mathlib.Core.List.{List, [], _∷_, map}
+use borrow.Author.Tests.{leb-true, ltb-true}
+use lib.Dec.{eqb, leb, ltb}
+use lib.ListN.{length, getD}
+use lib.Seq.{slice}
+use Rattle.hl7.specs.Bytes.{within, all}
+use Rattle.hl7.proofs.Comparing.{and-both}
+use Rattle.grade.specs.declared.walk.Section.{Section}
+use Rattle.grade.specs.declared.walk.Next.{Next}
+use Rattle.grade.specs.declared.rule.Kind.{Kind}
+use Rattle.grade.specs.declared.rule.Place.{Place}
+use Rattle.grade.specs.declared.rule.KindRead.{KindRead}
+use Rattle.grade.specs.declared.rule.SeverityRead.{SeverityRead}
+use Rattle.grade.specs.declared.rule.Rule.{Rule}
+use Rattle.grade.specs.declared.rule.RuleRead.{RuleRead}
+use Rattle.grade.specs.Limits.{keyLimit, ruleLimit, ruleSize, setLimit, codeLimit, codeCountLimit, segmentCount, fieldLimit, componentLimit}
+use Rattle.grade.specs.Reader.{Reading, fault, found, isFound, itemsOf, check, times, byte, run, pair, twoBytes}
+use Rattle.grade.specs.Rule.{unused, timeDigits, kindIf, kindOf, kindFits, segmentOf, firstField, severityOf, placeFits, placeOf, ruleWith, ruleOf, ruleFits}
+use Rattle.grade.specs.Book.{plain, keys, text, section, ruleIn, codeSet, Contents, Sited, ruleRead}
+use Rattle.grade.specs.Standing.{endOf, textAt, TextFits, standsAt, sitedOf, sitedAt, noRule, SetStands}
+use Rattle.grade.proofs.Readings.{then-found, found-same, check-found, byte-found, run-found, two-found, ended, is-found, row-at, row-end, row-inside, row-found}
+
+-- ---- texts
+
+pub record TextRead (b : List ℕ) (at : ℕ) (letters : List ℕ) (end : ℕ) : Type 0 where
+  pub fits : TextFits b at
+  pub is : letters ≡ textAt b at
+  pub ends : end ≡ at + 1 + getD b at 0
+
+text-joined : (b : List ℕ) (at size from from′ after after′ end : ℕ) (letters letters′ : List ℕ) →
+    (at + 1 ≤ length b) × (size ≡ getD b at 0) × (from ≡ at + 1) → from′ ≡ from →
+    (from′ + size ≤ length b) × (letters′ ≡ slice from′ (from′ + size) b) × (after ≡ from′ + size) → after′ ≡ after →
+    found letters′ after′ ≡ found letters end → TextRead b at letters end
+text-joined b at size from from′ after after′ end letters letters′ h k l m n =
+    record { fits = record { starts = omega arith; ends = omega arith }; is = cc; ends = cc }
+
+pub text-read : (limit : ℕ) (b : List ℕ) (at : ℕ) (letters : List ℕ) (end : ℕ) → text limit b at ≡ found letters end → TextRead b at letters end
+unfolding text
+text-read limit b at letters end h =
+    let s = then-found (byte b at) _ letters end h in
+    let t = then-found (check (within 1 limit (s .0)) b (s .1)) _ letters end (s .3) in
+    let u = then-found (run (s .0) b (t .1)) _ letters end (t .3) in
+    let v = then-found (check (all plain (u .0)) b (u .1)) _ letters end (u .3) in
+    text-joined b at (s .0) (s .1) (t .1) (u .1) (v .1) end letters (u .0)
+    (byte-found b at (s .0) (s .1) (s .2))
+    (check-found (within 1 limit (s .0)) b (s .1) (t .0) (t .1) (t .2) .1)
+    (run-found (s .0) b (t .1) (u .0) (u .1) (u .2))
+    (check-found (all plain (u .0)) b (u .1) (v .0) (v .1) (v .2) .1)
+    (v .3)
+
+-- a text ends within the book
+pub text-inside : (limit : ℕ) (b : List ℕ) (at end : ℕ) → endOf (text limit b at) ≡ Next.At end → end ≤ length b
+text-inside limit b at end h =
+    let w = ended (text limit b at) end h in
+    let t = text-read limit b at (w .0) end (w .1) in
+    omega (arith, t .ends, t .fits .ends)
+
+-- ---- sets
+
+-- a set that stands at a position is the codes after its two bytes of count
+pub set-is : (b : List ℕ) (at : ℕ) → SetStands b at → (at + 2 ≤ length b) × ((count : ℕ) → count ≡ pair b at → codeSet b at ≡ times count (text codeLimit) b (at + 2))
+unfolding codeSet
+set-is b at h =
+    let r = is-found (codeSet b at) h in
+    let s = then-found (twoBytes b at) _ (r .0) (r .1) (r .2) in
+    let t = then-found (check (within 1 codeCountLimit (s .0)) b (s .1)) _ (r .0) (r .1) (s .3) in
+    let u = two-found b at (s .0) (s .1) (s .2) in
+    let v = check-found (within 1 codeCountLimit (s .0)) b (s .1) (t .0) (t .1) (t .2) in
+    (u .0, λ count e. go (codeSet b at) (r .0) (r .1) (r .2) count (s .0) (t .1) (e ∙ sym (u .1)) (sym (v .1 ∙ u .2)) (t .3))
+  where
+    go : (all : Reading (List (List ℕ))) (set : List (List ℕ)) (end : ℕ) → all ≡ found set end → (count n m : ℕ) → count ≡ n → at + 2 ≡ m →
+        times n (text codeLimit) b m ≡ found set end → all ≡ times count (text codeLimit) b (at + 2)
+    go all set end a count n m e f q = a ∙ sym (rw (e, f) q)
+
+-- ---- rules
+
+-- the parts that make a rule
+pub record RuleMade (sets : ℕ) (ten : List ℕ) (r : Rule) : Type 0 where
+  pub fits : placeFits (placeOf ten) ≡ true
+  pub place : placeOf ten ≡ r .place
+  pub severity : severityOf (getD ten 6 0) ≡ SeverityRead.Is (r .severity)
+  pub kind : kindOf (getD ten 5 0) sets (getD ten 7 0) (getD ten 8 0) (getD ten 9 0) ≡ KindRead.Is (r .kind)
+
+pub rule-made : (sets : ℕ) (ten : List ℕ) (r : Rule) → ruleOf sets ten ≡ RuleRead.Is r → RuleMade sets ten r
+unfolding ruleOf
+rule-made sets ten r h =
+    let w = go (placeFits (placeOf ten)) (placeOf ten) (severityOf (getD ten 6 0)) (kindOf (getD ten 5 0) sets (getD ten 7 0) (getD ten 8 0) (getD ten 9 0)) h in
+    record { fits = w .0; place = w .1; severity = w .2; kind = w .3 }
+  where
+    go : (t : Bool) (p : Place) (v : SeverityRead) (k : KindRead) → ruleWith t p v k ≡ RuleRead.Is r →
+        (t ≡ true) × (p ≡ r .place) × (v ≡ SeverityRead.Is (r .severity)) × (k ≡ KindRead.Is (r .kind))
+    go true p (SeverityRead.Is severity) (KindRead.Is kind) e =
+        let q : _≡_ {A = Rule} (record { place = p; severity = severity; kind = kind }) r = cc in
+        (refl, ap (λ (x : Rule). x .place) q, ap (λ (x : Rule). SeverityRead.Is (x .severity)) q, ap (λ (x : Rule). KindRead.Is (x .kind)) q)
+    go true p (SeverityRead.Is severity) KindRead.Fault e = let z : _≡_ {A = ℕ} 0 1 = cc in absurd (omega arith)
+    go true p SeverityRead.Fault k e = let z : _≡_ {A = ℕ} 0 1 = cc in absurd (omega arith)
+    go false p v k e = let z : _≡_ {A = ℕ} 0 1 = cc in absurd (omega arith)
+
+-- a rule that was found: its ten bytes stand in the book, and say it
+pub rule-found : (sets : ℕ) (b : List ℕ) (at : ℕ) (r : Rule) (e : ℕ) → ruleIn sets b at ≡ found r e →
+    (at + ruleSize ≤ length b) × (ruleOf sets (slice at (at + ruleSize) b) ≡ RuleRead.Is r) × (e ≡ at + ruleSize)
+unfolding ruleIn
+rule-found sets b at r e h =
+    let s = then-found (run ruleSize b at) _ r e h in
+    let t = run-found ruleSize b at (s .0) (s .1) (s .2) in
+    let q = go (ruleOf sets (s .0)) (s .1) (s .3) in
+    (t .0, ap (ruleOf sets) (sym (t .1)) ∙ q .0, q .1 ∙ t .2)
+  where
+    go : (x : RuleRead) (m : ℕ) → ruleRead x b m ≡ found r e → (x ≡ RuleRead.Is r) × (e ≡ m)
+    go (RuleRead.Is rule) m k = (cc, cc)
+    go RuleRead.Fault m k = let z : _≡_ {A = ℕ} 0 1 = cc in absurd (omega arith)
+
+cond-is : {G : Type 0} (t : Bool) (x y : KindRead) (kind : Kind) → (x ≡ KindRead.Is kind → G) → (y ≡ KindRead.Is kind → G) → cond t x y ≡ KindRead.Is kind → G
+cond-is true x y kind f g h = f h
+cond-is false x y kind f g h = g h
+
+-- a kind that was read is within its limits
+module _ (sets : ℕ) (kind : Kind) where
+  branch : (t : Bool) (made : Kind) → (t ≡ true → kindFits sets made ≡ true) → kindIf t made ≡ KindRead.Is kind → kindFits sets kind ≡ true
+  branch true made f h = let e : made ≡ kind = cc in rw (← e) (f refl)
+  branch false made f h = let z : _≡_ {A = ℕ} 0 1 = cc in absurd (omega arith)
+
+  kind-fits : (number set low high : ℕ) → kindOf number sets set low high ≡ KindRead.Is kind → kindFits sets kind ≡ true
+  unfolding kindOf
+  kind-fits number set low high =
+      cond-is (eqb number 1) _ _ kind (branch (unused set && unused low && unused high) Kind.Required (λ t. refl))
+      (cond-is (eqb number 2) _ _ kind (branch _ (Kind.Length low high) (λ t. and-both (unused set) (within 1 high low) t .1))
+      (cond-is (eqb number 3) _ _ kind (branch (unused set && unused low && unused high) Kind.Number (λ t. refl))
+      (cond-is (eqb number 4) _ _ kind (branch (unused set && unused low && unused high) Kind.Date (λ t. refl))
+      (cond-is (eqb number 5) _ _ kind (branch _ (Kind.Time low) (λ t. and-both (unused set) (timeDigits low) (and-both _ (unused high) t .0) .1))
+      (cond-is (eqb number 6) _ _ kind (branch _ (Kind.Code set) (λ t. and-both (within 1 sets set) (unused low) (and-both _ (unused high) t .0) .0))
+      (λ h. none h))))))
+    where
+      none : KindRead.Fault ≡ KindRead.Is kind → kindFits sets kind ≡ true
+      none h = let z : _≡_ {A = ℕ} 0 1 = cc in absurd (omega arith)
+
+-- a rule that was read is within its limits
+pub read-fits : (sets : ℕ) (ten : List ℕ) (r : Rule) → ruleOf sets ten ≡ RuleRead.Is r → ruleFits sets r ≡ true
+read-fits sets ten r h =
+    let m = rule-made sets ten r h in
+    rw (← m .place, m .fits) (kind-fits sets (r .kind) _ _ _ _ (m .kind))
+
+-- ---- sections
+
+-- the readings of which a section was made
+pub record SectionParts (b : List ℕ) (at : ℕ) (c : Sited) (end : ℕ) : Type 0 where
+  pub counts : ℕ
+  pub inside : counts + 3 ≤ length b
+  pub keyRead : text keyLimit b at ≡ found (c .contents .key) counts
+  pub ruleCount : c .place .«rule_count» ≡ pair b counts
+  pub setCount : c .place .«set_count» ≡ getD b (counts + 2) 0
+  pub few : (leb (c .place .«rule_count») ruleLimit && leb (c .place .«set_count») setLimit) ≡ true
+  pub rulesAt : c .place .«rules_at» ≡ counts + 3
+  pub rulesRead : times (c .place .«rule_count») (ruleIn (c .place .«set_count»)) b (c .place .«rules_at») ≡ found (c .contents .rules) (c .place .«sets_at»)
+  pub setsRead : times (c .place .«set_count») codeSet b (c .place .«sets_at») ≡ found (c .contents .sets) end
+
+abbrev pub made : List ℕ → ℕ → ℕ → ℕ → List Rule → ℕ → List (List (List ℕ)) → Sited
+made key ruleCount setCount rulesAt rules setsAt sets =
+    record {
+      contents = record { key = key; rules = rules; sets = sets };
+      place = record { «rules_at» = rulesAt; «rule_count» = ruleCount; «sets_at» = setsAt; «set_count» = setCount };
+    }
+
+section-joined : (b : List ℕ) (at : ℕ) (c : Sited) (end counts ruleCount m setCount m′ rulesAt setsAt end′ : ℕ)
+    (key : List ℕ) (rules : List Rule) (sets : List (List (List ℕ))) →
+    text keyLimit b at ≡ found key counts →
+    (counts + 2 ≤ length b) × (ruleCount ≡ pair b counts) × (m ≡ counts + 2) →
+    (m + 1 ≤ length b) × (setCount ≡ getD b m 0) × (m′ ≡ m + 1) →
+    ((leb ruleCount ruleLimit && leb setCount setLimit) ≡ true) × (rulesAt ≡ m′) →
+    times ruleCount (ruleIn setCount) b rulesAt ≡ found rules setsAt →
+    times setCount codeSet b setsAt ≡ found sets end′ →
+    found (made key ruleCount setCount rulesAt rules setsAt sets) end′ ≡ found c end → SectionParts b at c end
+section-joined b at c end counts ruleCount m setCount m′ rulesAt setsAt end′ key rules sets k h i l r s e =
+    let w = found-same (made key ruleCount setCount rulesAt rules setsAt sets) c end′ end e in
+    subst₂ (λ (x : Sited) (y : ℕ). SectionParts b at x y) (w .0) (w .1)
+    (record {
+      counts = counts;
+      inside = omega (arith, h .2, i .0);
+      keyRead = k;
+      ruleCount = h .1;
+      setCount = i .1 ∙ ap (λ (x : ℕ). getD b x 0) (h .2);
+      few = l .0;
+      rulesAt = omega (arith, h .2, i .2, l .1);
+      rulesRead = r;
+      setsRead = s;
+    })
+
+pub section-parts : (b : List ℕ) (at : ℕ) (c : Sited) (end : ℕ) → section b at ≡ found c end → SectionParts b at c end
+unfolding section
+section-parts b at c end h =
+    let k = then-found (text keyLimit b at) _ c end h in
+    let r = then-found (twoBytes b (k .1)) _ c end (k .3) in
+    let s = then-found (byte b (r .1)) _ c end (r .3) in
+    let l = then-found (check (leb (r .0) ruleLimit && leb (s .0) setLimit) b (s .1)) _ c end (s .3) in
+    let rs = then-found (times (r .0) (ruleIn (s .0)) b (l .1)) _ c end (l .3) in
+    let ss = then-found (times (s .0) codeSet b (rs .1)) _ c end (rs .3) in
+    section-joined b at c end (k .1) (r .0) (r .1) (s .0) (s .1) (l .1) (rs .1) (ss .1) (k .0) (rs .0) (ss .0) (k .2)
+    (two-found b (k .1) (r .0) (r .1) (r .2)) (byte-found b (r .1) (s .0) (s .1) (s .2))
+    (check-found (leb (r .0) ruleLimit && leb (s .0) setLimit) b (s .1) (l .0) (l .1) (l .2)) (rs .2) (ss .2) (ss .3)
+
+-- a section that stands at a position: what it says, and where it ends
+pub stands-found : (b : List ℕ) (at : ℕ) → standsAt b at ≡ true → (end : ℕ) × (section b at ≡ found (sitedAt b at) end)
+stands-found b at h = go (section b at) h
+  where
+    go : (r : Reading Sited) → isFound r ≡ true → (end : ℕ) × (r ≡ found (sitedOf r) end)
+    go fault h = absurd (false≢true h)
+    go (found c end) h = (end, refl)
+
+pub ends-stands : (b : List ℕ) (at end : ℕ) → endOf (section b at) ≡ Next.At end → (standsAt b at ≡ true) × (section b at ≡ found (sitedAt b at) end)
+ends-stands b at end h = go (section b at) h
+  where
+    go : (r : Reading Sited) → endOf r ≡ Next.At end → (isFound r ≡ true) × (r ≡ found (sitedOf r) end)
+    go fault h = let z : _≡_ {A = ℕ} 0 1 = cc in absurd (omega arith)
+    go (found c e) h = (refl, cc)
+
+pub stands-key : (b : List ℕ) (at : ℕ) → standsAt b at ≡ true → TextFits b at × (sitedAt b at .contents .key ≡ textAt b at)
+stands-key b at h =
+    let w = stands-found b at h in
+    let p = section-parts b at (sitedAt b at) (w .0) (w .1) in
+    let t = text-read keyLimit b at (sitedAt b at .contents .key) (p .counts) (p .keyRead) in
+    (t .fits, t .is)
+
+-- the keys of sections are the texts with which they start
+pub keys-texts : (b starts : List ℕ) → all (standsAt b) starts ≡ true → keys (map (sitedAt b) starts) ≡ map (textAt b) starts
+unfolding all
+keys-texts b [] h = refl
+keys-texts b (at ∷ rest) h =
+    let w = and-both (standsAt b at) (all (standsAt b) rest) h in
+    rw (stands-key b at (w .0) .1, keys-texts b rest (w .1))
+
+-- the place of a section that stands at a position, with `counts` after its key: rules are all of one size
+pub record SiteIs (b : List ℕ) (at counts : ℕ) (s : Section) : Type 0 where
+  pub fits : TextFits b at
+  pub inside : counts + 3 + ruleSize * pair b counts ≤ length b
+  pub is :
+      s
+      ≡ record {
+        «rules_at» = counts + 3;
+        «rule_count» = pair b counts;
+        «sets_at» = counts + 3 + ruleSize * pair b counts;
+        «set_count» = getD b (counts + 2) 0;
+      }
+
+site-joined : (b : List ℕ) (at counts n m from to : ℕ) (s : Section) → TextFits b at →
+    s ≡ record { «rules_at» = from; «rule_count» = n; «sets_at» = to; «set_count» = m } →
+    from ≡ counts + 3 → n ≡ pair b counts → m ≡ getD b (counts + 2) 0 → to ≡ from + ruleSize * n → to ≤ length b → SiteIs b at counts s
+site-joined b at counts n m from to s f p h i j k l =
+    let q : to ≡ counts + 3 + ruleSize * pair b counts = k ∙ ap₂ (λ (x y : ℕ). x + ruleSize * y) h i in
+    record { fits = f; inside = rw (← q) l; is = p ∙ rw (h, i, j, q) }
+
+pub site-is : (b : List ℕ) (at counts : ℕ) → standsAt b at ≡ true → counts ≡ at + 1 + getD b at 0 → SiteIs b at counts (sitedAt b at .place)
+site-is b at counts h k =
+    let w = stands-found b at h in
+    let c = sitedAt b at in
+    let p = section-parts b at c (w .0) (w .1) in
+    let t = text-read keyLimit b at (c .contents .key) (p .counts) (p .keyRead) in
+    let sets = c .place .«set_count» in
+    let n = c .place .«rule_count» in
+    let from = c .place .«rules_at» in
+    let to = c .place .«sets_at» in
+    let e = row-end (ruleIn sets) b ruleSize (λ at r e q. rule-found sets b at r e q .2) noRule n from (c .contents .rules) to (p .rulesRead) in
+    let i = row-inside (ruleIn sets) b (λ at r e q. rw (rule-found sets b at r e q .2) (rule-found sets b at r e q .0)) n from (c .contents .rules) to (rw (p .rulesAt) (p .inside)) (p .rulesRead) in
+    rw (k, ← t .ends) (site-joined b at (p .counts) n sets from to (c .place) (t .fits) refl (p .rulesAt) (p .ruleCount) (p .setCount) e i)
+
+-- ---- codes, one after the other
+
+-- the first of the codes that are left: it stands within the book, and the others follow it
+module _ (b : List ℕ) (left from : ℕ) (h : 0 < left) (f : isFound (times left (text codeLimit) b from) ≡ true) where
+  first-code : (a : List ℕ) × (rest : List (List ℕ)) × (end last : ℕ) × TextRead b from a end
+      × (times (left - 1) (text codeLimit) b end ≡ found rest last)
+      × (times left (text codeLimit) b from ≡ found (a ∷ rest) last)
+  first-code =
+      let w = is-found (times left (text codeLimit) b from) f in
+      let s = row-found (text codeLimit) b left from (w .0) (w .1) h (w .2) in
+      (s .0, s .2, s .1, w .1, text-read codeLimit b from (s .0) (s .1) (s .3), s .4, w .2 ∙ ap (λ (xs : List (List ℕ)). found xs (w .1)) (s .5))
+
+  pub code-fits : TextFits b from
+  code-fits = first-code .4 .fits
+
+  pub codes-next : (next : ℕ) → next ≡ from + 1 + getD b from 0 →
+      (isFound (times (left - 1) (text codeLimit) b next) ≡ true)
+      × (endOf (times left (text codeLimit) b from) ≡ endOf (times (left - 1) (text codeLimit) b next))
+      × (itemsOf (times left (text codeLimit) b from) ≡ textAt b from ∷ itemsOf (times (left - 1) (text codeLimit) b next))
+  codes-next next e =
+      let c = first-code in
+      let n : next ≡ c .2 = e ∙ sym (c .4 .ends) in
+      rw n (ap isFound (c .5), ap endOf (c .6) ∙ sym (ap endOf (c .5)), ap itemsOf (c .6) ∙ ap₂ _∷_ (c .4 .is) (sym (ap itemsOf (c .5))))

@@ -1,0 +1,57 @@
+-- `grade::admit::admit` meets its contract: rows 1 to 5, and then those of the book. Assumes nothing.
+use mathlib.Core.Path.{sym, _∙_}
+use Rattle.hl7.proofs.Refusing.{sound-is}
+use Rattle.grade.proofs.Admitting.{admit-sound, admit-refused}
+use borrow.Author.Needs.{needs}
+use Rattle.grade.proofs.admit.admit.Statement.{statement}
+use Rattle.grade.proofs.admit.admit.Tie as tie
+
+check-requires : tie.Need-check-requires
+check-requires c κs = search needs
+
+is-sound-reading-requires : tie.Need-is-sound-reading-requires
+is-sound-reading-requires c κs = search needs
+
+segment-requires : tie.Need-segment-requires
+segment-requires c κs = search needs
+
+delims-of-requires : tie.Need-delims-of-requires
+delims-of-requires c κs = search needs
+
+sub-admit-msh : tie.Need-sub-admit-msh
+sub-admit-msh c = search needs
+
+part-admit-msh-start : tie.Need-part-admit-msh-start
+part-admit-msh-start c = search needs
+
+part-admit-msh-end : tie.Need-part-admit-msh-end
+part-admit-msh-end c = search needs
+
+admit-msh-requires : tie.Need-admit-msh-requires
+admit-msh-requires c κs = search needs
+
+returns : tie.Need-returns
+returns c =
+    let cut = c .before .before .before in
+    let checked = cut .before .before .before in
+    admit-sound _ _ (sym (sound-is _ (checked .check .result) (checked .check .ensures)) ∙ sym (cut .before .before .is-sound-reading .ensures) ∙ cut .before .if1 .taken) (c .before .before .delims-of .ensures) (cut .segment .ensures .bytes) (c .admit-msh .ensures)
+
+returns-2 : tie.Need-returns-2
+returns-2 c =
+    let checked = c .before .before in
+    admit-refused _ _ (sym (sound-is _ (checked .check .result) (checked .check .ensures)) ∙ sym (c .before .is-sound-reading .ensures) ∙ c .if1 .left) (checked .check .ensures)
+
+pub admit-spec : {M : Type 1} → statement M
+admit-spec =
+    tie.close
+    (tie.spec
+    check-requires
+    is-sound-reading-requires
+    segment-requires
+    delims-of-requires
+    sub-admit-msh
+    part-admit-msh-start
+    part-admit-msh-end
+    admit-msh-requires
+    returns
+    returns-2)

@@ -1,0 +1,184 @@
+-- `grade::book::open_sections` meets its contract: at each exit the tests and the calls' answers say what the readers of `sections` did. Assumes nothing.
+use Prim.Native.Nat.{ℕ, _≤_, _<_}
+use mathlib.Core.Path.{_≡_, sym, _∙_}
+use mathlib.Core.Bool.{true, false, _&&_}
+use mathlib.Core.List.{List, map}
+use native.Mathlib.Omega.{arith}
+use borrow.Author.Tests.{le-leb, lt-leb, leb-true, eq-eqb, ne-eqb, not-true, not-false}
+use denote.Ref.{now}
+use lib.Dec.{leb}
+use lib.ListN.{length, getD, take}
+use lib.Seq.{length-take-le}
+use Rattle.grade.specs.declared.walk.Next.{Next}
+use Rattle.grade.specs.declared.book.Opened.{Opened}
+use Rattle.grade.specs.Limits.{headSize, sectionLimit}
+use Rattle.grade.specs.Reader.{times}
+use Rattle.grade.specs.Standing.{endOf, textAt, TextFits, standsAt, sitedAt, Walked, withKey, chosen}
+use Rattle.grade.specs.Book.{distinct, section, sections}
+use Rattle.hl7.proofs.Comparing.{and-both, all-at}
+use Rattle.grade.proofs.Readings.{faulted}
+use Rattle.grade.proofs.Parts.{stands-key, keys-texts}
+use borrow.Author.Needs.{needs}
+use Rattle.grade.proofs.book.open_sections.Statement.{statement}
+use Rattle.grade.proofs.book.open_sections.Tie as tie
+
+-- What each exit has learnt, one reader after the other, over plain variables.
+module _ (b key : List ℕ) where
+  short : length b ≤ 5 → chosen key (sections b headSize) ≡ Opened.Malformed
+  unfolding sections
+  short h = rw (lt-leb 6 (length b) (omega arith))
+
+  module _ (h : 5 < length b) where
+    bad-count : (leb 1 (getD b 5 0) && leb (getD b 5 0) sectionLimit) ≡ false → chosen key (sections b headSize) ≡ Opened.Malformed
+    unfolding sections
+    bad-count e = rw (le-leb 6 (length b) h, e)
+
+    module _ (l : (leb 1 (getD b 5 0) && leb (getD b 5 0) sectionLimit) ≡ true) where
+      few : getD b 5 0 ≤ sectionLimit
+      few = leb-true (getD b 5 0) sectionLimit (and-both (leb 1 (getD b 5 0)) (leb (getD b 5 0) sectionLimit) l .1)
+
+      bad-section : endOf (times (getD b 5 0) section b 6) ≡ Next.Fault → chosen key (sections b headSize) ≡ Opened.Malformed
+      unfolding sections
+      bad-section e = rw (le-leb 6 (length b) h, l, faulted (times (getD b 5 0) section b 6) e)
+
+      module _ (starts : List ℕ) (r : Next) (end : ℕ) (w : Walked b 6 (getD b 5 0) starts r) (e : r ≡ Next.At end) where
+        trailing : (end ≡ length b → ⊥) → chosen key (sections b headSize) ≡ Opened.Malformed
+        unfolding sections
+        trailing n = rw (le-leb 6 (length b) h, l, w .reads end e, ne-eqb end (length b) n)
+
+        texts : (k : ℕ) → k < length (take (getD b 5 0) starts) → TextFits b (getD (take (getD b 5 0) starts) k 0)
+        texts k m =
+            stands-key b (getD (take (getD b 5 0) starts) k 0)
+            (all-at (standsAt b) (take (getD b 5 0) starts) k (w .stands end e) m) .0
+
+        module _ (n : end ≡ length b) where
+          repeated : distinct (map (textAt b) (take (getD b 5 0) starts)) ≡ false → chosen key (sections b headSize) ≡ Opened.Malformed
+          unfolding sections
+          repeated d =
+              rw (le-leb 6 (length b) h, l, w .reads end e, eq-eqb end (length b) n, keys-texts b (take (getD b 5 0) starts) (w .stands end e), d)
+
+          whole : distinct (map (textAt b) (take (getD b 5 0) starts)) ≡ true →
+              chosen key (sections b headSize) ≡ withKey key (map (sitedAt b) (take (getD b 5 0) starts))
+          unfolding sections
+          whole d =
+              rw (le-leb 6 (length b) h, l, w .reads end e, eq-eqb end (length b) n, keys-texts b (take (getD b 5 0) starts) (w .stands end e), d)
+
+returns : tie.Need-returns
+returns c =
+    let a = c .before .before .before .args in
+    let b = now (a .book) in
+    let key = now (a .key) in
+    sym (short b key (omega arith))
+
+shared-slice-read-count : tie.Need-shared-slice-read-count
+shared-slice-read-count c = search needs
+
+cast-count : tie.Need-cast-count
+cast-count c = omega (arith, c .shared-slice-known3 .given 5)
+
+returns-2 : tie.Need-returns-2
+returns-2 c =
+    let a = c .before .before .before .before .before .args in
+    let b = now (a .book) in
+    let key = now (a .key) in
+    sym (bad-count b key (omega arith) (not-true _ (c .if2 .taken)))
+
+add-walk-sections : tie.Need-add-walk-sections
+add-walk-sections c = search needs
+
+slice-aggregate-walk-sections : tie.Need-slice-aggregate-walk-sections
+slice-aggregate-walk-sections c = search needs
+
+walk-sections-requires : tie.Need-walk-sections-requires
+walk-sections-requires c κs =
+    let a = c .before .before .before .before .before .before .args in
+    let b = now (a .book) in
+    let key = now (a .key) in
+    few b key (omega arith) (not-false _ (c .before .if2 .left))
+
+enum-known-end : tie.Need-enum-known-end
+enum-known-end c = search needs
+
+enum-told : tie.Need-enum-told
+enum-told c = search needs
+
+returns-3 : tie.Need-returns-3
+returns-3 c =
+    let a = c .before .before .before .before .before .before .before .before .before .before .args in
+    let b = now (a .book) in
+    let key = now (a .key) in
+    sym (bad-section b key (omega arith) (not-false _ (c .before .before .before .before .before .if2 .left)) (sym (c .before .before .before .walk-sections .ensures .ends) ∙ c .enum-told .given .1))
+
+returns-4 : tie.Need-returns-4
+returns-4 c =
+    let a = c .before .before .before .before .before .before .before .before .before .before .before .before .args in
+    let b = now (a .book) in
+    let key = now (a .key) in
+    sym (trailing b key (omega arith) (not-false _ (c .before .before .before .before .before .before .before .if2 .left)) (c .before .before .before .before .before .walk-sections .last .1 .1 .1 .0) _ _ (c .before .before .before .before .before .walk-sections .ensures) (c .before .before .end .given .1) (c .if3 .taken))
+
+array-share-prefix-starts : tie.Need-array-share-prefix-starts
+array-share-prefix-starts c =
+    let a = c .before .before .before .before .before .before .before .before .before .before .before .before .args in
+    let b = now (a .book) in
+    let key = now (a .key) in
+    let n = few b key (omega arith) (not-false _ (c .before .before .before .before .before .before .before .if2 .left)) in
+    omega (arith, c .before .before .before .before .before .walk-sections .kept .1 .1 .1 .0)
+
+slice-aggregate-used : tie.Need-slice-aggregate-used
+slice-aggregate-used c =
+    let a = c .before .before .before .before .before .before .before .before .before .before .before .before .before .args in
+    let b = now (a .book) in
+    let key = now (a .key) in
+    let n = few b key (omega arith) (not-false _ (c .before .before .before .before .before .before .before .before .if2 .left)) in
+    sym (length-take-le _ _ (omega (arith, c .before .before .before .before .before .before .walk-sections .kept .1 .1 .1 .0)))
+
+keys-distinct-requires : tie.Need-keys-distinct-requires
+keys-distinct-requires c κs =
+    let a = c .before .before .before .before .before .before .before .before .before .before .before .before .before .args in
+    let b = now (a .book) in
+    let key = now (a .key) in
+    texts b key (omega arith) (not-false _ (c .before .before .before .before .before .before .before .before .if2 .left)) (c .before .before .before .before .before .before .walk-sections .last .1 .1 .1 .0) _ _ (c .before .before .before .before .before .before .walk-sections .ensures) (c .before .before .before .end .given .1)
+
+find-section-requires : tie.Need-find-section-requires
+find-section-requires c κs =
+    let a = c .before .before .before .before .before .before .before .before .before .before .before .before .before .before .before .args in
+    let b = now (a .book) in
+    let key = now (a .key) in
+    c .before .before .before .before .before .before .before .before .walk-sections .ensures .stands _ (c .before .before .before .before .before .end .given .1)
+
+returns-5 : tie.Need-returns-5
+returns-5 c =
+    let a = c .before .before .before .before .before .before .before .before .before .before .before .before .before .before .before .before .args in
+    let b = now (a .book) in
+    let key = now (a .key) in
+    c .find-section .ensures
+    ∙ sym (whole b key (omega arith) (not-false _ (c .before .before .before .before .before .before .before .before .before .before .before .if2 .left)) (c .before .before .before .before .before .before .before .before .before .walk-sections .last .1 .1 .1 .0) _ _ (c .before .before .before .before .before .before .before .before .before .walk-sections .ensures) (c .before .before .before .before .before .before .end .given .1) (c .before .before .before .before .if3 .left) (sym (c .before .before .keys-distinct .ensures) ∙ c .before .if4 .taken))
+
+returns-6 : tie.Need-returns-6
+returns-6 c =
+    let a = c .before .before .before .before .before .before .before .before .before .before .before .before .before .before .before .args in
+    let b = now (a .book) in
+    let key = now (a .key) in
+    sym (repeated b key (omega arith) (not-false _ (c .before .before .before .before .before .before .before .before .before .before .if2 .left)) (c .before .before .before .before .before .before .before .before .walk-sections .last .1 .1 .1 .0) _ _ (c .before .before .before .before .before .before .before .before .walk-sections .ensures) (c .before .before .before .before .before .end .given .1) (c .before .before .before .if3 .left) (sym (c .before .keys-distinct .ensures) ∙ c .if4 .left))
+
+pub open-sections-spec : {M : Type 1} → statement M
+open-sections-spec =
+    tie.close
+    (tie.spec
+    returns
+    shared-slice-read-count
+    cast-count
+    returns-2
+    add-walk-sections
+    slice-aggregate-walk-sections
+    walk-sections-requires
+    enum-known-end
+    enum-told
+    returns-3
+    returns-4
+    array-share-prefix-starts
+    slice-aggregate-used
+    keys-distinct-requires
+    find-section-requires
+    returns-5
+    returns-6)

@@ -1,0 +1,72 @@
+-- `grade::walk::codes_end` meets its contract: the codes that are left end where all of them do. Assumes nothing.
+use borrow.Author.Needs.{needs}
+use mathlib.Core.Path.{_≡_, sym, _∙_}
+use native.Mathlib.Omega.{arith}
+use denote.Ref.{now}
+use Rattle.grade.specs.Reader.{times}
+use Rattle.grade.specs.Standing.{endOf}
+use Rattle.grade.specs.Book.{text}
+use Rattle.grade.specs.Limits.{codeLimit}
+use Rattle.grade.proofs.Readings.{times-none, times-next, times-fault}
+use Rattle.grade.proofs.walk.codes_end.Statement.{statement}
+use Rattle.grade.proofs.walk.codes_end.Tie as tie
+
+abbrev Inv-loop : tie.InvT-loop
+Inv-loop book at count left₀ from₀ left from = endOf (times left (text codeLimit) book from) ≡ endOf (times count (text codeLimit) book at)
+
+abbrev μ-loop : tie.MeasureT-loop
+μ-loop book at count left₀ from₀ left from = left
+
+loop-holds : tie.Need-loop-holds Inv-loop μ-loop
+loop-holds c = search needs
+
+text-end-requires : tie.Need-text-end-requires Inv-loop μ-loop
+text-end-requires c κs = search needs
+
+enum-known-end : tie.Need-enum-known-end Inv-loop μ-loop
+enum-known-end c = search needs
+
+enum-told : tie.Need-enum-told Inv-loop μ-loop
+enum-told c = search needs
+
+returns : tie.Need-returns Inv-loop μ-loop
+returns c =
+    let a = c .before .before .before .before .before .before .args in
+    let l = c .before .before .before .before .loop in
+    sym (times-fault (text codeLimit) (now (a .book)) (l .left) (l .from) (omega arith) (sym (c .before .before .text-end .ensures) ∙ c .enum-told .given .1))
+    ∙ l .inv
+
+sub-left : tie.Need-sub-left Inv-loop μ-loop
+sub-left c = search needs
+
+loop-less : tie.Need-loop-less Inv-loop μ-loop
+loop-less c = search needs
+
+loop-again : tie.Need-loop-again Inv-loop μ-loop
+loop-again c =
+    let a = c .before .before .before .before .before .before .before .args in
+    let l = c .before .before .before .before .before .loop in
+    sym (times-next (text codeLimit) (now (a .book)) (l .left) (l .from) _ (omega arith) (sym (c .before .before .before .text-end .ensures) ∙ c .before .end .given .1))
+    ∙ l .inv
+
+returns-2 : tie.Need-returns-2 Inv-loop μ-loop
+returns-2 c =
+    let a = c .before .before .before .args in
+    let l = c .before .loop in
+    sym (times-none (text codeLimit) (now (a .book)) (l .left) (l .from) (omega arith)) ∙ l .inv
+
+pub codes-end-spec : {M : Type 1} → statement M
+codes-end-spec =
+    tie.close
+    (tie.spec
+    Inv-loop
+    μ-loop
+    loop-holds
+    text-end-requires
+    enum-known-end
+    enum-told
+    returns
+    sub-left
+    loop-less
+    loop-again
+    returns-2)

@@ -1,0 +1,10 @@
+pub mod Limits
+pub mod Reader
+pub mod Rule
+pub mod Book
+pub mod Digits
+pub mod Calendar
+pub mod Values
+pub mod Header
+pub mod Admission
+pub mod Standing

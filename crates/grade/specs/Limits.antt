@@ -1,0 +1,48 @@
+-- The sizes and limits of a rule book, each in one place. `src/limits.rt` has the constants of the same names.
+use Prim.Native.Nat.{ℕ}
+
+-- the longest book, in bytes
+abbrev pub bookLimit : ℕ
+bookLimit = 65536
+
+-- mark and version, in bytes
+abbrev pub headSize : ℕ
+headSize = 5
+
+abbrev pub bookVersion : ℕ
+bookVersion = 1
+
+abbrev pub sectionLimit : ℕ
+sectionLimit = 64
+
+-- the longest key, in bytes
+abbrev pub keyLimit : ℕ
+keyLimit = 20
+
+abbrev pub ruleLimit : ℕ
+ruleLimit = 256
+
+-- bytes of one rule
+abbrev pub ruleSize : ℕ
+ruleSize = 10
+
+-- the names that count
+abbrev pub segmentCount : ℕ
+segmentCount = 10
+
+abbrev pub fieldLimit : ℕ
+fieldLimit = 99
+
+abbrev pub componentLimit : ℕ
+componentLimit = 20
+
+abbrev pub setLimit : ℕ
+setLimit = 64
+
+-- the most codes of a set
+abbrev pub codeCountLimit : ℕ
+codeCountLimit = 1024
+
+-- the longest code, in bytes
+abbrev pub codeLimit : ℕ
+codeLimit = 20

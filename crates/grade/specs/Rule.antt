@@ -1,0 +1,135 @@
+-- A rule, and what its ten bytes say (01, "The rule book").
+use Prim.Native.Nat.{ℕ, suc}
+use Prim.Native.Char.{code}
+use mathlib.Core.Bool.{Bool, true, false, cond, _&&_, _||_}
+use mathlib.Core.List.{List, [], _∷_}
+use lib.Dec.{eqb, leb, ltb}
+use lib.ListN.{getD}
+use Rattle.hl7.specs.Text.{bytes}
+use Rattle.hl7.specs.Bytes.{within, same}
+use Rattle.grade.specs.Limits.{segmentCount, fieldLimit, componentLimit}
+use Rattle.grade.specs.declared.rule.Severity.{Severity}
+use Rattle.grade.specs.declared.rule.Kind.{Kind}
+use Rattle.grade.specs.declared.rule.Place.{Place}
+use Rattle.grade.specs.declared.rule.Rule.{Rule}
+use Rattle.grade.specs.declared.rule.SeverityRead.{SeverityRead}
+use Rattle.grade.specs.declared.rule.KindRead.{KindRead}
+use Rattle.grade.specs.declared.rule.RuleRead.{RuleRead}
+
+-- ---- segments
+
+-- The ten names that count. A name's number is its place here, from 0: the row of the follow table.
+unfoldable pub segmentNames : List (List ℕ)
+segmentNames =
+    bytes "MSH" ∷ bytes "PID" ∷ bytes "PD1" ∷ bytes "NK1" ∷ bytes "PV1"
+    ∷ bytes "ORC" ∷ bytes "RXA" ∷ bytes "RXR" ∷ bytes "OBX" ∷ bytes "NTE" ∷ []
+
+-- the name of a number
+unfoldable pub nameBytes : ℕ → List ℕ
+nameBytes n = getD segmentNames n []
+
+-- the message's end has the number after the names: the last column of the follow table
+abbrev pub endNumber : ℕ
+endNumber = 10
+
+-- any other name
+abbrev pub otherNumber : ℕ
+otherNumber = 11
+
+-- the place of a name among the names, which count from n
+unfoldable pub numberFrom : ℕ → List ℕ → List (List ℕ) → ℕ
+numberFrom n name [] = otherNumber
+numberFrom n name (text ∷ texts) = cond (same name text) n (numberFrom (suc n) name texts)
+
+-- the number of the name with these three letters
+unfoldable pub segmentOf : ℕ → ℕ → ℕ → ℕ
+segmentOf a b c = numberFrom 0 (a ∷ b ∷ c ∷ []) segmentNames
+
+-- ---- places
+
+-- for MSH the field is at least 3
+abbrev pub firstField : ℕ → ℕ
+firstField segment = cond (eqb segment 0) 3 1
+
+-- the segment is one of the ten, the field at most 99, the component at most 20
+unfoldable pub placeFits : Place → Bool
+placeFits p =
+    ltb (p .segment) segmentCount && within (firstField (p .segment)) fieldLimit (p .field) && leb (p .component) componentLimit
+
+-- ---- severity and kind
+
+-- E, W or I
+unfoldable pub severityOf : ℕ → SeverityRead
+severityOf letter =
+    cond (eqb letter (code "E")) (SeverityRead.Is Severity.Error)
+    (cond (eqb letter (code "W")) (SeverityRead.Is Severity.Warning)
+    (cond (eqb letter (code "I")) (SeverityRead.Is Severity.Informational)
+    SeverityRead.Fault))
+
+abbrev pub kindIf : Bool → Kind → KindRead
+kindIf true kind = KindRead.Is kind
+kindIf false kind = KindRead.Fault
+
+-- bytes that a kind does not use are 0
+abbrev pub unused : ℕ → Bool
+unused byte = eqb byte 0
+
+-- the numbers of digits that a TIME may ask for
+abbrev pub timeDigits : ℕ → Bool
+timeDigits n = eqb n 4 || eqb n 6 || eqb n 8 || eqb n 10 || eqb n 12 || eqb n 14
+
+-- the kind by its number, the number of the section's sets, and the rule's last three bytes: set number, low, high
+unfoldable pub kindOf : ℕ → ℕ → ℕ → ℕ → ℕ → KindRead
+kindOf number sets set low high =
+    cond (eqb number 1) (kindIf (unused set && unused low && unused high) Kind.Required)
+    (cond (eqb number 2) (kindIf (unused set && within 1 high low) (Kind.Length low high))
+    (cond (eqb number 3) (kindIf (unused set && unused low && unused high) Kind.Number)
+    (cond (eqb number 4) (kindIf (unused set && unused low && unused high) Kind.Date)
+    (cond (eqb number 5) (kindIf (unused set && timeDigits low && unused high) (Kind.Time low))
+    (cond (eqb number 6) (kindIf (within 1 sets set && unused low && unused high) (Kind.Code set))
+    KindRead.Fault)))))
+
+-- a kind within its limits, in a section with so many sets
+abbrev pub kindFits : ℕ → Kind → Bool
+kindFits sets Kind.Required = true
+kindFits sets (Kind.Length low high) = within 1 high low
+kindFits sets Kind.Number = true
+kindFits sets Kind.Date = true
+kindFits sets (Kind.Time digits) = timeDigits digits
+kindFits sets (Kind.Code set) = within 1 sets set
+
+-- the error code follows from the kind alone
+abbrev pub errorCode : Kind → ℕ
+errorCode Kind.Required = 101
+errorCode (Kind.Length low high) = 102
+errorCode Kind.Number = 102
+errorCode Kind.Date = 102
+errorCode (Kind.Time digits) = 102
+errorCode (Kind.Code set) = 103
+
+-- ---- rules
+
+abbrev pub ruleWith : Bool → Place → SeverityRead → KindRead → RuleRead
+ruleWith true place (SeverityRead.Is severity) (KindRead.Is kind) =
+    RuleRead.Is (record { place = place; severity = severity; kind = kind })
+ruleWith true place (SeverityRead.Is severity) KindRead.Fault = RuleRead.Fault
+ruleWith true place SeverityRead.Fault kind = RuleRead.Fault
+ruleWith false place severity kind = RuleRead.Fault
+
+-- segment name (3), field, component
+abbrev pub placeOf : List ℕ → Place
+placeOf ten =
+    record { segment = segmentOf (getD ten 0 0) (getD ten 1 0) (getD ten 2 0); field = getD ten 3 0; component = getD ten 4 0 }
+
+-- the place, then kind, severity, set number, low, high
+unfoldable pub ruleOf : ℕ → List ℕ → RuleRead
+ruleOf sets ten =
+    ruleWith
+    (placeFits (placeOf ten))
+    (placeOf ten)
+    (severityOf (getD ten 6 0))
+    (kindOf (getD ten 5 0) sets (getD ten 7 0) (getD ten 8 0) (getD ten 9 0))
+
+-- a rule within its limits, in a section with so many sets
+abbrev pub ruleFits : ℕ → Rule → Bool
+ruleFits sets rule = placeFits (rule .place) && kindFits sets (rule .kind)

@@ -1,0 +1,106 @@
+-- What the code's positions stand for: names that only contracts inside the crate, and those of `lookup`, are stated with.
+use Prim.Native.Nat.{ℕ, _+_, _*_, _<_, _≤_}
+use mathlib.Core.Path.{_≡_}
+use mathlib.Core.Bool.{Bool, true, false, cond}
+use mathlib.Core.List.{List, [], _∷_, map}
+use lib.ListN.{length, getD, take}
+use lib.Seq.{slice}
+use Rattle.hl7.specs.Bytes.{all, same}
+use Rattle.grade.specs.Limits.{ruleLimit, setLimit}
+use Rattle.grade.specs.Reader.{Reading, fault, found, isFound, itemsOf, times}
+use Rattle.grade.specs.Book.{ruleIn, codeSet, Sited, section}
+use Rattle.grade.specs.declared.rule.Severity.{Severity}
+use Rattle.grade.specs.declared.rule.Kind.{Kind}
+use Rattle.grade.specs.declared.rule.Rule.{Rule}
+use Rattle.grade.specs.declared.walk.Next.{Next}
+use Rattle.grade.specs.declared.walk.Section.{Section}
+use Rattle.grade.specs.declared.book.Opened.{Opened}
+
+-- three letters as one number
+abbrev pub nameNumber : ℕ → ℕ → ℕ → ℕ
+nameNumber a b c = a * 65536 + b * 256 + c
+
+-- where a reading ends
+abbrev pub endOf : {A : Type 0} → Reading A → Next
+endOf fault = Next.Fault
+endOf (found a after) = Next.At after
+
+-- ---- texts
+
+-- the text whose length byte stands at a position
+abbrev pub textAt : List ℕ → ℕ → List ℕ
+textAt b at = slice (at + 1) (at + 1 + getD b at 0) b
+
+-- it ends within the book
+pub record TextFits (b : List ℕ) (at : ℕ) : Type 0 where
+  pub starts : at < length b
+  pub ends : at + 1 + getD b at 0 ≤ length b
+
+-- ---- sections
+
+-- a section can be read at a position
+abbrev pub standsAt : List ℕ → ℕ → Bool
+standsAt b at = isFound (section b at)
+
+abbrev pub sitedOf : Reading Sited → Sited
+sitedOf fault =
+    record {
+      contents = record { key = []; rules = []; sets = [] };
+      place = record { «rules_at» = 0; «rule_count» = 0; «sets_at» = 0; «set_count» = 0 };
+    }
+sitedOf (found sited after) = sited
+
+-- the section that stands there
+abbrev pub sitedAt : List ℕ → ℕ → Sited
+sitedAt b at = sitedOf (section b at)
+
+-- count sections were read from a position, and these are the positions where they start
+pub record Walked (b : List ℕ) (at count : ℕ) (starts : List ℕ) (r : Next) : Type 0 where
+  pub ends : r ≡ endOf (times count section b at)
+  pub stands : (end : ℕ) → r ≡ Next.At end → all (standsAt b) (take count starts) ≡ true
+  pub reads : (end : ℕ) → r ≡ Next.At end → times count section b at ≡ found (map (sitedAt b) (take count starts)) end
+
+-- ---- opening, in the order in which the code goes
+
+unfoldable pub withKey : List ℕ → List Sited → Opened
+withKey key [] = Opened.NoSection
+withKey key (s ∷ rest) = cond (same key (s .contents .key)) (Opened.At (s .place)) (withKey key rest)
+
+abbrev pub chosen : List ℕ → Reading (List Sited) → Opened
+chosen key fault = Opened.Malformed
+chosen key (found all after) = withKey key all
+
+-- ---- what a section holds
+
+-- stands for a rule where there is none
+abbrev pub noRule : Rule
+noRule =
+    record {
+      place = record { segment = 0; field = 0; component = 0 };
+      severity = Severity.Error;
+      kind = Kind.Required;
+    }
+
+-- the rules of the section that stands there
+unfoldable pub rulesIn : List ℕ → Section → List Rule
+rulesIn b s = itemsOf (times (s .«rule_count») (ruleIn (s .«set_count»)) b (s .«rules_at»))
+
+-- its sets
+unfoldable pub setsIn : List ℕ → Section → List (List (List ℕ))
+setsIn b s = itemsOf (times (s .«set_count») codeSet b (s .«sets_at»))
+
+-- its rules and its sets can be read, and are as few as the limits say
+pub record Holds (b : List ℕ) (s : Section) : Type 0 where
+  pub fewRules : s .«rule_count» ≤ ruleLimit
+  pub fewSets : s .«set_count» ≤ setLimit
+  pub rulesEnd : endOf (times (s .«rule_count») (ruleIn (s .«set_count»)) b (s .«rules_at»)) ≡ Next.At (s .«sets_at»)
+  pub setsAfter : ℕ
+  pub setsEnd : endOf (times (s .«set_count») codeSet b (s .«sets_at»)) ≡ Next.At setsAfter
+
+-- a set can be read at a position
+abbrev pub SetStands : List ℕ → ℕ → Type 0
+SetStands b at = isFound (codeSet b at) ≡ true
+
+-- the codes of the set that stands there
+abbrev pub codesAt : List ℕ → ℕ → List (List ℕ)
+codesAt b at = itemsOf (codeSet b at)

@@ -1,0 +1,156 @@
+// The whole book: its head, its sections, and the section with a key.
+ghost use mathlib.Core.Path.{_≡_};
+ghost use Prim.Native.Nat.{ℕ, _+_, _≤_, _<_};
+ghost use mathlib.Core.Bool.{true};
+ghost use mathlib.Core.List.{map};
+ghost use lib.ListN.{length, getD, drop};
+ghost use Rattle.hl7.specs.Bytes.{all, among};
+ghost use Rattle.grade.specs.Limits.{headSize};
+ghost use Rattle.grade.specs.Book.{distinct, headRight, sections, opened};
+ghost use Rattle.grade.specs.Standing.{textAt, TextFits, standsAt, sitedAt, Walked, withKey, chosen};
+use crate::limits::BOOK_LIMIT;
+use crate::limits::BOOK_VERSION;
+use crate::limits::HEAD_SIZE;
+use crate::limits::RULE_SIZE;
+use crate::limits::SECTION_LIMIT;
+use crate::walk::Next;
+use crate::walk::Section;
+use crate::walk::pair_at;
+use crate::walk::section_end;
+use crate::walk::text_after;
+use crate::walk::text_part;
+use hl7::bytes::begins_with;
+use hl7::bytes::same_bytes;
+
+pub enum Opened {
+    At(Section),
+    Malformed,
+    OtherVersion,
+    NoSection,
+}
+
+// Reads count sections, and notes where each starts.
+fn walk_sections(book: &[u8], at: usize, count: usize, starts: &mut [usize]) -> Next
+    requires { ⌜ count ≤ length (now starts) ⌝ }
+    ensures { λ r. ⌜ Walked (now (book .entry)) at count (now (starts .exit)) r ⌝ }
+{
+    let mut from = at;
+    let mut i = 0;
+    while i < count {
+        match section_end(book, from) {
+            Next::At(end) => {
+                starts[i] = from;
+                from = end;
+            }
+            Next::Fault => return Next::Fault,
+        }
+        i += 1;
+    }
+    Next::At(from)
+}
+
+// The key is that of a section from a number on.
+fn is_among(book: &[u8], starts: &[usize], key: &[u8], from: usize) -> bool
+    requires { ⌜ ((k : ℕ) → k < length (now starts) → TextFits (now book) (getD (now starts) k 0)) ⌝ }
+    ensures { λ r. ⌜ r ≡ among (now (key .entry)) (map (textAt (now (book .entry))) (drop from (now (starts .entry)))) ⌝ }
+{
+    let mut i = from;
+    while i < starts.len() {
+        if same_bytes(key, text_part(book, starts[i])) {
+            return true;
+        }
+        i += 1;
+    }
+    false
+}
+
+fn keys_distinct(book: &[u8], starts: &[usize]) -> bool
+    requires { ⌜ ((k : ℕ) → k < length (now starts) → TextFits (now book) (getD (now starts) k 0)) ⌝ }
+    ensures { λ r. ⌜ r ≡ distinct (map (textAt (now (book .entry))) (now (starts .entry))) ⌝ }
+{
+    let mut i = 0;
+    while i < starts.len() {
+        if is_among(book, starts, text_part(book, starts[i]), i + 1) {
+            return false;
+        }
+        i += 1;
+    }
+    true
+}
+
+// Where the rules and the sets of the section at a position stand. Rules are all of one size, so nothing is read again.
+fn site_at(book: &[u8], at: usize) -> Section
+    requires { ⌜ standsAt (now book) at ≡ true ⌝ }
+    ensures { λ r. ⌜ r ≡ sitedAt (now (book .entry)) at .place ⌝ }
+{
+    let counts = text_after(book, at);
+    let rule_count = pair_at(book, counts);
+    let rules_at = counts + 3;
+    Section {
+        rules_at,
+        rule_count,
+        sets_at: rules_at + RULE_SIZE * rule_count,
+        set_count: book[counts + 2],
+    }
+}
+
+// The section with a key, of those that start at the positions.
+fn find_section(book: &[u8], starts: &[usize], key: &[u8]) -> Opened
+    requires { ⌜ all (standsAt (now book)) (now starts) ≡ true ⌝ }
+    ensures { λ r. ⌜ r ≡ withKey (now (key .entry)) (map (sitedAt (now (book .entry))) (now (starts .entry))) ⌝ }
+{
+    let mut i = 0;
+    while i < starts.len() {
+        let start = starts[i];
+        if same_bytes(key, text_part(book, start)) {
+            return Opened::At(site_at(book, start));
+        }
+        i += 1;
+    }
+    Opened::NoSection
+}
+
+fn head_right(book: &[u8]) -> bool
+    ensures { λ r. ⌜ r ≡ headRight (now (book .entry)) ⌝ }
+{
+    let marked = begins_with(book, b"VXB");
+    (HEAD_SIZE <= book.len()) & (book.len() <= BOOK_LIMIT) & marked
+}
+
+fn open_sections(book: &[u8], key: &[u8]) -> Opened
+    ensures { λ r. ⌜ r ≡ chosen (now (key .entry)) (sections (now (book .entry)) headSize) ⌝ }
+{
+    if book.len() <= HEAD_SIZE {
+        return Opened::Malformed;
+    }
+    let count = book[HEAD_SIZE] as usize;
+    if !((1 <= count) & (count <= SECTION_LIMIT)) {
+        return Opened::Malformed;
+    }
+    let mut starts = [0usize; SECTION_LIMIT];
+    let Next::At(end) = walk_sections(book, HEAD_SIZE + 1, count, &mut starts) else {
+        return Opened::Malformed;
+    };
+    if end != book.len() {
+        return Opened::Malformed;
+    }
+    let used = &starts[..count];
+    if keys_distinct(book, used) {
+        find_section(book, used, key)
+    } else {
+        Opened::Malformed
+    }
+}
+
+// The book's refusals in their order, or the section with the key. The whole book is checked before any of it is used.
+pub fn open_book(book: &[u8], key: &[u8]) -> Opened
+    ensures { λ r. ⌜ r ≡ opened (now (book .entry)) (now (key .entry)) ⌝ }
+{
+    if !head_right(book) {
+        return Opened::Malformed;
+    }
+    if pair_at(book, 3) != BOOK_VERSION {
+        return Opened::OtherVersion;
+    }
+    open_sections(book, key)
+}

@@ -1,0 +1,14 @@
+// One finding: what the ACK's ERR segment says.
+
+// The name is 0 to 9, or 10 where the end of the message breaks the order; number counts among the segments of that name. An order finding has
+// no field, no repetition and no rule: these are 0. Component 0 is the whole repetition. The severity is its letter.
+pub struct Finding {
+    pub name: u8,
+    pub number: u32,
+    pub field: u8,
+    pub repetition: u32,
+    pub component: u8,
+    pub rule: u16,
+    pub code: u16,
+    pub severity: u8,
+}

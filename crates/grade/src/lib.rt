@@ -1,0 +1,11 @@
+// Grading: the rule book, values, segment order, findings.
+pub mod admit;
+pub mod book;
+pub mod date;
+pub mod finding;
+pub mod header;
+pub mod limits;
+pub mod lookup;
+pub mod rule;
+pub mod value;
+pub mod walk;

@@ -1,0 +1,26 @@
+// The sizes and limits of a rule book: specs/Limits.antt has the same names.
+pub const KEY_LIMIT: usize = 20;
+
+pub const RULE_LIMIT: usize = 256;
+
+pub const RULE_SIZE: usize = 10;
+
+pub const SEGMENT_COUNT: u8 = 10;
+
+pub const FIELD_LIMIT: u8 = 99;
+
+pub const COMPONENT_LIMIT: u8 = 20;
+
+pub const SET_LIMIT: u8 = 64;
+
+pub const CODE_COUNT_LIMIT: usize = 1024;
+
+pub const CODE_LIMIT: usize = 20;
+
+pub const BOOK_LIMIT: usize = 65536;
+
+pub const HEAD_SIZE: usize = 5;
+
+pub const BOOK_VERSION: usize = 1;
+
+pub const SECTION_LIMIT: usize = 64;

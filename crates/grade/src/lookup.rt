@@ -1,0 +1,145 @@
+// What stands in a section of a sound book: a rule by its number, and the codes of a set.
+ghost use mathlib.Core.Path.{_≡_};
+ghost use Prim.Native.Nat.{_<_};
+ghost use mathlib.Core.Bool.{true};
+ghost use mathlib.Core.List.{[]};
+ghost use lib.Dec.{eqb};
+ghost use lib.ListN.{getD};
+ghost use Rattle.hl7.specs.Bytes.{among};
+ghost use Rattle.grade.specs.Limits.{codeLimit, segmentCount};
+ghost use Rattle.grade.specs.Reader.{isFound, itemsOf, times};
+ghost use Rattle.grade.specs.Book.{text, codeSet};
+ghost use Rattle.grade.specs.Standing.{endOf, rulesIn, setsIn, noRule, Holds, SetStands, codesAt};
+ghost use Rattle.grade.specs.declared.walk.Next.{Next};
+use crate::limits::RULE_SIZE;
+use crate::rule::Kind;
+use crate::rule::Place;
+use crate::rule::Rule;
+use crate::rule::RuleRead;
+use crate::rule::Severity;
+use crate::rule::letters;
+use crate::rule::rule_of;
+use crate::walk::Section;
+use crate::walk::pair_at;
+use crate::walk::text_after;
+use crate::walk::text_part;
+use hl7::bytes::same_bytes;
+
+// The letters of the ten names.
+const NAMES: [u32; 10] = [
+    0x4D5348,
+    0x504944,
+    0x504431,
+    0x4E4B31,
+    0x505631,
+    0x4F5243,
+    0x525841,
+    0x525852,
+    0x4F4258,
+    0x4E5445,
+];
+
+// The rule with a number, counted from 0.
+pub fn rule_at(book: &[u8], section: Section, i: usize) -> Rule
+    requires { ⌜ Holds (now book) section × (i < section .«rule_count») ⌝ }
+    ensures { λ r. ⌜ r ≡ getD (rulesIn (now (book .entry)) section) i noRule ⌝ }
+{
+    let rules_at = section.rules_at;
+    let sets = section.set_count;
+    let at = rules_at + RULE_SIZE * i;
+    let end = at + RULE_SIZE;
+    match rule_of(&book[at..end], sets) {
+        RuleRead::Is(rule) => rule,
+        // never, in a section that holds
+        RuleRead::Fault => Rule {
+            place: Place {
+                segment: 0,
+                field: 0,
+                component: 0,
+            },
+            severity: Severity::Error,
+            kind: Kind::Required,
+        },
+    }
+}
+
+// The rule with a number is about the segment with this number: its name alone is read.
+pub fn is_about(book: &[u8], section: Section, i: usize, name: usize) -> bool
+    requires { ⌜ Holds (now book) section × (i < section .«rule_count») × (name < segmentCount) ⌝ }
+    ensures { λ r. ⌜ r ≡ eqb (getD (rulesIn (now (book .entry)) section) i noRule .place .segment) name ⌝ }
+{
+    let rules_at = section.rules_at;
+    let at = rules_at + RULE_SIZE * i;
+    letters(book[at], book[at + 1], book[at + 2]) == NAMES[name]
+}
+
+// Where the codes that stand at a position end.
+fn codes_after(book: &[u8], at: usize, count: usize) -> usize
+    requires { ⌜ isFound (times count (text codeLimit) (now book) at) ≡ true ⌝ }
+    ensures { λ r. ⌜ endOf (times count (text codeLimit) (now (book .entry)) at) ≡ Next.At r ⌝ }
+{
+    let mut left = count;
+    let mut from = at;
+    while 0 < left {
+        from = text_after(book, from);
+        left -= 1;
+    }
+    from
+}
+
+// Where the set that stands at a position ends.
+fn set_after(book: &[u8], at: usize) -> usize
+    requires { ⌜ SetStands (now book) at ⌝ }
+    ensures { λ r. ⌜ endOf (codeSet (now (book .entry)) at) ≡ Next.At r ⌝ }
+{
+    codes_after(book, at + 2, pair_at(book, at))
+}
+
+// Where set k of count sets stands, the first at a position.
+fn nth_set(book: &[u8], at: usize, count: usize, k: usize) -> usize
+    requires { ⌜ (isFound (times count codeSet (now book) at) ≡ true) × (k < count) ⌝ }
+    ensures { λ r. ⌜ SetStands (now (book .entry)) r × (codesAt (now (book .entry)) r ≡ getD (itemsOf (times count codeSet (now (book .entry)) at)) k []) ⌝ }
+{
+    let mut from = at;
+    let mut i = 0;
+    while i < k {
+        from = set_after(book, from);
+        i += 1;
+    }
+    from
+}
+
+// Where the set with a number, counted from 0, stands.
+pub fn set_at(book: &[u8], section: Section, k: usize) -> usize
+    requires { ⌜ Holds (now book) section × (k < section .«set_count») ⌝ }
+    ensures { λ r. ⌜ SetStands (now (book .entry)) r × (codesAt (now (book .entry)) r ≡ getD (setsIn (now (book .entry)) section) k []) ⌝ }
+{
+    let sets_at = section.sets_at;
+    let count = section.set_count as usize;
+    nth_set(book, sets_at, count, k)
+}
+
+// The value is one of count codes that stand at a position.
+fn among_codes(book: &[u8], at: usize, count: usize, value: &[u8]) -> bool
+    requires { ⌜ isFound (times count (text codeLimit) (now book) at) ≡ true ⌝ }
+    ensures { λ r. ⌜ r ≡ among (now (value .entry)) (itemsOf (times count (text codeLimit) (now (book .entry)) at)) ⌝ }
+{
+    let mut left = count;
+    let mut from = at;
+    while 0 < left {
+        if same_bytes(value, text_part(book, from)) {
+            return true;
+        }
+        from = text_after(book, from);
+        left -= 1;
+    }
+    false
+}
+
+// The value is a code of the set that stands at a position.
+pub fn has_code(book: &[u8], at: usize, value: &[u8]) -> bool
+    requires { ⌜ SetStands (now book) at ⌝ }
+    ensures { λ r. ⌜ r ≡ among (now (value .entry)) (codesAt (now (book .entry)) at) ⌝ }
+{
+    among_codes(book, at + 2, pair_at(book, at), value)
+}
