@@ -1,0 +1,170 @@
+//! The answer: refusals in their order, or the ACK.
+
+use crate::book::{Book, Severity};
+use crate::cutting::{Fields, Message, Refusal};
+use crate::findings::{self, Finding, Place};
+use crate::values;
+
+/// Number 0 and the ACK's length, or a refusal that leaves `out` as it is.
+pub fn answer(m: &[u8], book: &[u8], stamp: &[u8], control: u32, out: &mut [u8]) -> (u8, u64) {
+    match write_answer(m, book, stamp, control, out) {
+        Ok(length) => (0, length),
+        Err(refusal) => refusal,
+    }
+}
+
+fn write_answer(m: &[u8], book: &[u8], stamp: &[u8], control: u32, out: &mut [u8]) -> Result<u64, Refusal> {
+    let message = Message::read(m)?;
+    let header = message.header();
+    if !(1..=199).contains(&message.text(header.field(10)).len()) {
+        return Err((6, 0));
+    }
+    let section = Book::read(book)?.section(findings::first_value(message, &header, 6, 1))?;
+    if !is_stamp(stamp) {
+        return Err((10, 0));
+    }
+
+    let head = Head { message, header: &header, stamp, control };
+    let mut length = Length(0);
+    head.write("AA", &mut length);
+    // Findings are kept while they still fit; those of an ACK that is too long are only measured.
+    let mut kept: Vec<Finding> = Vec::new();
+    let mut grave = false;
+    let rejected = findings::grade(message, &header, &section, |finding| {
+        grave |= finding.severity != Severity::Informational;
+        write_err(&finding, &mut length);
+        if length.0 <= out.len() as u64 {
+            kept.push(finding);
+        }
+    });
+    if length.0 > out.len() as u64 {
+        return Err((11, length.0));
+    }
+    let code = match (rejected, grave) {
+        (true, _) => "AR",
+        (false, true) => "AE",
+        (false, false) => "AA",
+    };
+    let mut output = Output { out, written: 0 };
+    head.write(code, &mut output);
+    for finding in &kept {
+        write_err(finding, &mut output);
+    }
+    Ok(length.0)
+}
+
+fn is_stamp(stamp: &[u8]) -> bool {
+    // Of the TIMEs of 19 bytes only one with a fraction has another form, and its sign stands elsewhere.
+    stamp.len() == 19 && matches!(stamp[14], b'+' | b'-') && values::time_digits(stamp) == Some(14)
+}
+
+/// What the ACK's layout is written to: the output, or a mere count of its bytes.
+trait Sink {
+    fn bytes(&mut self, bytes: &[u8]);
+    fn number(&mut self, number: u32);
+}
+
+struct Length(u64);
+
+impl Sink for Length {
+    fn bytes(&mut self, bytes: &[u8]) {
+        self.0 += bytes.len() as u64;
+    }
+
+    fn number(&mut self, number: u32) {
+        self.0 += u64::from(number.checked_ilog10().unwrap_or(0)) + 1;
+    }
+}
+
+struct Output<'o> {
+    out: &'o mut [u8],
+    written: usize,
+}
+
+impl Sink for Output<'_> {
+    fn bytes(&mut self, bytes: &[u8]) {
+        self.out[self.written..self.written + bytes.len()].copy_from_slice(bytes);
+        self.written += bytes.len();
+    }
+
+    fn number(&mut self, number: u32) {
+        let mut digits = [0; 10];
+        let mut first = digits.len();
+        let mut rest = number;
+        loop {
+            first -= 1;
+            digits[first] = b'0' + (rest % 10) as u8;
+            rest /= 10;
+            if rest == 0 {
+                break;
+            }
+        }
+        self.bytes(&digits[first..]);
+    }
+}
+
+/// What MSH and MSA of the ACK are made of.
+struct Head<'a> {
+    message: Message<'a>,
+    header: &'a Fields,
+    stamp: &'a [u8],
+    control: u32,
+}
+
+impl Head<'_> {
+    fn write(&self, code: &str, sink: &mut impl Sink) {
+        sink.bytes(b"MSH|^~\\&|");
+        for field in [5, 6, 3, 4] {
+            sink.bytes(self.field(field));
+            sink.bytes(b"|");
+        }
+        sink.bytes(self.stamp);
+        sink.bytes(b"||ACK^V04^ACK|");
+        sink.number(self.control);
+        sink.bytes(b"|");
+        sink.bytes(self.field(11));
+        sink.bytes(b"|2.5.1|||NE|NE|||||Z23^CDCPHINVS\rMSA|");
+        sink.bytes(code.as_bytes());
+        sink.bytes(b"|");
+        sink.bytes(self.field(10));
+        sink.bytes(b"\r");
+    }
+
+    fn field(&self, field: usize) -> &[u8] {
+        self.message.text(self.header.field(field))
+    }
+}
+
+fn write_err(finding: &Finding, sink: &mut impl Sink) {
+    sink.bytes(b"ERR||");
+    match finding.place {
+        Place::End => {}
+        Place::Segment { name, number } => {
+            sink.bytes(name.bytes());
+            caret_number(number, sink);
+        }
+        Place::Value { name, number, field, repetition, component } => {
+            sink.bytes(name.bytes());
+            caret_number(number, sink);
+            caret_number(field.into(), sink);
+            caret_number(repetition, sink);
+            if component != 0 {
+                caret_number(component.into(), sink);
+            }
+        }
+    }
+    sink.bytes(b"|");
+    sink.number(finding.code.into());
+    sink.bytes(b"^");
+    sink.bytes(findings::code_text(finding.code));
+    sink.bytes(b"^HL70357|");
+    sink.bytes(finding.severity.letter());
+    sink.bytes(b"|");
+    sink.number(finding.rule.into());
+    sink.bytes(b"^^L\r");
+}
+
+fn caret_number(number: u32, sink: &mut impl Sink) {
+    sink.bytes(b"^");
+    sink.number(number);
+}

@@ -1,0 +1,230 @@
+//! Times the main code, the second program, a bare pass over the same bytes and, where it is
+//! installed, python3-hl7, on the same inputs in one run.
+
+#[path = "../ours.rs"]
+mod ours;
+
+use second::samples::{self, STAMP};
+use second::{books, limits};
+use std::hint::black_box;
+use std::io::Write;
+use std::process::{Command, ExitCode, Stdio};
+use std::time::{Duration, Instant};
+
+/// Many short samples, since other work spoils some of them.
+const ROUNDS: usize = 25;
+/// A run of several milliseconds is repeated less.
+const SLOW_ROUNDS: usize = 7;
+const ONE_SAMPLE: Duration = Duration::from_millis(2);
+const OUTPUT_LENGTH: usize = 65_536;
+
+struct Input {
+    name: String,
+    message: Vec<u8>,
+    book: Vec<u8>,
+}
+
+impl Input {
+    fn new(name: &str, (message, book): (Vec<u8>, Vec<u8>)) -> Self {
+        Input { name: name.into(), message, book }
+    }
+}
+
+/// Medians of nanoseconds for one message.
+struct Times {
+    ours: f64,
+    second: f64,
+    bare: f64,
+}
+
+fn main() -> ExitCode {
+    match run() {
+        Ok(()) => ExitCode::SUCCESS,
+        Err(problem) => {
+            eprintln!("bench: {problem}");
+            ExitCode::FAILURE
+        }
+    }
+}
+
+fn run() -> Result<(), String> {
+    println!("Medians of {ROUNDS} samples, of {SLOW_ROUNDS} where one run takes 2 ms or more. Bytes are those of message and book.");
+    answers()?;
+    growths()?;
+    reading();
+    Ok(())
+}
+
+fn answers() -> Result<(), String> {
+    println!("\nAnswering one message, in microseconds and in nanoseconds for each byte\n");
+    println!(
+        "{:32} {:>7} {:>7} {:>11} {:>11} {:>9} {:>9} {:>9} {:>9}",
+        "input", "message", "book", "ours", "second", "bare pass", "ours/B", "second/B", "bare/B"
+    );
+    for input in inputs() {
+        let times = measure(&input)?;
+        let per_byte = |nanoseconds: f64| nanoseconds / (input.message.len() + input.book.len()) as f64;
+        println!(
+            "{:32} {:>7} {:>7} {:>11.3} {:>11.3} {:>9.3} {:>9.3} {:>9.3} {:>9.3}",
+            input.name,
+            input.message.len(),
+            input.book.len(),
+            times.ours / 1000.0,
+            times.second / 1000.0,
+            times.bare / 1000.0,
+            per_byte(times.ours),
+            per_byte(times.second),
+            per_byte(times.bare)
+        );
+    }
+    Ok(())
+}
+
+fn growths() -> Result<(), String> {
+    println!("\nGrowth, in microseconds and as a multiple of the line before, where the size is half\n");
+    println!("{:32} {:>11} {:>11} {:>7} {:>7}", "input", "ours", "second", "ours", "second");
+    for series in growth() {
+        let mut before: Option<Times> = None;
+        for input in series {
+            let times = measure(&input)?;
+            let multiples = before.map_or(String::new(), |before| {
+                format!("{:>7.2} {:>7.2}", times.ours / before.ours, times.second / before.second)
+            });
+            println!("{:32} {:>11.3} {:>11.3} {multiples}", input.name, times.ours / 1000.0, times.second / 1000.0);
+            before = Some(times);
+        }
+    }
+    Ok(())
+}
+
+/// Check and locate, beside a parser that does no more than read.
+fn reading() {
+    println!("\nReading alone, in microseconds: check, locate (field 5 of the last segment), python3-hl7 (parse)\n");
+    println!(
+        "{:32} {:>11} {:>11} {:>11} {:>11} {:>11}",
+        "input", "ours check", "second", "ours locate", "second", "python3-hl7"
+    );
+    for (name, message) in [("one dose", limits::doses(1)), ("five doses", limits::doses(5))] {
+        let m = message.as_slice();
+        let last = m.iter().filter(|b| **b == b'\r').count();
+        let mut runs: [Box<dyn FnMut() -> usize>; 4] = [
+            Box::new(|| ours::check(black_box(m)).0.into()),
+            Box::new(|| second::check(black_box(m)).0.into()),
+            Box::new(|| ours::locate(black_box(m), last, 5, 1, 0).0),
+            Box::new(|| second::locate(black_box(m), last, 5, 1, 0).0),
+        ];
+        let times = runs.each_mut().map(|run| {
+            let count = repeats(run);
+            median((0..ROUNDS).map(|_| sample(run, count)).collect()) / 1000.0
+        });
+        let python = python(m).unwrap_or("not installed".into());
+        println!("{name:32} {:>11.3} {:>11.3} {:>11.3} {:>11.3} {python:>11}", times[0], times[1], times[2], times[3]);
+    }
+}
+
+fn inputs() -> Vec<Input> {
+    let example = samples::worked_example().case;
+    vec![
+        Input::new("example of 01", (example.message, example.book)),
+        Input::new("one dose, 618 rules", (limits::doses(1), books::registries_book())),
+        Input::new("five doses, 618 rules", (limits::doses(5), books::registries_book())),
+        Input::new("five doses, largest book", (limits::doses(5), books::largest_book())),
+        Input::new("four-byte segments, no rule", limits::short_segments(32_768, 0)),
+        Input::new("four-byte segments, 256 rules", limits::short_segments(32_768, 256)),
+        Input::new("16,000 repetitions, 256 rules", limits::repetitions(16_000, 256)),
+        Input::new("6,500 repetitions, 1,024 codes", limits::codes(6_500, 1_024)),
+    ]
+}
+
+/// Each series doubles one thing from input to input.
+fn growth() -> Vec<Vec<Input>> {
+    let five = || limits::doses(5);
+    let named = |name: &str, size: usize, pair| Input::new(&format!("{name} {size}"), pair);
+    vec![
+        [5, 10, 20].map(|n| named("message: doses", n, (limits::doses(n), books::registries_book()))).into(),
+        [64, 128, 256].map(|n| named("rules of the section", n, (five(), limits::rules_of(n)))).into(),
+        [16_384, 32_768, 65_536].map(|n| named("bytes of the book", n, (five(), limits::book_of(n)))).into(),
+        [8_192, 16_384, 32_768].map(|n| named("bytes in short segments", n, limits::short_segments(n, 4))).into(),
+        [4_000, 8_000, 16_000].map(|n| named("repetitions", n, limits::repetitions(n, 4))).into(),
+        [64, 128, 256].map(|n| named("rules over 4,000 repetitions", n, limits::repetitions(4_000, n))).into(),
+        [256, 512, 1_024].map(|n| named("codes over 6,500 repetitions", n, limits::codes(6_500, n))).into(),
+    ]
+}
+
+fn measure(input: &Input) -> Result<Times, String> {
+    let Input { name, message, book } = input;
+    let (mut out_ours, mut out_second) = (vec![0; OUTPUT_LENGTH], vec![0; OUTPUT_LENGTH]);
+    let mut ours = || ours::answer(black_box(message), black_box(book), STAMP, 7, &mut out_ours);
+    let mut second = || second::answer(black_box(message), black_box(book), STAMP, 7, &mut out_second);
+    let mut bare = || count_delimiters(black_box(message)) + count_delimiters(black_box(book));
+    if ours() != second() {
+        return Err(format!("{name}: ours and second answer differently"));
+    }
+    let counts = [repeats(&mut ours), repeats(&mut second), repeats(&mut bare)];
+    let mut samples: [Vec<f64>; 3] = Default::default();
+    // In turn, so that a slow moment meets all of them.
+    for _ in 0..if counts[1] > 1 { ROUNDS } else { SLOW_ROUNDS } {
+        samples[0].push(sample(&mut ours, counts[0]));
+        samples[1].push(sample(&mut second, counts[1]));
+        samples[2].push(sample(&mut bare, counts[2]));
+    }
+    let [ours, second, bare] = samples.map(median);
+    Ok(Times { ours, second, bare })
+}
+
+/// The least that any reader of these bytes has to do.
+fn count_delimiters(bytes: &[u8]) -> usize {
+    // Counts of a byte's size can be added many at a time.
+    let count = |block: &[u8]| block.iter().fold(0u8, |count, b| count + u8::from(matches!(b, b'\r' | b'|')));
+    bytes.chunks(255).map(|block| usize::from(count(block))).sum()
+}
+
+/// How often a run fits into one sample.
+fn repeats<T>(run: &mut impl FnMut() -> T) -> u32 {
+    let mut count = 1;
+    loop {
+        let start = Instant::now();
+        for _ in 0..count {
+            black_box(run());
+        }
+        if start.elapsed() >= ONE_SAMPLE {
+            return count;
+        }
+        count *= 2;
+    }
+}
+
+fn sample<T>(run: &mut impl FnMut() -> T, count: u32) -> f64 {
+    let start = Instant::now();
+    for _ in 0..count {
+        black_box(run());
+    }
+    start.elapsed().as_nanos() as f64 / f64::from(count)
+}
+
+fn median(mut samples: Vec<f64>) -> f64 {
+    samples.sort_by(f64::total_cmp);
+    samples[samples.len() / 2]
+}
+
+/// Microseconds in which python3-hl7 parses the message; `None` where it is not installed.
+fn python(message: &[u8]) -> Option<String> {
+    const SCRIPT: &str = "\
+import sys, time, statistics, hl7
+text = sys.stdin.buffer.read().decode('ascii')
+samples = []
+for _ in range(9):
+    start = time.perf_counter()
+    for _ in range(50):
+        hl7.parse(text)
+    samples.append((time.perf_counter() - start) / 50 * 1e6)
+print('%.3f' % statistics.median(samples))";
+    let mut command = Command::new("python3");
+    command.args(["-c", SCRIPT]).stdin(Stdio::piped()).stdout(Stdio::piped()).stderr(Stdio::null());
+    let mut child = command.spawn().ok()?;
+    // Without the module it ends before it reads; then it prints nothing either.
+    let _ = child.stdin.take()?.write_all(message);
+    let output = child.wait_with_output().ok()?;
+    let text = String::from_utf8(output.stdout).ok()?;
+    output.status.success().then(|| text.trim().to_string())
+}

@@ -1,0 +1,125 @@
+//! What the cases hit: refusals and their pairs, findings, combinations of header findings.
+
+use second::book::{Book, Kind, Rule};
+use second::cases::{Case, Pair};
+use second::cutting::{Message, Refusal};
+use second::findings::{self, Finding, Place};
+
+/// Longer ACKs are not graded once more to be counted.
+const LONGEST: u64 = 100_000;
+const KINDS: [&str; 6] = ["101 REQUIRED", "102 LENGTH", "102 NUMBER", "102 DATE", "102 TIME", "103 CODE"];
+
+#[derive(Default)]
+pub struct Coverage {
+    numbers: [u64; 12],
+    pairs: [[u64; 12]; 12],
+    order: u64,
+    end: u64,
+    /// By kind, then by severity E, W, I.
+    rules: [[u64; 3]; 6],
+    headers: [u64; 16],
+}
+
+impl Coverage {
+    /// Counts a case once for everything that it hits.
+    pub fn count(&mut self, case: &Case, pair: Option<Pair>, number: u8, detail: u64) {
+        self.numbers[usize::from(number)] += 1;
+        if let Some((earlier, later)) = pair {
+            // A book's late faults are tried after the version.
+            if number == earlier || (earlier, later, number) == (7, 8, 8) {
+                self.pairs[usize::from(earlier)][usize::from(later)] += 1;
+            }
+        }
+        if matches!(number, 0 | 11) && detail < LONGEST {
+            let hits = Hits::of(case).unwrap_or_default();
+            self.order += u64::from(hits.order);
+            self.end += u64::from(hits.end);
+            self.headers[hits.header] += 1;
+            for (kind, severity) in (0..6).flat_map(|kind| (0..3).map(move |severity| (kind, severity))) {
+                self.rules[kind][severity] += u64::from(hits.rules[kind][severity]);
+            }
+        }
+    }
+
+    /// Prints a line for each; says whether nothing was left out.
+    pub fn print(&self) -> bool {
+        let mut rows: Vec<(String, u64)> = Vec::new();
+        for (number, count) in self.numbers.iter().enumerate() {
+            rows.push((if number == 0 { "answered".into() } else { format!("refusal {number}") }, *count));
+        }
+        rows.push(("finding 100 E order".into(), self.order));
+        rows.push(("finding 100 E end".into(), self.end));
+        for (kind, counts) in KINDS.iter().zip(self.rules) {
+            let (code, kind) = kind.split_at(3);
+            rows.extend(
+                "EWI".chars().zip(counts).map(|(letter, count)| (format!("finding {code} {letter}{kind}"), count)),
+            );
+        }
+        for code in 0..4 {
+            let count = (1..16).filter(|mask| mask & (1 << code) != 0).map(|mask| self.headers[mask]).sum();
+            rows.push((format!("finding {} E header", 200 + code), count));
+        }
+        for (mask, count) in self.headers.iter().enumerate().skip(1) {
+            let codes: Vec<String> =
+                (0..4).filter(|code| mask & (1 << code) != 0).map(|code| (200 + code).to_string()).collect();
+            rows.push((format!("header findings {} alone", codes.join(" ")), *count));
+        }
+        for (label, count) in &rows {
+            println!("{label}: {count}");
+        }
+        let mut pairs_left_out = 0;
+        for earlier in 1..11 {
+            let counts = &self.pairs[earlier][earlier + 1..];
+            pairs_left_out += counts.iter().filter(|count| **count == 0).count();
+            let counts: Vec<String> = counts.iter().map(u64::to_string).collect();
+            println!("refusal {earlier} before {} to 11: {}", earlier + 1, counts.join(" "));
+        }
+        let left_out: Vec<&str> = rows.iter().filter(|row| row.1 == 0).map(|row| row.0.as_str()).collect();
+        if !left_out.is_empty() || pairs_left_out > 0 {
+            println!("never hit: {} and {pairs_left_out} pairs", left_out.join(", "));
+        }
+        left_out.is_empty() && pairs_left_out == 0
+    }
+}
+
+#[derive(Default)]
+struct Hits {
+    order: bool,
+    end: bool,
+    rules: [[bool; 3]; 6],
+    /// One bit for each of 200 to 203.
+    header: usize,
+}
+
+impl Hits {
+    /// The findings of a case that meets none of refusals 1 to 10.
+    fn of(case: &Case) -> Result<Hits, Refusal> {
+        let message = Message::read(&case.message)?;
+        let header = message.header();
+        let book = Book::read(&case.book)?;
+        let section = book.section(findings::first_value(message, &header, 6, 1))?;
+        let rules: Vec<Rule> = section.rules().collect();
+        let mut hits = Hits::default();
+        findings::grade(message, &header, &section, |finding| hits.add(&rules, finding));
+        Ok(hits)
+    }
+
+    fn add(&mut self, rules: &[Rule], finding: Finding) {
+        match (finding.code, finding.place) {
+            (100, Place::End) => self.end = true,
+            (100, _) => self.order = true,
+            (code @ 200.., _) => self.header |= 1 << (code - 200),
+            _ => {
+                let kind = match rules[usize::from(finding.rule) - 1].kind {
+                    Kind::Required => 0,
+                    Kind::Length { .. } => 1,
+                    Kind::Number => 2,
+                    Kind::Date => 3,
+                    Kind::Time { .. } => 4,
+                    Kind::Code { .. } => 5,
+                };
+                self.rules[kind][finding.severity as usize] = true;
+            }
+        }
+    }
+}

@@ -1,0 +1,315 @@
+//! Inputs of the relay: one case, and a generator of them that depends on a seed alone.
+
+mod drafts;
+mod faults;
+mod large;
+mod near;
+mod plans;
+mod random;
+
+pub use random::Random;
+
+use crate::books::{self, SectionPlan};
+use crate::samples;
+
+/// What one answer takes; the output is lent as so many bytes.
+#[derive(Clone, Debug, PartialEq, Eq)]
+pub struct Case {
+    pub message: Vec<u8>,
+    pub book: Vec<u8>,
+    pub stamp: Vec<u8>,
+    pub control: u32,
+    pub output_length: usize,
+}
+
+impl Case {
+    /// What the relay program prints for this case.
+    pub fn printed(&self) -> Vec<u8> {
+        let mut out = vec![0; self.output_length];
+        let (number, detail) = crate::answer(&self.message, &self.book, &self.stamp, self.control, &mut out);
+        crate::line::printed_answer(number, detail, out)
+    }
+
+    /// The length of the ACK, if there would be one.
+    pub fn ack_length(&self) -> Option<u64> {
+        match crate::answer(&self.message, &self.book, &self.stamp, self.control, &mut []) {
+            (11, length) => Some(length),
+            _ => None,
+        }
+    }
+}
+
+/// Two refusals, the earlier one first, whose conditions are both to be true.
+pub type Pair = (u8, u8);
+
+/// Cases by their index: 01's samples first, then each pair of refusals, each finding and each
+/// combination of header findings once, then random ones without end.
+pub struct Generator {
+    seed: u64,
+    samples: Vec<Case>,
+    pairs: Vec<Pair>,
+    guides: Vec<(Vec<u8>, Vec<u8>)>,
+}
+
+impl Generator {
+    pub fn new(seed: u64) -> Self {
+        let samples = samples::samples().into_iter().map(|sample| sample.case).collect();
+        Generator { seed, samples, pairs: pairs(), guides: books::guide_cases() }
+    }
+
+    /// The case of an index and the pair that it aims at.
+    pub fn case(&self, index: u64) -> (Case, Option<Pair>) {
+        let (mut case, pair) = self.make(index);
+        // No room after the last byte, so that a reader that goes past it can be noticed.
+        for bytes in [&mut case.message, &mut case.book, &mut case.stamp] {
+            bytes.shrink_to_fit();
+        }
+        (case, pair)
+    }
+
+    fn make(&self, index: u64) -> (Case, Option<Pair>) {
+        let random = &mut Random::new(self.seed, index);
+        let mut at = index as usize;
+        if let Some(case) = self.samples.get(at) {
+            return (case.clone(), None);
+        }
+        at -= self.samples.len();
+        if let Some(pair) = self.pairs.get(at) {
+            return (paired(random, *pair), Some(*pair));
+        }
+        at -= self.pairs.len();
+        let case = match at {
+            0..18 => broken_rule(random, at as u8 % 6 + 1, b"EWI"[at / 6]),
+            18..34 => wrong_header(random, at - 18),
+            _ => return self.random_case(random),
+        };
+        (lend(random, case), None)
+    }
+
+    fn random_case(&self, random: &mut Random) -> (Case, Option<Pair>) {
+        let case = match random.below(4096) {
+            0 if random.one_in(2) => large_message(random, true),
+            0..16 => large_message(random, false),
+            16..64 => large_book(random),
+            64..700 => {
+                let pair = random.pick(&self.pairs);
+                return (paired(random, pair), Some(pair));
+            }
+            700..1000 => {
+                let mut case = answered(random);
+                let refusal = random.between(1, 11) as u8;
+                faults::put(random, &mut case, refusal);
+                return (case, None);
+            }
+            1000..1500 => {
+                let (message, book) = &self.guides[random.below(self.guides.len())];
+                let mut case = with_stamp(random, message.clone(), book.clone());
+                for _ in 0..random.pick(&[0, 1, 1, 2, 4]) {
+                    mutate(random, &mut case.message);
+                }
+                case
+            }
+            1500..2000 => {
+                let mut case = structured(random);
+                for _ in 0..random.between(1, 3) {
+                    mutate(random, &mut case.message);
+                }
+                case
+            }
+            2000..2200 => {
+                let mut case = structured(random);
+                mutate_bytes(random, &mut case.book);
+                case
+            }
+            _ => structured(random),
+        };
+        (lend(random, case), None)
+    }
+}
+
+fn pairs() -> Vec<Pair> {
+    (1..=11).flat_map(|earlier| (earlier + 1..=11).map(move |later| (earlier, later))).collect()
+}
+
+fn with_stamp(random: &mut Random, message: Vec<u8>, book: Vec<u8>) -> Case {
+    let stamp = if random.one_in(40) { near::bad_stamp(random) } else { near::stamp(random) };
+    let control = random.pick(&[0, 7, 9, 10, 99, 100, 65_536, 999_999_999, 1_000_000_000, u32::MAX]);
+    Case { message, book, stamp, control, output_length: 0 }
+}
+
+/// A sound message and a good book for it.
+fn structured(random: &mut Random) -> Case {
+    let (sections, chosen) = plans::sections(random);
+    let message = drafts::draft(random, &sections[chosen]).message();
+    with_stamp(random, message, books::encode(&sections))
+}
+
+/// A case that has an ACK, with room for it.
+fn answered(random: &mut Random) -> Case {
+    loop {
+        let mut case = structured(random);
+        if let Some(length) = case.ack_length() {
+            case.output_length = length as usize;
+            return case;
+        }
+    }
+}
+
+fn paired(random: &mut Random, (earlier, later): Pair) -> Case {
+    let mut case = answered(random);
+    faults::put(random, &mut case, later);
+    faults::put(random, &mut case, earlier);
+    case
+}
+
+/// One rule of a kind and severity on PID-3, and values for it until one breaks it.
+fn broken_rule(random: &mut Random, kind: u8, severity: u8) -> Case {
+    loop {
+        let sets = vec![vec![near::word(random)]];
+        let mut rule = plans::rule_of_kind(random, kind, 1);
+        rule[..4].copy_from_slice(b"PID\x03");
+        rule[6] = severity;
+        let section = SectionPlan { rules: vec![rule], sets, ..SectionPlan::new("AX") };
+        let mut draft = drafts::draft(random, &section);
+        drafts::set_header(random, &mut draft, 0);
+        let case =
+            Case { stamp: near::stamp(random), ..with_stamp(random, draft.message(), books::encode(&[section])) };
+        let finding = [b"|".as_slice(), &[severity], b"|1^^L\n"].concat();
+        let printed = Case { output_length: 65_536, ..case.clone() }.printed();
+        if printed.windows(finding.len()).any(|window| window == finding) {
+            return case;
+        }
+    }
+}
+
+/// Findings 200 to 203 where their bit is set.
+fn wrong_header(random: &mut Random, wrong: usize) -> Case {
+    let section = SectionPlan::new("AX");
+    let mut draft = drafts::draft(random, &section);
+    drafts::set_header(random, &mut draft, wrong);
+    Case { stamp: near::stamp(random), ..with_stamp(random, draft.message(), books::encode(&[section])) }
+}
+
+fn large_message(random: &mut Random, heavy: bool) -> Case {
+    let (message, book) = large::message(random, heavy);
+    with_stamp(random, message, book)
+}
+
+fn large_book(random: &mut Random) -> Case {
+    let rules = (0..random.below(4)).map(|_| plans::rule(random, 0)).collect();
+    let section = SectionPlan { rules, ..SectionPlan::new("AX") };
+    let message = drafts::draft(random, &section).message();
+    let book = large::book(random, section.rules);
+    let mut case = with_stamp(random, message, book);
+    if random.one_in(8) {
+        faults::put(random, &mut case, 9);
+    }
+    case
+}
+
+/// Lends no output, too little, just enough or more.
+fn lend(random: &mut Random, mut case: Case) -> Case {
+    let needed = case.ack_length().unwrap_or(300);
+    let lent = match random.below(8) {
+        0 => 0,
+        1 => needed - 1,
+        2 => random.below(needed as usize) as u64,
+        3 | 4 => needed,
+        5 => needed + 1,
+        _ => needed + random.below(100) as u64,
+    };
+    // Outputs beyond the program's are rare, since filling and comparing them takes time.
+    let limit = if random.one_in(50) { 4_000_000 } else { 65_536 };
+    case.output_length = lent.min(limit) as usize;
+    case
+}
+
+const DELIMITERS: &[u8] = b"|^~\\&\r";
+
+/// Changes a message in a byte, a delimiter, a segment, a field, a repetition, or its end.
+fn mutate(random: &mut Random, message: &mut Vec<u8>) {
+    match random.below(6) {
+        0 => mutate_bytes(random, message),
+        1 => mutate_pieces(random, message, b'\r'),
+        2 => mutate_pieces(random, message, b'|'),
+        3 => mutate_pieces(random, message, b'~'),
+        4 => mutate_pieces(random, message, b'^'),
+        _ => {
+            let at = random.below(message.len() + 1);
+            message.insert(at, random.letter(DELIMITERS));
+        }
+    }
+}
+
+/// Drops, doubles, swaps or empties a piece between delimiters.
+fn mutate_pieces(random: &mut Random, message: &mut Vec<u8>, delimiter: u8) {
+    let mut pieces: Vec<Vec<u8>> = message.split(|b| *b == delimiter).map(<[u8]>::to_vec).collect();
+    let (at, other) = (random.below(pieces.len()), random.below(pieces.len()));
+    match random.below(4) {
+        0 => drop(pieces.remove(at)),
+        1 => pieces.insert(other, pieces[at].clone()),
+        2 => pieces.swap(at, other),
+        _ => pieces[at].clear(),
+    }
+    *message = pieces.join(&delimiter);
+}
+
+fn mutate_bytes(random: &mut Random, bytes: &mut Vec<u8>) {
+    for _ in 0..random.between(1, 3) {
+        let at = random.below(bytes.len() + 1);
+        let byte = match random.below(4) {
+            0 => random.letter(DELIMITERS),
+            1 => random.letter(b"\0\x01\x02\x15\x40\x41\xFF"),
+            2 => random.between(0x20, 0x7E) as u8,
+            _ => random.below(256) as u8,
+        };
+        match random.below(3) {
+            0 => bytes.insert(at, byte),
+            1 if at < bytes.len() => drop(bytes.remove(at)),
+            _ if at < bytes.len() => bytes[at] = byte,
+            _ => {}
+        }
+    }
+}
+
+#[cfg(test)]
+mod tests {
+    use super::*;
+
+    fn number(case: &Case) -> u8 {
+        let mut out = vec![0; case.output_length];
+        crate::answer(&case.message, &case.book, &case.stamp, case.control, &mut out).0
+    }
+
+    #[test]
+    fn each_fault_gives_its_refusal() {
+        for refusal in 1..=11 {
+            for index in 0..200 {
+                let random = &mut Random::new(1, index);
+                let mut case = answered(random);
+                assert_eq!(number(&case), 0);
+                faults::put(random, &mut case, refusal);
+                assert_eq!(number(&case), refusal, "{case:?}");
+            }
+        }
+    }
+
+    #[test]
+    fn of_two_faults_the_earlier_one_wins() {
+        for pair in pairs() {
+            for index in 0..50 {
+                let found = number(&paired(&mut Random::new(2, index), pair));
+                // A fault of the book after its mark and length is tried after the version.
+                assert!(found == pair.0 || pair == (7, 8) && found == 8, "{pair:?} {found}");
+            }
+        }
+    }
+
+    #[test]
+    fn an_index_has_one_case() {
+        let (one, other) = (Generator::new(3), Generator::new(3));
+        for index in (0..2000).rev() {
+            assert!(one.case(index) == other.case(index));
+        }
+    }
+}

@@ -1,0 +1,107 @@
+//! Messages and books that are long on purpose, for the pack and the benchmark.
+
+use crate::books::{self, rule, RuleBytes, SectionPlan};
+
+const HEADER: &[u8] = b"MSH|^~\\&|CAB|C1|REG|AX|||VXU^V04|M1|P|2.5.1\r";
+
+fn book(rules: Vec<RuleBytes>) -> Vec<u8> {
+    books::encode(&[SectionPlan { rules, ..SectionPlan::new("AX") }])
+}
+
+/// A message of so many bytes, `PID` and its CR again and again, under rules that each one breaks.
+pub fn short_segments(length: usize, rules: usize) -> (Vec<u8>, Vec<u8>) {
+    let mut message = HEADER.to_vec();
+    while message.len() + 8 <= length {
+        message.extend(b"PID\r");
+    }
+    message.extend(b"ZZZ|");
+    message.resize(length - 1, b'x');
+    message.push(b'\r');
+    (message, book(vec![rule("PID", 3, 1, 1, b'W', [0, 0, 0]); rules]))
+}
+
+/// One field of so many repetitions under rules that each repetition breaks.
+pub fn repetitions(count: usize, rules: usize) -> (Vec<u8>, Vec<u8>) {
+    let message = [HEADER, b"PID|||", &b"x~".repeat(count - 1), b"x\r"].concat();
+    (message, book(vec![rule("PID", 3, 0, 3, b'E', [0, 0, 0]); rules]))
+}
+
+/// A CODE rule with so many codes over so many repetitions that hold its last one.
+pub fn codes(count: usize, codes: usize) -> (Vec<u8>, Vec<u8>) {
+    let set: Vec<Vec<u8>> = (1..=codes).map(|code| format!("{code:04}").into_bytes()).collect();
+    let value = [set[codes - 1].as_slice(), b"~"].concat();
+    let message = [HEADER, b"PID|||", &value.repeat(count - 1), &set[codes - 1], b"\r"].concat();
+    let rules = vec![rule("PID", 3, 0, 6, b'E', [1, 0, 0])];
+    (message, books::encode(&[SectionPlan { rules, sets: vec![set], ..SectionPlan::new("AX") }]))
+}
+
+/// New Jersey's adult with so many doses, each the one that the guide prints.
+pub fn doses(count: usize) -> Vec<u8> {
+    let message = books::message("restored-002-vxu-2");
+    let dose = message.windows(4).position(|window| window == b"\rORC").map_or(message.len(), |at| at + 1);
+    [&message[..dose], &message[dose..].repeat(count)].concat()
+}
+
+/// A book of some bytes, up to 65,536, with New Jersey's section and a filler.
+pub fn book_of(length: usize) -> Vec<u8> {
+    let sections = vec![books::section("NJDOH", "NJ")];
+    let size = books::encode(&sections).len();
+    books::encode(&[sections, vec![books::filler("FILLER", length - size)]].concat())
+}
+
+/// A section NJDOH of so many rules, New Jersey's over and over.
+pub fn rules_of(count: usize) -> Vec<u8> {
+    let mut section = books::section("NJDOH", "NJ");
+    section.rules = section.rules.into_iter().cycle().take(count).collect();
+    books::encode(&[section])
+}
+
+#[cfg(test)]
+mod tests {
+    use super::*;
+    use crate::samples::case;
+
+    #[test]
+    fn details_are_exact_without_building_the_ack() {
+        // Head: the worked example's first line with its CR, and MSA|AE|M1 with its CR.
+        let head = 92 + 10;
+        let printed = |(message, book)| String::from_utf8_lossy(&case(message, book).printed()).into_owned();
+        // Every repetition breaks every rule: ERR||PID^1^3^r|102^Data type error^HL70357|E|n^^L and CR.
+        let digits = |n: u64| n.to_string().len() as u64;
+        let each = "ERR||PID^1^3^|102^Data type error^HL70357|E|^^L\r".len() as u64;
+        let mut length = head;
+        for rule in 1..=256 {
+            for repetition in 1..=16_000 {
+                length += each + digits(rule) + digits(repetition);
+            }
+        }
+        assert_eq!(printed(repetitions(16_000, 256)), format!("refused 11 {length}\n"));
+        // Every PID but the first breaks the order; every PID breaks the rule.
+        let (message, book) = short_segments(32_768, 1);
+        let count = message.split(|b| *b == b'\r').filter(|segment| segment == b"PID").count() as u64;
+        // The header takes 44 bytes, the last segment four.
+        assert_eq!((message.len(), count), (32_768, 8_180));
+        let mut length = head;
+        for number in 1..=count {
+            length += "ERR||PID^^3^1^1|101^Required field missing^HL70357|W|1^^L\r".len() as u64 + digits(number);
+            if number > 1 {
+                length += "ERR||PID^|100^Segment sequence error^HL70357|E|0^^L\r".len() as u64 + digits(number);
+            }
+        }
+        assert_eq!(printed((message, book)), format!("refused 11 {length}\n"));
+        let (message, book) = codes(6_500, 1_024);
+        let end = "MSA|AA|M1\n";
+        assert!(printed((message, book)).ends_with(end));
+    }
+
+    #[test]
+    fn books_have_their_sizes() {
+        for size in [16_384, 32_768, 65_536] {
+            assert_eq!(book_of(size).len(), size);
+        }
+        let printed = |message, book| String::from_utf8_lossy(&case(message, book).printed()).into_owned();
+        for book in [book_of(65_536), rules_of(256), books::registries_book(), books::largest_book()] {
+            assert!(!printed(doses(5), book).starts_with("refused"));
+        }
+    }
+}

@@ -1,0 +1,58 @@
+//! The main code's static library, by its three C functions.
+
+#[link(name = "ack", kind = "static")]
+extern "C" {
+    fn jasminedo_answer(
+        message: *const u8,
+        message_length: usize,
+        book: *const u8,
+        book_length: usize,
+        stamp: *const u8,
+        stamp_length: usize,
+        control: u32,
+        output: *mut u8,
+        output_length: usize,
+    ) -> u64;
+    fn jasminedo_check(message: *const u8, message_length: usize) -> u64;
+    fn jasminedo_locate(
+        message: *const u8,
+        message_length: usize,
+        segment: usize,
+        field: usize,
+        repetition: usize,
+        component: usize,
+    ) -> u64;
+}
+
+pub fn answer(m: &[u8], book: &[u8], stamp: &[u8], control: u32, out: &mut [u8]) -> (u8, u64) {
+    // SAFETY: every pointer comes with the length of its own slice, and only `out` is written.
+    let result = unsafe {
+        jasminedo_answer(
+            m.as_ptr(),
+            m.len(),
+            book.as_ptr(),
+            book.len(),
+            stamp.as_ptr(),
+            stamp.len(),
+            control,
+            out.as_mut_ptr(),
+            out.len(),
+        )
+    };
+    number_and_detail(result)
+}
+
+pub fn check(m: &[u8]) -> (u8, u64) {
+    // SAFETY: the pointer comes with the length of its slice.
+    number_and_detail(unsafe { jasminedo_check(m.as_ptr(), m.len()) })
+}
+
+pub fn locate(m: &[u8], segment: usize, field: usize, repetition: usize, component: usize) -> (usize, usize) {
+    // SAFETY: the pointer comes with the length of its slice.
+    let result = unsafe { jasminedo_locate(m.as_ptr(), m.len(), segment, field, repetition, component) };
+    ((result / 65_536) as usize, (result % 65_536) as usize)
+}
+
+fn number_and_detail(result: u64) -> (u8, u64) {
+    ((result % 256) as u8, result / 256)
+}
