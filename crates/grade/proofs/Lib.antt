@@ -4,5 +4,11 @@ pub mod Parts
 pub mod Holding
 pub mod Opening
 pub mod Counting
-pub mod ValueSamples
 pub mod Admitting
+pub mod Following
+pub mod Increasing
+pub mod Demand3
+pub mod Samples
+pub mod ValueSamples
+pub mod FindingSamples
+pub mod Grading

@@ -5,6 +5,11 @@ pub mod Book
 pub mod Digits
 pub mod Calendar
 pub mod Values
+pub mod Broken
+pub mod Strict
+pub mod Order
+pub mod Findings
 pub mod Header
 pub mod Admission
+pub mod Grading
 pub mod Standing

@@ -6,6 +6,7 @@ pub mod finding;
 pub mod header;
 pub mod limits;
 pub mod lookup;
+pub mod order;
 pub mod rule;
 pub mod value;
 pub mod walk;

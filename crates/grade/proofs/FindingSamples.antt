@@ -1,0 +1,126 @@
+-- Samples of `findings`, one table under one statement, which antt computes. Assumes nothing.
+use Prim.Native.Nat.{ℕ}
+use mathlib.Core.Path.{_≡_, refl}
+use mathlib.Core.List.{List, [], _∷_, _++_, map}
+use Rattle.hl7.specs.Text.{bytes}
+use Rattle.hl7.specs.Bytes.{same, among, begins}
+use Rattle.hl7.specs.Cut.{cut, ahead, butLast, startAt}
+use Rattle.hl7.specs.Place.{delimsOf, nthOf, cutUnless, partOfField, neverCut, componentOf, repetitionsOf}
+use Rattle.grade.specs.Rule.{segmentNames, numberFrom, segmentOf, errorCode}
+use Rattle.grade.specs.Digits.{countWithin, digitRun}
+use Rattle.grade.specs.Calendar.{monthLength, isRealDate}
+use Rattle.grade.specs.Values.{isDate}
+use Rattle.grade.specs.Order.{msh, pid, orc, rxa, atEnd, nameBefore, earlier, isIn, mayFollow}
+use Rattle.grade.specs.Broken.{broken, judges, breaksRule, severityLetter}
+use Rattle.grade.specs.Strict.{keep, countFrom, pairsFrom}
+use Rattle.grade.specs.Findings.{findings}
+use Rattle.grade.specs.declared.rule.Kind.{Kind}
+use Rattle.grade.specs.declared.rule.Kind.the-variants.{Required, Length, Date, Code}
+use Rattle.grade.specs.declared.rule.Severity.{Severity}
+use Rattle.grade.specs.declared.rule.Severity.the-variants.{Error, Warning, Informational}
+use Rattle.grade.specs.declared.rule.Rule.{Rule}
+use Rattle.grade.specs.declared.finding.Finding.{Finding}
+
+-- the segments, each with its CR
+abbrev message : List (List ℕ) → List ℕ
+message [] = []
+message (seg ∷ segs) = seg ++ (13 ∷ message segs)
+
+abbrev rule : ℕ → ℕ → ℕ → Kind → Severity → Rule
+rule segment field component kind severity = record { place = record { segment = segment; field = field; component = component }; kind = kind; severity = severity }
+
+-- the order finding of a segment by name and number, and of the end
+abbrev order : ℕ → ℕ → Finding
+order name number = record { name = name; number = number; field = 0; repetition = 0; component = 0; rule = 0; code = 100; severity = severityLetter Error }
+
+-- rule i is broken at a repetition of the number-th segment of its name
+abbrev breach : ℕ → ℕ → ℕ → Rule → Finding
+breach i number repetition r =
+    record {
+      name = r .place .segment;
+      number = number;
+      field = r .place .field;
+      repetition = repetition;
+      component = r .place .component;
+      rule = i;
+      code = errorCode (r .kind);
+      severity = severityLetter (r .severity);
+    }
+
+-- a section's rules, the segments of a message, and the findings
+record Sample : Type 0 where
+  rules : List Rule
+  segments : List (List ℕ)
+  gives : List Finding
+
+abbrev unruled : List (List ℕ) → List Finding → Sample
+unruled segments gives = record { rules = []; segments = segments; gives = gives }
+
+abbrev long : Rule
+long = rule pid 1 0 (Length 2 9) Warning
+
+abbrev there : Rule
+there = rule pid 1 1 Required Error
+
+abbrev coded : Rule
+coded = rule pid 2 2 (Code 1) Informational
+
+abbrev header : Rule
+header = rule msh 3 0 (Length 2 9) Error
+
+abbrev dosed : Rule
+dosed = rule rxa 1 0 Required Error
+
+abbrev born : Rule
+born = rule pid 7 1 Date Error
+
+abbrev known : Rule
+known = rule pid 3 1 Required Error
+
+abbrev sexed : Rule
+sexed = rule pid 8 0 Required Warning
+
+abbrev table : List Sample
+table =
+    unruled (bytes "MSH" ∷ bytes "PID" ∷ bytes "ORC" ∷ bytes "ORC" ∷ bytes "RXA" ∷ []) (order orc 2 ∷ [])
+    ∷ unruled (bytes "MSH" ∷ bytes "PID" ∷ bytes "ORC" ∷ []) (order atEnd 0 ∷ [])
+    ∷ unruled (bytes "MSH" ∷ bytes "ZZZ" ∷ bytes "PID" ∷ []) []
+    ∷ unruled (bytes "MSH" ∷ bytes "PID" ∷ bytes "RXA" ∷ bytes "OBX" ∷ []) (order rxa 1 ∷ [])
+    -- a later MSH is out of order, and PID may follow it
+    ∷ unruled (bytes "MSH" ∷ bytes "PID" ∷ bytes "MSH" ∷ bytes "PID" ∷ []) (order msh 2 ∷ [])
+    ∷ unruled (bytes "MSH" ∷ []) (order atEnd 0 ∷ [])
+    ∷ unruled [] []
+    -- every bad repetition, by its own number; the empty one is not judged
+    ∷ record { rules = long ∷ []; segments = bytes "MSH" ∷ bytes "PID|x~~y" ∷ []; gives = breach 1 1 1 long ∷ breach 1 1 3 long ∷ [] }
+    -- REQUIRED looks at repetition 1 alone, and at the component
+    ∷ record { rules = there ∷ []; segments = bytes "MSH" ∷ bytes "PID|~x" ∷ []; gives = breach 1 1 1 there ∷ [] }
+    ∷ record { rules = there ∷ []; segments = bytes "MSH" ∷ bytes "PID|^x~" ∷ []; gives = breach 1 1 1 there ∷ [] }
+    ∷ record { rules = there ∷ []; segments = bytes "MSH" ∷ bytes "PID|x~" ∷ []; gives = [] }
+    -- component 2 of each repetition is looked up in the set, which holds A and B
+    ∷ record { rules = coded ∷ []; segments = bytes "MSH" ∷ bytes "PID||A^B~B^b~C^~^C" ∷ []; gives = breach 1 1 2 coded ∷ breach 1 1 4 coded ∷ [] }
+    -- an absent field has one empty repetition
+    ∷ record { rules = born ∷ sexed ∷ []; segments = bytes "MSH" ∷ bytes "PID" ∷ []; gives = breach 2 1 1 sexed ∷ [] }
+    -- MSH-3 stands after the second bar
+    ∷ record { rules = header ∷ []; segments = bytes "MSH|^~\\&|A~BB|C" ∷ bytes "PID" ∷ []; gives = breach 1 1 1 header ∷ [] }
+    -- numbers count from the message's start; the order comes before the rules
+    ∷ record {
+      rules = dosed ∷ [];
+      segments = bytes "MSH" ∷ bytes "PID" ∷ bytes "ORC" ∷ bytes "RXA|x" ∷ bytes "ORC" ∷ bytes "RXA" ∷ bytes "RXA" ∷ [];
+      gives = breach 1 2 1 dosed ∷ order rxa 3 ∷ breach 1 3 1 dosed ∷ [];
+    }
+    -- the paper's example
+    ∷ record {
+      rules = born ∷ known ∷ sexed ∷ [];
+      segments = bytes "MSH|^~\\&|CAB|C1|REG|AX|20250113115900+0000||VXU^V04^VXU_V04|M1|P|2.5.1" ∷ bytes "PID|1||77||ROE^ANN||20240230" ∷ [];
+      gives = breach 1 1 1 born ∷ breach 3 1 1 sexed ∷ [];
+    }
+    ∷ []
+
+abbrev graded : Sample → List Finding
+graded s = findings mayFollow (s .rules) ((bytes "A" ∷ bytes "B" ∷ []) ∷ []) (message (s .segments))
+
+samples : map graded table ≡ map (λ (s : Sample). s .gives) table
+unfolding findings keep countFrom pairsFrom nameBefore earlier isIn mayFollow broken judges breaksRule
+    segmentNames numberFrom segmentOf same among begins cut ahead butLast startAt delimsOf nthOf cutUnless partOfField neverCut componentOf repetitionsOf
+    countWithin digitRun monthLength isRealDate isDate
+samples = refl

@@ -1,0 +1,34 @@
+-- The follow table says what the order says. Assumes nothing.
+use Prim.Native.Nat.{ℕ, zero, suc, _+_, _≤_, _<_}
+use mathlib.Core.Path.{_≡_, refl, sym, ap, _∙_}
+use mathlib.Core.Bool.{Bool, true, false, not, _&&_}
+use mathlib.Core.List.{List, [], _∷_, map}
+use native.Mathlib.Omega.{arith}
+use borrow.Author.Tests.{ltb-true, leb-true}
+use lib.ListN.{getD}
+use lib.Dec.{ltb, leb}
+use Rattle.grade.specs.Strict.{countFrom}
+use Rattle.grade.specs.Order.{counted, atEnd, outOfOrder, tableOf, tableSays}
+
+-- a function's values at the k numbers from n, by place
+at-count : {A : Type 0} (f : ℕ → A) (none : A) (n k i : ℕ) → i < k → getD (map f (countFrom n k)) i none ≡ f (n + i)
+unfolding countFrom
+at-count f none n zero i h = absurd (omega arith)
+at-count f none n (suc k) zero h = let e : n ≡ n + 0 = omega arith in ap f e
+at-count f none n (suc k) (suc i) h = let e : suc n + i ≡ n + suc i = omega arith in at-count f none (suc n) k i (omega arith) ∙ ap f e
+
+module _ (follows : ℕ → ℕ → Bool) where
+  says-so : (before name : ℕ) → before < 10 → name ≤ 10 → tableSays (tableOf follows) before name ≡ follows before name
+  says-so before name h k =
+      ap (λ (row : List Bool). getD row name false) (at-count (λ (a : ℕ). map (follows a) (countFrom 0 11)) [] 0 10 before h)
+      ∙ at-count (follows (0 + before)) false 0 11 name (omega arith)
+      ∙ (let e : 0 + before ≡ before = omega arith in let d : 0 + name ≡ name = omega arith in λ i. follows (e i) (d i))
+
+  -- the order by the table is the order, at any two numbers
+  pub by-table : outOfOrder (tableSays (tableOf follows)) ≡ outOfOrder follows
+  by-table i before name = at before name (counted before) refl (leb name atEnd) refl i
+    where
+      at : (before name : ℕ) (p : Bool) → counted before ≡ p → (q : Bool) → leb name atEnd ≡ q → outOfOrder (tableSays (tableOf follows)) before name ≡ outOfOrder follows before name
+      at before name true p true q = ap (λ (b : Bool). counted before && (leb name atEnd && not b)) (says-so before name (ltb-true before 10 p) (leb-true name 10 q))
+      at before name true p false q = rw (p, q)
+      at before name false p q d = rw p
