@@ -1,6 +1,6 @@
 -- Laws of `specs/Bytes.antt`, each in the words of a loop that goes along the bytes by index. Assumes nothing.
 use mathlib.Core.Path.{_≡_, refl, sym, ap, ap₂, _∙_}
-use mathlib.Core.Bool.{Bool, true, false, _&&_, and-false, and-assoc, true≢false}
+use mathlib.Core.Bool.{Bool, true, false, cond, _&&_, and-false, and-assoc, true≢false}
 use mathlib.Core.List.{List, [], _∷_, _++_, map}
 use Prim.Native.Nat.{ℕ, zero, suc, _+_, _-_, _≤_, _<_}
 use native.Mathlib.Numerals.{add-one}
@@ -10,7 +10,7 @@ use lib.Dec.{eqb}
 use lib.ListN.{length, getD, take, drop, length-drop, drop-of-length-le}
 use lib.Seq.{drop-cons, drop-drop, getD-drop, take-all, drop-length, take-nil, slice}
 use borrow.Author.Tests.{eq-eqb, ne-eqb, eqb-true, eqb-false}
-use Rattle.hl7.specs.Bytes.{all, same, among, begins}
+use Rattle.hl7.specs.Bytes.{all, occurrences, same, among, begins}
 
 -- ---- lists
 -- what is left at i is the element there and what is left after it
@@ -103,6 +103,16 @@ all-over test v i b h = ap (λ (l : List ℕ). b && all test l) (drop-of-length-
     and-true-right : (b : Bool) → (b && true) ≡ b
     and-true-right true = refl
     and-true-right false = refl
+
+-- ---- how many bytes are d
+module _ (d : ℕ) (v : List ℕ) (i : ℕ) where
+  pub occurs-more : i < length v → occurrences d (drop i v) ≡ cond (eqb (getD v i 0) d) 1 0 + occurrences d (drop (i + 1) v)
+  unfolding occurrences
+  occurs-more h = ap (occurrences d) (rest-at v i h)
+
+  pub occurs-none : length v ≤ i → occurrences d (drop i v) ≡ 0
+  unfolding occurrences
+  occurs-none h = ap (occurrences d) (drop-of-length-le v h)
 
 -- ---- the same bytes
 pub same-lengths : (v w : List ℕ) → (length v ≡ length w → ⊥) → same v w ≡ false

@@ -1,22 +1,23 @@
 -- Laws of `specs/Cut.antt`: what one more byte does to a cut, where its first part ends, and what is left after it.
 -- Assumes nothing.
 use mathlib.Core.Path.{_≡_, refl, sym, ap, ap₂, subst⁻¹, _∙_}
-use mathlib.Core.Bool.{Bool, true, false}
+use mathlib.Core.Bool.{Bool, true, false, cond, true≢false}
 use mathlib.Core.List.{List, [], _∷_}
 use Prim.Native.Nat.{ℕ, zero, suc, _+_, _-_, _≤_, _<_}
 use native.Mathlib.Omega.{arith}
 use native.Mathlib.Nat.{add-zero, add-sub-cancel-left}
-use native.Mathlib.Decide.{decLt}
+use native.Mathlib.Decide.{decLt, ℕ-discrete}
 use native.Mathlib.Numerals.{add-one, unary-clauses}
 use lib.ListN.{length, getD, take, drop, length-take, length-drop, drop-of-length-le}
 use lib.Seq.{drop-cons, drop-drop, take-all, take-take, take-nil}
 use lib.Dec.{eqb}
-use borrow.Author.Tests.{eq-eqb, ne-eqb}
+use borrow.Author.Tests.{eq-eqb, ne-eqb, not-true}
 use Rattle.hl7.specs.Cut.{ahead, cut, partAt, endFrom, startAt, Piece, pieceAt, missing, butLast}
 use Rattle.hl7.specs.Place.{inside}
-use Rattle.hl7.specs.Spans.{between, Spans}
+use Rattle.hl7.specs.Spans.{between, pieceFrom, Spans}
 use Rattle.hl7.specs.declared.cut.Span.{Span}
-use Rattle.hl7.proofs.Comparing.{none-of}
+use Rattle.hl7.specs.Bytes.{all, differs, occurrences}
+use Rattle.hl7.proofs.Comparing.{none-of, rest-at, and-both}
 
 -- ---- one byte more
 pub cut-delimiter : (d x : ℕ) (s : List ℕ) → x ≡ d → cut d (x ∷ s) ≡ [] ∷ cut d s
@@ -122,10 +123,6 @@ parts-more d s at h =
 pub parts-last : (d : ℕ) (s : List ℕ) (at : ℕ) → length s ≤ endFrom d s at → cut d (drop at s) ≡ drop at s ∷ []
 parts-last d s at h = cut-last d (drop at s) (omega (arith, length-drop at s))
 
--- piece k of what begins at `at`, as a piece of s
-abbrev pub pieceFrom : ℕ → List ℕ → ℕ → ℕ → Piece
-pieceFrom d s at k = record { start = at + startAt (cut d (drop at s)) k; bytes = partAt (cut d (drop at s)) k }
-
 pub piece-eq : {a b : ℕ} {p q : List ℕ} → a ≡ b → p ≡ q → _≡_ {A = Piece} (record { start = a; bytes = p }) (record { start = b; bytes = q })
 piece-eq e f i = record { start = e i; bytes = f i }
 
@@ -162,6 +159,67 @@ module _ (d : ℕ) (s : List ℕ) (at : ℕ) {k end : ℕ} (found : end ≡ endF
       let one-more : k ≡ suc (k - 1) = omega arith in
       let alone = parts-last d s at (omega arith) in
       ap (pieceFrom d s at) one-more ∙ piece-eq (rw alone (omega (arith, length-drop at s))) (rw alone)
+
+-- ---- block by block: what the bytes of a block say of the part that begins at i, or of a later one
+between-more : (s : List ℕ) (i n : ℕ) → i + suc n ≤ length s → between s i (i + suc n) ≡ getD s i 0 ∷ between s (i + 1) (i + 1 + n)
+between-more s i n h =
+    let size : i + suc n - i ≡ suc n = omega arith in
+    let rest : i + 1 + n - (i + 1) ≡ n = omega arith in
+    rw (size, rest, rest-at s i (omega arith))
+
+pub end-clear : (d : ℕ) (s : List ℕ) (n i : ℕ) → i + n ≤ length s → all (differs d) (between s i (i + n)) ≡ true → endFrom d s i ≡ endFrom d s (i + n)
+unfolding all
+end-clear d s zero i h e = ap (endFrom d s) (sym (add-zero i))
+end-clear d s (suc n) i h e =
+    let both = and-both (differs d (getD s i 0)) (all (differs d) (between s (i + 1) (i + 1 + n))) (ap (all (differs d)) (sym (between-more s i n h)) ∙ e) in
+    let past : i + 1 + n ≡ i + suc n = omega arith in
+    end-later d s i (omega arith) (λ same. true≢false (sym (eq-eqb (getD s i 0) d same) ∙ not-true _ (both .0)))
+    ∙ end-clear d s n (i + 1) (omega arith) (both .1) ∙ ap (endFrom d s) past
+
+start-ahead : (x : ℕ) (p : List ℕ) (ps : List (List ℕ)) (k : ℕ) → startAt ((x ∷ p) ∷ ps) (suc k) ≡ 1 + startAt (p ∷ ps) (suc k)
+unfolding startAt
+start-ahead x p [] k = omega arith
+start-ahead x p (q ∷ ps) k = omega arith
+
+-- a later piece does not care for a byte that is no delimiter
+piece-later : (d : ℕ) (s : List ℕ) (i k : ℕ) → i < length s → (getD s i 0 ≡ d → ⊥) → 0 < k → pieceFrom d s i k ≡ pieceFrom d s (i + 1) k
+piece-later d s i k h other some =
+    let ps = cut d (drop (i + 1) s) in
+    let more : k ≡ suc (k - 1) = omega arith in
+    let joined : cut d (drop i s) ≡ (getD s i 0 ∷ partAt ps 0) ∷ drop 1 ps = ap (cut d) (rest-at s i h) ∙ cut-other d (getD s i 0) (drop (i + 1) s) other in
+    let parts : ps ≡ partAt ps 0 ∷ drop 1 ps = cut-some d (drop (i + 1) s) in
+    let starts : startAt (cut d (drop i s)) (suc (k - 1)) ≡ 1 + startAt ps (suc (k - 1)) = ap (λ (l : List (List ℕ)). startAt l (suc (k - 1))) joined ∙ start-ahead (getD s i 0) (partAt ps 0) (drop 1 ps) (k - 1) ∙ ap (λ (l : List (List ℕ)). 1 + startAt l (suc (k - 1))) (sym parts) in
+    ap (pieceFrom d s i) more
+    ∙ piece-eq (omega (arith, starts)) (ap (λ (l : List (List ℕ)). partAt l (suc (k - 1))) joined ∙ ap (λ (l : List (List ℕ)). partAt l (suc (k - 1))) (sym parts))
+    ∙ ap (pieceFrom d s (i + 1)) (sym more)
+
+-- nor for a block that ends before it begins: c is how many delimiters the block has
+pub piece-past : (d : ℕ) (s : List ℕ) (n i k c : ℕ) → i + n ≤ length s → c ≡ occurrences d (between s i (i + n)) → c < k → pieceFrom d s i k ≡ pieceFrom d s (i + n) (k - c)
+unfolding occurrences
+piece-past d s zero i k c h e few =
+    let size : i + 0 - i ≡ 0 = omega arith in
+    let none : c ≡ 0 = e ∙ ap (λ (m : ℕ). occurrences d (take m (drop i s))) size in
+    let same : k ≡ k - c = omega arith in
+    ap₂ (pieceFrom d s) (sym (add-zero i)) same
+piece-past d s (suc n) i k c h e few = by (ℕ-discrete (getD s i 0) d) (piece-past d s n (i + 1))
+  where
+    rest : ℕ
+    rest = occurrences d (between s (i + 1) (i + 1 + n))
+
+    counted : c ≡ cond (eqb (getD s i 0) d) 1 0 + rest
+    counted = e ∙ ap (occurrences d) (between-more s i n h)
+
+    past : i + 1 + n ≡ i + suc n
+    past = omega arith
+
+    by : Dec (getD s i 0 ≡ d) → ((k c : ℕ) → i + 1 + n ≤ length s → c ≡ rest → c < k → pieceFrom d s (i + 1) k ≡ pieceFrom d s (i + 1 + n) (k - c)) → pieceFrom d s i k ≡ pieceFrom d s (i + suc n) (k - c)
+    by (yes here) ih =
+        let one : c ≡ 1 + rest = counted ∙ rw (eq-eqb (getD s i 0) d here) in
+        let left : k - 1 - rest ≡ k - c = omega arith in
+        piece-next d s i (sym (end-here d s i (omega arith) here)) (omega arith) (omega arith) ∙ ih (k - 1) rest (omega arith) refl (omega arith) ∙ ap₂ (pieceFrom d s) past left
+    by (no other) ih =
+        let none : c ≡ rest = counted ∙ rw (ne-eqb (getD s i 0) d other) (omega arith) in
+        piece-later d s i k (omega arith) other (omega arith) ∙ ih k c (omega arith) none few ∙ ap (λ (at : ℕ). pieceFrom d s at (k - c)) past
 
 -- ---- `startAt` is right: a piece's bytes stand in s where it says
 abbrev pub Stands : List ℕ → Piece → Type 0

@@ -5,11 +5,15 @@ use mathlib.Core.List.{List}
 use lib.ListN.{length, take, drop}
 use denote.Ref.{RefT}
 use Rattle.hl7.specs.declared.cut.Span.{Span}
-use Rattle.hl7.specs.Cut.{Piece}
+use Rattle.hl7.specs.Cut.{cut, partAt, startAt, Piece}
 
 -- the bytes of s from start to end: what `&s[start..end]` holds
 abbrev pub between : List ℕ → ℕ → ℕ → List ℕ
 between s start end = take (end - start) (drop start s)
+
+-- piece k of what begins at `at`, as a piece of s
+abbrev pub pieceFrom : ℕ → List ℕ → ℕ → ℕ → Piece
+pieceFrom d s at k = record { start = at + startAt (cut d (drop at s)) k; bytes = partAt (cut d (drop at s)) k }
 
 -- r says where the piece p stands in s
 pub record Spans (s : List ℕ) (p : Piece) (r : Span) : Type 0 where

@@ -1,7 +1,7 @@
 // Refusals 1 to 5, in the order in which they are tried.
 use crate::bytes::begins_with;
 use crate::bytes::byte_at;
-use crate::cut::find;
+use crate::cut::find_far;
 use crate::place::Delims;
 use crate::place::delims_of;
 ghost use mathlib.Core.Path.{_≡_};
@@ -98,7 +98,7 @@ fn wrong_segment(d: Delims, m: &[u8]) -> Found
 {
     let mut at = 0;
     while at < m.len() {
-        let end = find(m, b'\r', at);
+        let end = find_far(m, b'\r', at);
         if end < m.len() {
             if !has_form(d, &m[at..end]) {
                 return Found::At(at);

@@ -6,7 +6,8 @@ use borrow.Author.Needs.{needs}
 use native.Mathlib.Omega.{arith}
 use lib.ListN.{length}
 use Rattle.hl7.specs.Cut.{cut, pieceAt}
-use Rattle.hl7.proofs.Cutting.{pieceFrom, piece-from-start, piece-here, piece-next, piece-none, end-within, spans-as, spans-missing, spans-between}
+use Rattle.hl7.specs.Spans.{pieceFrom}
+use Rattle.hl7.proofs.Cutting.{piece-here, piece-next, piece-none, end-within, spans-as, spans-missing, spans-between}
 use Rattle.hl7.proofs.cut.part.Statement.{statement}
 use Rattle.hl7.proofs.cut.part.Tie as tie
 
@@ -17,7 +18,7 @@ abbrev μ-loop : tie.MeasureT-loop
 μ-loop s d k n start₀ left₀ start left = left
 
 loop-holds : tie.Need-loop-holds Inv-loop μ-loop
-loop-holds c = (omega arith, piece-from-start _ _ _)
+loop-holds c = c .pass-parts .ensures
 
 find-requires : tie.Need-find-requires Inv-loop μ-loop
 find-requires c κs = tt
@@ -47,7 +48,7 @@ find-requires-2 c κs = tt
 returns-2 : tie.Need-returns-2 Inv-loop μ-loop
 returns-2 c =
     let at-loop = c .before .before in
-    let within = end-within (at-loop .before .before .args .d) (at-loop .before .before .args .s .now) (at-loop .loop .start) (at-loop .loop .inv .0) in
+    let within = end-within (at-loop .before .before .before .args .d) (at-loop .before .before .before .args .s .now) (at-loop .loop .start) (at-loop .loop .inv .0) in
     spans-as (at-loop .loop .inv .1 ∙ piece-here _ _ _ (c .find2 .ensures) (c .before .loop-test .left)) (spans-between _ _ _ (omega arith) (omega arith))
 
 pub part-spec : {M : Type 1} → statement M
@@ -56,6 +57,7 @@ part-spec =
     (tie.spec
     Inv-loop
     μ-loop
+    (λ c κs. tt)
     loop-holds
     find-requires
     returns

@@ -35,7 +35,7 @@ returns : tie.Need-returns Inv-loop μ-loop
 returns c =
     let at-if1 = c .before .before .before in
     let at-loop = at-if1 .before .before .before in
-    sym (ap firstOf (at-loop .loop .inv) ∙ segment-wrong _ _ _ (at-if1 .before .find .ensures) (at-if1 .if1 .taken) (sym (c .before .has-form .ensures) ∙ not-true _ (c .if2 .taken)))
+    sym (ap firstOf (at-loop .loop .inv) ∙ segment-wrong _ _ _ (at-if1 .before .find-far .ensures) (at-if1 .if1 .taken) (sym (c .before .has-form .ensures) ∙ not-true _ (c .if2 .taken)))
 
 add-at : tie.Need-add-at Inv-loop μ-loop
 add-at c = search needs
@@ -47,12 +47,12 @@ loop-again : tie.Need-loop-again Inv-loop μ-loop
 loop-again c =
     let at-if1 = c .before .before .before in
     let at-loop = at-if1 .before .before .before in
-    at-loop .loop .inv ∙ segment-right _ _ _ (at-if1 .before .find .ensures) (at-if1 .if1 .taken) (sym (c .before .has-form .ensures) ∙ not-false _ (c .if2 .left))
+    at-loop .loop .inv ∙ segment-right _ _ _ (at-if1 .before .find-far .ensures) (at-if1 .if1 .taken) (sym (c .before .has-form .ensures) ∙ not-false _ (c .if2 .left))
 
 returns-2 : tie.Need-returns-2 Inv-loop μ-loop
 returns-2 c =
     let at-loop = c .before .before .before in
-    sym (ap firstOf (at-loop .loop .inv) ∙ segment-open _ _ _ (c .before .find .ensures) (c .before .before .loop-test .taken) (c .if1 .left))
+    sym (ap firstOf (at-loop .loop .inv) ∙ segment-open _ _ _ (c .before .find-far .ensures) (c .before .before .loop-test .taken) (c .if1 .left))
 
 returns-3 : tie.Need-returns-3 Inv-loop μ-loop
 returns-3 c = sym (ap firstOf (c .before .loop .inv ∙ segments-over _ _ _ (c .loop-test .left)))

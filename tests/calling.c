@@ -1,0 +1,53 @@
+/* Calls the library as a C program would: the worked example, a refusal at each end, and a place. Says what differs. */
+#include "../include/jasminedo.h"
+
+#include <stdio.h>
+#include <string.h>
+
+static int wrong = 0;
+
+static void expect(const char *what, int holds) {
+    if (!holds) {
+        printf("calling: %s\n", what);
+        wrong = 1;
+    }
+}
+
+#define BYTES(s) (const uint8_t *)(s), sizeof(s) - 1
+
+int main(void) {
+    static const char message[] = "MSH|^~\\&|CAB|C1|REG|AX|20250113115900+0000||VXU^V04^VXU_V04|M1|P|2.5.1\r"
+                                  "PID|1||77||ROE^ANN||20240230\r";
+    static const char book[] = "VXB\0\1\1\2AX\0\3\0"
+                               "PID\7\1\4E\0\0\0"
+                               "PID\3\1\1E\0\0\0"
+                               "PID\10\0\1W\0\0\0";
+    static const char stamp[] = "20250113120000+0000";
+    static const char ack[] = "MSH|^~\\&|REG|AX|CAB|C1|20250113120000+0000||ACK^V04^ACK|7|P|2.5.1|||NE|NE|||||Z23^CDCPHINVS\r"
+                              "MSA|AE|M1\r"
+                              "ERR||PID^1^7^1^1|102^Data type error^HL70357|E|1^^L\r"
+                              "ERR||PID^1^8^1|101^Required field missing^HL70357|W|3^^L\r";
+    const size_t length = sizeof(ack) - 1;
+    uint8_t output[300];
+    memset(output, '.', sizeof(output));
+
+    uint64_t got = jasminedo_answer(BYTES(message), BYTES(book), BYTES(stamp), 7, output, length - 1);
+    expect("an output one byte short is refused with the length needed", jasminedo_number(got) == 11 && jasminedo_detail(got) == length);
+    expect("a refusal leaves the output", output[0] == '.' && output[length - 2] == '.');
+
+    got = jasminedo_answer(BYTES(message), BYTES(book), BYTES(stamp), 7, output, sizeof(output));
+    expect("the example is answered with its length", jasminedo_number(got) == 0 && jasminedo_detail(got) == length);
+    expect("the ACK is the example's", memcmp(output, ack, length) == 0);
+    expect("what follows the ACK is left", output[length] == '.' && output[sizeof(output) - 1] == '.');
+
+    got = jasminedo_check(output, 0);
+    expect("an empty message is refusal 1", jasminedo_number(got) == 1 && jasminedo_detail(got) == 0);
+    got = jasminedo_locate(BYTES(message), 2, 5, 1, 2);
+    expect("PID-5.2 is ANN", jasminedo_length(got) == 3 && memcmp(message + jasminedo_start(got), "ANN", 3) == 0);
+    got = jasminedo_locate(BYTES(message), 2, 8, 1, 1);
+    expect("PID-8 is missing", jasminedo_length(got) == 0);
+
+    if (!wrong)
+        printf("calling: as expected\n");
+    return wrong;
+}
