@@ -3,12 +3,15 @@ pub mod Naming
 pub mod Parts
 pub mod Holding
 pub mod Opening
+pub mod Encoded
+pub mod Decoded
 pub mod Counting
 pub mod Admitting
 pub mod Following
 pub mod Increasing
 pub mod Demand3
+pub mod Grading
 pub mod Samples
+pub mod BookSamples
 pub mod ValueSamples
 pub mod FindingSamples
-pub mod Grading

@@ -1,23 +1,23 @@
 -- What opening a book tells: which refusals apply, and, where none does, that the section found is the one with the key, sound. Assumes nothing.
-use Prim.Native.Nat.{ℕ, zero, suc, _-_, _≤_}
+use Prim.Native.Nat.{ℕ, zero, suc, _+_, _-_}
 use native.Mathlib.Omega.{arith}
 use mathlib.Core.Path.{_≡_, refl, sym, ap, subst, _∙_}
 use mathlib.Core.Bool.{Bool, true, false, cond, not, _&&_, _||_, false≢true}
 use mathlib.Core.List.{List, [], _∷_, map}
 use lib.Dec.{eqb, leb}
-use lib.ListN.{length}
+use lib.ListN.{length, getD}
 use borrow.Author.Tests.{leb-true, not-true, not-false}
-use Rattle.hl7.specs.Bytes.{within, same, among}
+use Rattle.hl7.specs.Bytes.{same, among}
 use Rattle.hl7.proofs.Comparing.{and-both, same-equal}
 use Rattle.grade.specs.declared.rule.Rule.{Rule}
 use Rattle.grade.specs.declared.walk.Section.{Section}
 use Rattle.grade.specs.declared.book.Opened.{Opened}
-use Rattle.grade.specs.Limits.{headSize, bookVersion, sectionLimit, ruleLimit, setLimit}
-use Rattle.grade.specs.Reader.{Reading, fault, found, isFound, itemsOf, check, byte, times}
-use Rattle.grade.specs.Book.{ruleIn, codeSet, Contents, Sited, section, distinct, keys, atEnd, sections, headRight, version, sitedIn, decoded, under, malformed, otherVersion, noSection, siteOf, opened}
+use Rattle.grade.specs.Limits.{headSize, bookVersion, ruleLimit, setLimit}
+use Rattle.grade.specs.Reader.{Reading, fault, found, isFound, itemsOf, times}
+use Rattle.grade.specs.Book.{Contents, Sited, section, distinct, keys, sections, headRight, version, sitedIn, decoded, under, malformed, otherVersion, noSection, siteOf, opened}
 use Rattle.grade.specs.Standing.{endOf, withKey, chosen, rulesIn, setsIn, Holds}
-use Rattle.grade.proofs.Readings.{then-found, found-same, check-found, row-found}
-use Rattle.grade.proofs.Parts.{SectionParts, section-parts}
+use Rattle.grade.proofs.Readings.{found-same, row-found}
+use Rattle.grade.proofs.Parts.{SectionParts, section-parts, book-parts}
 
 -- ---- the order in which the code goes gives the same
 
@@ -138,24 +138,6 @@ chosen-in b key (suc n) at all e q d m =
           only = rw k (w .only);
         }
 
--- the sections of a book that is sound
-sections-row : (b : List ℕ) (all : List Sited) (end : ℕ) → sections b headSize ≡ found all end →
-    (n : ℕ) × (at : ℕ) × (e : ℕ) × (times n section b at ≡ found all e) × (distinct (keys all) ≡ true)
-unfolding sections
-sections-row b all end h =
-    let s = then-found (byte b headSize) _ all end h in
-    let t = then-found (check (within 1 sectionLimit (s .0)) b (s .1)) _ all end (s .3) in
-    let u = then-found (times (s .0) section b (t .1)) _ all end (t .3) in
-    let v = then-found (atEnd b (u .1)) _ all end (u .3) in
-    let w = then-found (check (distinct (keys (u .0))) b (v .1)) _ all end (v .3) in
-    let e = found-same (u .0) all (w .1) end (w .3) .0 in (
-      s .0,
-      t .1,
-      u .1,
-      u .2 ∙ ap (λ (xs : List Sited). found xs (u .1)) e,
-      subst (λ (xs : List Sited). distinct (keys xs) ≡ true) e (check-found (distinct (keys (u .0))) b (v .1) (w .0) (w .1) (w .2) .0),
-    )
-
 -- the section found: the one section of the book with the key has its rules and its sets, and they can be read
 pub record Under (b key : List ℕ) (s : Section) : Type 0 where
   pub only : under key (decoded b) ≡ record { key = key; rules = rulesIn b s; sets = setsIn b s } ∷ []
@@ -198,9 +180,9 @@ opened-under b key s h =
     go fault e m p =
         absurd (false≢true (ap (λ (x : Reading (List Sited)). among key (keys (itemsOf x))) (sym e) ∙ m))
     go (found all end) e m p =
-        let q = sections-row b all end e in
+        let q = book-parts b all end e in
         let l : sitedIn b ≡ all = ap itemsOf e in
-        let c = chosen-in b key (q .0) (q .1) all (q .2) (q .3) (q .4) (subst (λ (xs : List Sited). among key (keys xs) ≡ true) l m) in
+        let c = chosen-in b key (getD b headSize 0) (headSize + 1) all (length b) (q .read) (q .differ) (subst (λ (xs : List Sited). among key (keys xs) ≡ true) l m) in
         chosen-under b key s
         (subst (λ (x : Section). Chosen b key x (sitedIn b)) p (subst (λ (xs : List Sited). Chosen b key (siteOf key xs) xs) (sym l) c))
 

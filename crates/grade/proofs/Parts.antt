@@ -1,11 +1,11 @@
 -- What a text, a set, a rule and a section that were read are made of. Assumes nothing.
 use Prim.Native.Nat.{ℕ, _+_, _-_, _*_, _<_, _≤_}
 use native.Mathlib.Omega.{arith}
-use mathlib.Core.Path.{_≡_, refl, sym, ap, ap₂, subst₂, _∙_}
-use mathlib.Core.Bool.{Bool, true, false, cond, _&&_, false≢true}
+use mathlib.Core.Path.{_≡_, refl, sym, ap, ap₂, subst, subst₂, _∙_}
+use mathlib.Core.Bool.{Bool, true, false, _&&_, false≢true}
 use mathlib.Core.List.{List, [], _∷_, map}
-use borrow.Author.Tests.{leb-true, ltb-true}
-use lib.Dec.{eqb, leb, ltb}
+use borrow.Author.Tests.{eqb-true}
+use lib.Dec.{eqb, leb}
 use lib.ListN.{length, getD}
 use lib.Seq.{slice}
 use Rattle.hl7.specs.Bytes.{within, all}
@@ -18,39 +18,47 @@ use Rattle.grade.specs.declared.rule.KindRead.{KindRead}
 use Rattle.grade.specs.declared.rule.SeverityRead.{SeverityRead}
 use Rattle.grade.specs.declared.rule.Rule.{Rule}
 use Rattle.grade.specs.declared.rule.RuleRead.{RuleRead}
-use Rattle.grade.specs.Limits.{keyLimit, ruleLimit, ruleSize, setLimit, codeLimit, codeCountLimit, segmentCount, fieldLimit, componentLimit}
+use Rattle.grade.specs.Limits.{headSize, sectionLimit, keyLimit, ruleLimit, ruleSize, setLimit, codeLimit, codeCountLimit}
 use Rattle.grade.specs.Reader.{Reading, fault, found, isFound, itemsOf, check, times, byte, run, pair, twoBytes}
-use Rattle.grade.specs.Rule.{unused, timeDigits, kindIf, kindOf, kindFits, segmentOf, firstField, severityOf, placeFits, placeOf, ruleWith, ruleOf, ruleFits}
-use Rattle.grade.specs.Book.{plain, keys, text, section, ruleIn, codeSet, Contents, Sited, ruleRead}
+use Rattle.grade.specs.Rule.{unused, timeDigits, kindIf, kindOf, kindFits, severityOf, placeFits, placeOf, ruleWith, ruleOf, ruleFits}
+use Rattle.grade.specs.Book.{plain, keys, text, section, ruleIn, codeSet, Sited, ruleRead, distinct, atEnd, sections}
 use Rattle.grade.specs.Standing.{endOf, textAt, TextFits, standsAt, sitedOf, sitedAt, noRule, SetStands}
-use Rattle.grade.proofs.Readings.{then-found, found-same, check-found, byte-found, run-found, two-found, ended, is-found, row-at, row-end, row-inside, row-found}
+use Rattle.grade.proofs.Readings.{then-found, found-same, check-found, byte-found, run-found, two-found, ended, is-found, row-end, row-inside, row-found, cond-gave}
 
 -- ---- texts
 
-pub record TextRead (b : List ℕ) (at : ℕ) (letters : List ℕ) (end : ℕ) : Type 0 where
+pub record TextRead (limit : ℕ) (b : List ℕ) (at : ℕ) (letters : List ℕ) (end : ℕ) : Type 0 where
   pub fits : TextFits b at
+  pub sized : within 1 limit (getD b at 0) ≡ true
+  pub plainly : all plain letters ≡ true
   pub is : letters ≡ textAt b at
   pub ends : end ≡ at + 1 + getD b at 0
 
-text-joined : (b : List ℕ) (at size from from′ after after′ end : ℕ) (letters letters′ : List ℕ) →
-    (at + 1 ≤ length b) × (size ≡ getD b at 0) × (from ≡ at + 1) → from′ ≡ from →
-    (from′ + size ≤ length b) × (letters′ ≡ slice from′ (from′ + size) b) × (after ≡ from′ + size) → after′ ≡ after →
-    found letters′ after′ ≡ found letters end → TextRead b at letters end
-text-joined b at size from from′ after after′ end letters letters′ h k l m n =
-    record { fits = record { starts = omega arith; ends = omega arith }; is = cc; ends = cc }
+text-joined : (limit : ℕ) (b : List ℕ) (at size from from′ after after′ end : ℕ) (letters letters′ : List ℕ) →
+    (at + 1 ≤ length b) × (size ≡ getD b at 0) × (from ≡ at + 1) → (within 1 limit size ≡ true) × (from′ ≡ from) →
+    (from′ + size ≤ length b) × (letters′ ≡ slice from′ (from′ + size) b) × (after ≡ from′ + size) → (all plain letters′ ≡ true) × (after′ ≡ after) →
+    found letters′ after′ ≡ found letters end → TextRead limit b at letters end
+text-joined limit b at size from from′ after after′ end letters letters′ h k l m n =
+    record {
+      fits = record { starts = omega (arith, k .1); ends = omega (arith, k .1) };
+      sized = rw (h .1) at (k .0);
+      plainly = rw (found-same letters′ letters after′ end n .0) at (m .0);
+      is = cc (k .1);
+      ends = cc (k .1, m .1);
+    }
 
-pub text-read : (limit : ℕ) (b : List ℕ) (at : ℕ) (letters : List ℕ) (end : ℕ) → text limit b at ≡ found letters end → TextRead b at letters end
+pub text-read : (limit : ℕ) (b : List ℕ) (at : ℕ) (letters : List ℕ) (end : ℕ) → text limit b at ≡ found letters end → TextRead limit b at letters end
 unfolding text
 text-read limit b at letters end h =
     let s = then-found (byte b at) _ letters end h in
     let t = then-found (check (within 1 limit (s .0)) b (s .1)) _ letters end (s .3) in
     let u = then-found (run (s .0) b (t .1)) _ letters end (t .3) in
     let v = then-found (check (all plain (u .0)) b (u .1)) _ letters end (u .3) in
-    text-joined b at (s .0) (s .1) (t .1) (u .1) (v .1) end letters (u .0)
+    text-joined limit b at (s .0) (s .1) (t .1) (u .1) (v .1) end letters (u .0)
     (byte-found b at (s .0) (s .1) (s .2))
-    (check-found (within 1 limit (s .0)) b (s .1) (t .0) (t .1) (t .2) .1)
+    (check-found (within 1 limit (s .0)) b (s .1) (t .0) (t .1) (t .2))
     (run-found (s .0) b (t .1) (u .0) (u .1) (u .2))
-    (check-found (all plain (u .0)) b (u .1) (v .0) (v .1) (v .2) .1)
+    (check-found (all plain (u .0)) b (u .1) (v .0) (v .1) (v .2))
     (v .3)
 
 -- a text ends within the book
@@ -61,6 +69,15 @@ text-inside limit b at end h =
     omega (arith, t .ends, t .fits .ends)
 
 -- ---- sets
+
+-- what was checked of a set that was read
+pub set-count : (b : List ℕ) (at : ℕ) (set : List (List ℕ)) (end : ℕ) → codeSet b at ≡ found set end → within 1 codeCountLimit (pair b at) ≡ true
+unfolding codeSet
+set-count b at set end h =
+    let s = then-found (twoBytes b at) _ set end h in
+    let t = then-found (check (within 1 codeCountLimit (s .0)) b (s .1)) _ set end (s .3) in
+    let u = two-found b at (s .0) (s .1) (s .2) in
+    ap (within 1 codeCountLimit) (sym (u .1)) ∙ check-found (within 1 codeCountLimit (s .0)) b (s .1) (t .0) (t .1) (t .2) .0
 
 -- a set that stands at a position is the codes after its two bytes of count
 pub set-is : (b : List ℕ) (at : ℕ) → SetStands b at → (at + 2 ≤ length b) × ((count : ℕ) → count ≡ pair b at → codeSet b at ≡ times count (text codeLimit) b (at + 2))
@@ -115,10 +132,6 @@ rule-found sets b at r e h =
     go (RuleRead.Is rule) m k = (cc, cc)
     go RuleRead.Fault m k = let z : _≡_ {A = ℕ} 0 1 = cc in absurd (omega arith)
 
-cond-is : {G : Type 0} (t : Bool) (x y : KindRead) (kind : Kind) → (x ≡ KindRead.Is kind → G) → (y ≡ KindRead.Is kind → G) → cond t x y ≡ KindRead.Is kind → G
-cond-is true x y kind f g h = f h
-cond-is false x y kind f g h = g h
-
 -- a kind that was read is within its limits
 module _ (sets : ℕ) (kind : Kind) where
   branch : (t : Bool) (made : Kind) → (t ≡ true → kindFits sets made ≡ true) → kindIf t made ≡ KindRead.Is kind → kindFits sets kind ≡ true
@@ -128,12 +141,12 @@ module _ (sets : ℕ) (kind : Kind) where
   kind-fits : (number set low high : ℕ) → kindOf number sets set low high ≡ KindRead.Is kind → kindFits sets kind ≡ true
   unfolding kindOf
   kind-fits number set low high =
-      cond-is (eqb number 1) _ _ kind (branch (unused set && unused low && unused high) Kind.Required (λ t. refl))
-      (cond-is (eqb number 2) _ _ kind (branch _ (Kind.Length low high) (λ t. and-both (unused set) (within 1 high low) t .1))
-      (cond-is (eqb number 3) _ _ kind (branch (unused set && unused low && unused high) Kind.Number (λ t. refl))
-      (cond-is (eqb number 4) _ _ kind (branch (unused set && unused low && unused high) Kind.Date (λ t. refl))
-      (cond-is (eqb number 5) _ _ kind (branch _ (Kind.Time low) (λ t. and-both (unused set) (timeDigits low) (and-both _ (unused high) t .0) .1))
-      (cond-is (eqb number 6) _ _ kind (branch _ (Kind.Code set) (λ t. and-both (within 1 sets set) (unused low) (and-both _ (unused high) t .0) .0))
+      cond-gave (eqb number 1) _ _ (KindRead.Is kind) (λ _. branch (unused set && unused low && unused high) Kind.Required (λ t. refl))
+      (cond-gave (eqb number 2) _ _ (KindRead.Is kind) (λ _. branch _ (Kind.Length low high) (λ t. and-both (unused set) (within 1 high low) t .1))
+      (cond-gave (eqb number 3) _ _ (KindRead.Is kind) (λ _. branch (unused set && unused low && unused high) Kind.Number (λ t. refl))
+      (cond-gave (eqb number 4) _ _ (KindRead.Is kind) (λ _. branch (unused set && unused low && unused high) Kind.Date (λ t. refl))
+      (cond-gave (eqb number 5) _ _ (KindRead.Is kind) (λ _. branch _ (Kind.Time low) (λ t. and-both (unused set) (timeDigits low) (and-both _ (unused high) t .0) .1))
+      (cond-gave (eqb number 6) _ _ (KindRead.Is kind) (λ _. branch _ (Kind.Code set) (λ t. and-both (within 1 sets set) (unused low) (and-both _ (unused high) t .0) .0))
       (λ h. none h))))))
     where
       none : KindRead.Fault ≡ KindRead.Is kind → kindFits sets kind ≡ true
@@ -267,11 +280,44 @@ site-is b at counts h k =
     let i = row-inside (ruleIn sets) b (λ at r e q. rw (rule-found sets b at r e q .2) (rule-found sets b at r e q .0)) n from (c .contents .rules) to (rw (p .rulesAt) (p .inside)) (p .rulesRead) in
     rw (k, ← t .ends) (site-joined b at (p .counts) n sets from to (c .place) (t .fits) refl (p .rulesAt) (p .ruleCount) (p .setCount) e i)
 
+-- ---- the book
+
+-- the row of sections of a book, and what was checked besides
+pub record BookParts (b : List ℕ) (all : List Sited) : Type 0 where
+  pub room : headSize + 1 ≤ length b
+  pub few : within 1 sectionLimit (getD b headSize 0) ≡ true
+  pub read : times (getD b headSize 0) section b (headSize + 1) ≡ found all (length b)
+  pub differ : distinct (keys all) ≡ true
+
+pub book-parts : (b : List ℕ) (all : List Sited) (end : ℕ) → sections b headSize ≡ found all end → BookParts b all
+unfolding sections
+book-parts b all end h =
+    let s = then-found (byte b headSize) _ all end h in
+    let t = then-found (check (within 1 sectionLimit (s .0)) b (s .1)) _ all end (s .3) in
+    let u = then-found (times (s .0) section b (t .1)) _ all end (t .3) in
+    let v = then-found (atEnd b (u .1)) _ all end (u .3) in
+    let w = then-found (check (distinct (keys (u .0))) b (v .1)) _ all end (v .3) in
+    put (s .0) (s .1) (t .1) (u .1) (u .0) (byte-found b headSize (s .0) (s .1) (s .2)) (check-found (within 1 sectionLimit (s .0)) b (s .1) (t .0) (t .1) (t .2)) (u .2)
+    (eqb-true (u .1) (length b) (check-found (eqb (u .1) (length b)) b (u .1) (v .0) (v .1) (v .2) .0))
+    (check-found (distinct (keys (u .0))) b (v .1) (w .0) (w .1) (w .2) .0) (found-same (u .0) all (w .1) end (w .3) .0)
+  where
+    put : (count from from′ last : ℕ) (all′ : List Sited) → (headSize + 1 ≤ length b) × (count ≡ getD b headSize 0) × (from ≡ headSize + 1) →
+        (within 1 sectionLimit count ≡ true) × (from′ ≡ from) → times count section b from′ ≡ found all′ last → last ≡ length b →
+        distinct (keys all′) ≡ true → all′ ≡ all → BookParts b all
+    put count from from′ last all′ h k q e d l =
+        let a : from′ ≡ headSize + 1 = k .1 ∙ h .2 in
+        record {
+          room = h .0;
+          few = rw (h .1) at (k .0);
+          read = rw (← h .1, ← a) (q ∙ ap₂ found l e);
+          differ = subst (λ (xs : List Sited). distinct (keys xs) ≡ true) l d;
+        }
+
 -- ---- codes, one after the other
 
 -- the first of the codes that are left: it stands within the book, and the others follow it
 module _ (b : List ℕ) (left from : ℕ) (h : 0 < left) (f : isFound (times left (text codeLimit) b from) ≡ true) where
-  first-code : (a : List ℕ) × (rest : List (List ℕ)) × (end last : ℕ) × TextRead b from a end
+  first-code : (a : List ℕ) × (rest : List (List ℕ)) × (end last : ℕ) × TextRead codeLimit b from a end
       × (times (left - 1) (text codeLimit) b end ≡ found rest last)
       × (times left (text codeLimit) b from ≡ found (a ∷ rest) last)
   first-code =

@@ -69,6 +69,11 @@ then-found (found a m) k v e h = (a, m, refl, h)
 pub found-same : {A : Type 0} (a a′ : A) (e e′ : ℕ) → found a e ≡ found a′ e′ → (a ≡ a′) × (e ≡ e′)
 found-same a a′ e e′ h = (cc, cc)
 
+-- which case of a decision gave an answer
+pub cond-gave : {R G : Type 0} (t : Bool) (x y v : R) → (t ≡ true → x ≡ v → G) → (y ≡ v → G) → cond t x y ≡ v → G
+cond-gave true x y v f g h = f refl h
+cond-gave false x y v f g h = g h
+
 -- a reading under a test
 pub cond-found : {A : Type 0} (t : Bool) (r : Reading A) (v : A) (e : ℕ) → cond t r fault ≡ found v e → (t ≡ true) × (r ≡ found v e)
 cond-found true r v e h = (refl, h)

@@ -1,14 +1,14 @@
 -- What a rule book is, read from its bytes (01, "The rule book"), and what opening it answers (01, rows 7 to 9).
-use Prim.Native.Nat.{ℕ, _+_}
+use Prim.Native.Nat.{ℕ}
 use Prim.Native.Char.{code}
-use mathlib.Core.Bool.{Bool, true, false, cond, not, _&&_, _||_}
+use mathlib.Core.Bool.{Bool, true, cond, not, _&&_, _||_}
 use mathlib.Core.List.{List, [], _∷_, map}
 use lib.Dec.{eqb, leb}
-use lib.ListN.{length, getD}
+use lib.ListN.{length}
 use Rattle.hl7.specs.Text.{bytes}
 use Rattle.hl7.specs.Bytes.{within, all, same, among, begins}
 use Rattle.grade.specs.Limits.{bookLimit, headSize, bookVersion, sectionLimit, keyLimit, ruleLimit, ruleSize, setLimit, codeCountLimit, codeLimit}
-use Rattle.grade.specs.Reader.{Reading, fault, found, isFound, itemsOf, Reader, _>>=_, _>>_, give, here, check, byte, pair, twoBytes, run, times}
+use Rattle.grade.specs.Reader.{fault, found, isFound, itemsOf, Reader, _>>=_, _>>_, give, here, check, byte, pair, twoBytes, run, times}
 use Rattle.grade.specs.Rule.{ruleOf}
 use Rattle.grade.specs.declared.rule.Rule.{Rule}
 use Rattle.grade.specs.declared.rule.RuleRead.{RuleRead}

@@ -2,6 +2,7 @@ pub mod Limits
 pub mod Reader
 pub mod Rule
 pub mod Book
+pub mod Encoding
 pub mod Digits
 pub mod Calendar
 pub mod Values

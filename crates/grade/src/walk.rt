@@ -168,14 +168,14 @@ fn set_end(book: &[u8], at: usize) -> Next
 fn sets_end(book: &[u8], at: usize, count: usize) -> Next
     ensures { λ r. ⌜ r ≡ endOf (times count codeSet (now (book .entry)) at) ⌝ }
 {
-    let mut left = count;
+    let mut sets = count;
     let mut from = at;
-    while 0 < left {
+    while 0 < sets {
         match set_end(book, from) {
             Next::At(end) => from = end,
             Next::Fault => return Next::Fault,
         }
-        left -= 1;
+        sets -= 1;
     }
     Next::At(from)
 }

@@ -1,5 +1,4 @@
 -- `grade::book::site_at` meets its contract: the place is the one that a section has (`site-is`). Assumes nothing.
-use mathlib.Core.Path.{refl}
 use native.Mathlib.Omega.{arith}
 use denote.Ref.{now}
 use Rattle.grade.proofs.Parts.{site-is, stands-key}

@@ -1,5 +1,5 @@
 -- `grade::lookup::rule_at` meets its contract: the ten bytes at the computed place are the rule's (`its-bytes`). Assumes nothing.
-use Prim.Native.Nat.{ℕ, _+_, _-_, _*_, _≤_}
+use Prim.Native.Nat.{ℕ, _+_, _-_, _*_}
 use mathlib.Core.Path.{_≡_, sym, ap, _∙_}
 use mathlib.Core.List.{List}
 use native.Mathlib.Omega.{arith}

@@ -6,7 +6,6 @@ use mathlib.Core.List.{List}
 use denote.Ref.{now}
 use lib.ListN.{getD}
 use Rattle.grade.specs.Rule.{segmentOf, severityOf, kindOf, placeFits, ruleWith, ruleOf}
-use Rattle.grade.specs.declared.rule.Place.{Place}
 use Rattle.grade.specs.declared.rule.SeverityRead.{SeverityRead}
 use Rattle.grade.specs.declared.rule.KindRead.{KindRead}
 use Rattle.grade.specs.declared.rule.RuleRead.{RuleRead}

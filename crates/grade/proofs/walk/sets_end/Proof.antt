@@ -11,10 +11,10 @@ use Rattle.grade.proofs.walk.sets_end.Statement.{statement}
 use Rattle.grade.proofs.walk.sets_end.Tie as tie
 
 abbrev Inv-loop : tie.InvT-loop
-Inv-loop book at count left₀ from₀ left from = endOf (times left codeSet book from) ≡ endOf (times count codeSet book at)
+Inv-loop book at count sets₀ from₀ sets from = endOf (times sets codeSet book from) ≡ endOf (times count codeSet book at)
 
 abbrev μ-loop : tie.MeasureT-loop
-μ-loop book at count left₀ from₀ left from = left
+μ-loop book at count sets₀ from₀ sets from = sets
 
 loop-holds : tie.Need-loop-holds Inv-loop μ-loop
 loop-holds c = search needs
@@ -32,11 +32,11 @@ returns : tie.Need-returns Inv-loop μ-loop
 returns c =
     let a = c .before .before .before .before .before .before .args in
     let l = c .before .before .before .before .loop in
-    sym (times-fault codeSet (now (a .book)) (l .left) (l .from) (omega arith) (sym (c .before .before .set-end .ensures) ∙ c .enum-told .given .1))
+    sym (times-fault codeSet (now (a .book)) (l .sets) (l .from) (omega arith) (sym (c .before .before .set-end .ensures) ∙ c .enum-told .given .1))
     ∙ l .inv
 
-sub-left : tie.Need-sub-left Inv-loop μ-loop
-sub-left c = search needs
+sub-sets : tie.Need-sub-sets Inv-loop μ-loop
+sub-sets c = search needs
 
 loop-less : tie.Need-loop-less Inv-loop μ-loop
 loop-less c = search needs
@@ -45,14 +45,14 @@ loop-again : tie.Need-loop-again Inv-loop μ-loop
 loop-again c =
     let a = c .before .before .before .before .before .before .before .args in
     let l = c .before .before .before .before .before .loop in
-    sym (times-next codeSet (now (a .book)) (l .left) (l .from) _ (omega arith) (sym (c .before .before .before .set-end .ensures) ∙ c .before .end .given .1))
+    sym (times-next codeSet (now (a .book)) (l .sets) (l .from) _ (omega arith) (sym (c .before .before .before .set-end .ensures) ∙ c .before .end .given .1))
     ∙ l .inv
 
 returns-2 : tie.Need-returns-2 Inv-loop μ-loop
 returns-2 c =
     let a = c .before .before .before .args in
     let l = c .before .loop in
-    sym (times-none codeSet (now (a .book)) (l .left) (l .from) (omega arith)) ∙ l .inv
+    sym (times-none codeSet (now (a .book)) (l .sets) (l .from) (omega arith)) ∙ l .inv
 
 pub sets-end-spec : {M : Type 1} → statement M
 sets-end-spec =
@@ -65,7 +65,7 @@ sets-end-spec =
     enum-known-end
     enum-told
     returns
-    sub-left
+    sub-sets
     loop-less
     loop-again
     returns-2)
