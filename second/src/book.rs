@@ -73,7 +73,7 @@ impl Rule {
     }
 
     /// Whether a value that is to be judged breaks the rule.
-    pub fn broken(&self, value: &[u8], sets: &mut [Set]) -> bool {
+    pub fn broken(&self, value: &[u8], sets: &[Set]) -> bool {
         match self.kind {
             Kind::Required => value.is_empty(),
             Kind::Length { low, high } => !(usize::from(low)..=high.into()).contains(&value.len()),
@@ -164,15 +164,12 @@ fn read_set<'b>(bytes: &mut Bytes<'b>) -> Option<Set<'b>> {
     for _ in 0..count {
         bytes.word()?;
     }
-    Some(Set { codes: &codes[..codes.len() - bytes.rest.len()], count, asked: 0, sorted: None })
+    Some(Set { codes: &codes[..codes.len() - bytes.rest.len()] })
 }
 
 /// A set of codes, each a length byte and its bytes.
 pub struct Set<'b> {
     codes: &'b [u8],
-    count: usize,
-    asked: usize,
-    sorted: Option<Vec<&'b [u8]>>,
 }
 
 impl<'b> Set<'b> {
@@ -184,17 +181,8 @@ impl<'b> Set<'b> {
         })
     }
 
-    /// Whether the value equals a code. A large set that is asked often is sorted once.
-    pub fn holds(&mut self, value: &[u8]) -> bool {
-        if let Some(sorted) = &self.sorted {
-            return sorted.binary_search(&value).is_ok();
-        }
-        self.asked += 1;
-        if self.count > 16 && self.asked > 16 {
-            let mut sorted: Vec<&[u8]> = self.codes().collect();
-            sorted.sort_unstable();
-            self.sorted = Some(sorted);
-        }
+    /// Whether the value equals a code.
+    pub fn holds(&self, value: &[u8]) -> bool {
         self.codes().any(|code| code == value)
     }
 }
@@ -321,20 +309,6 @@ mod tests {
             b"PID\x01\0\x06E\x01\0\x01",
         ] {
             assert!(!good(bad), "{bad:?}");
-        }
-    }
-
-    #[test]
-    fn large_sets_answer_alike_before_and_after_sorting() {
-        let words: Vec<u8> = (0..40u8).flat_map(|k| [2, b'A' + k / 10, b'0' + k % 10]).collect();
-        let mut set = Set { codes: &words, count: 40, asked: 0, sorted: None };
-        for _ in 0..3 {
-            for k in 0..40u8 {
-                assert!(set.holds(&[b'A' + k / 10, b'0' + k % 10]));
-            }
-            for other in [b"".as_slice(), b"A", b"A00", b"a0", b"E0"] {
-                assert!(!set.holds(other));
-            }
         }
     }
 }

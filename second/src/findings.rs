@@ -75,7 +75,7 @@ pub fn first_value<'m>(message: Message<'m>, fields: &Fields, field: usize, comp
 
 fn grade_segments(message: Message, section: &Section, found: &mut impl FnMut(Finding)) {
     let rules = RulesByName::new(section);
-    let mut sets = section.sets();
+    let sets = section.sets();
     let mut fields = Fields::new();
     let mut numbers = [0u32; NAMES.len()];
     let mut before: Option<Name> = None;
@@ -103,7 +103,7 @@ fn grade_segments(message: Message, section: &Section, found: &mut impl FnMut(Fi
             for (repetition, part) in (1..).zip(message.repetitions(part)) {
                 let value = message.text(message.component(part, component.into()));
                 let judged = rule.kind == Kind::Required || !value.is_empty();
-                if judged && rule.broken(value, &mut sets) {
+                if judged && rule.broken(value, &sets) {
                     let place = Place::Value { name, number, field, repetition, component };
                     found(Finding { place, code: code_of(rule.kind), severity, rule: rule_number });
                 }
