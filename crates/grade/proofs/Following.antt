@@ -17,18 +17,17 @@ at-count f none n zero i h = absurd (omega arith)
 at-count f none n (suc k) zero h = let e : n ≡ n + 0 = omega arith in ap f e
 at-count f none n (suc k) (suc i) h = let e : suc n + i ≡ n + suc i = omega arith in at-count f none (suc n) k i (omega arith) ∙ ap f e
 
-module _ (follows : ℕ → ℕ → Bool) where
-  says-so : (before name : ℕ) → before < 10 → name ≤ 10 → tableSays (tableOf follows) before name ≡ follows before name
-  says-so before name h k =
-      ap (λ (row : List Bool). getD row name false) (at-count (λ (a : ℕ). map (follows a) (countFrom 0 11)) [] 0 10 before h)
-      ∙ at-count (follows (0 + before)) false 0 11 name (omega arith)
-      ∙ (let e : 0 + before ≡ before = omega arith in let d : 0 + name ≡ name = omega arith in λ i. follows (e i) (d i))
+says-so : (follows : ℕ → ℕ → Bool) (before name : ℕ) → before < 10 → name ≤ 10 → tableSays (tableOf follows) before name ≡ follows before name
+says-so follows before name h k =
+    ap (λ (row : List Bool). getD row name false) (at-count (λ (a : ℕ). map (follows a) (countFrom 0 11)) [] 0 10 before h)
+    ∙ at-count (follows (0 + before)) false 0 11 name (omega arith)
+    ∙ (let e : 0 + before ≡ before = omega arith in let d : 0 + name ≡ name = omega arith in λ i. follows (e i) (d i))
 
-  -- the order by the table is the order, at any two numbers
-  pub by-table : outOfOrder (tableSays (tableOf follows)) ≡ outOfOrder follows
-  by-table i before name = at before name (counted before) refl (leb name atEnd) refl i
-    where
-      at : (before name : ℕ) (p : Bool) → counted before ≡ p → (q : Bool) → leb name atEnd ≡ q → outOfOrder (tableSays (tableOf follows)) before name ≡ outOfOrder follows before name
-      at before name true p true q = ap (λ (b : Bool). counted before && (leb name atEnd && not b)) (says-so before name (ltb-true before 10 p) (leb-true name 10 q))
-      at before name true p false q = rw (p, q)
-      at before name false p q d = rw p
+-- the order by its table is the order, at any two numbers
+pub by-table : (table : List (List Bool)) (follows : ℕ → ℕ → Bool) → table ≡ tableOf follows → outOfOrder (tableSays table) ≡ outOfOrder follows
+by-table table follows right = ap (λ (t : List (List Bool)). outOfOrder (tableSays t)) right ∙ (λ i before name. at before name (counted before) refl (leb name atEnd) refl i)
+  where
+    at : (before name : ℕ) (p : Bool) → counted before ≡ p → (q : Bool) → leb name atEnd ≡ q → outOfOrder (tableSays (tableOf follows)) before name ≡ outOfOrder follows before name
+    at before name true p true q = ap (λ (t : Bool). counted before && (leb name atEnd && not t)) (says-so follows before name (ltb-true before 10 p) (leb-true name 10 q))
+    at before name true p false q = rw (p, q)
+    at before name false p q d = rw p

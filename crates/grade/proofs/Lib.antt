@@ -10,6 +10,12 @@ pub mod Admitting
 pub mod Following
 pub mod Increasing
 pub mod Demand3
+pub mod ByPlace
+pub mod Repetitions
+pub mod Judging
+pub mod Segments
+pub mod Stepping
+pub mod Few
 pub mod Grading
 pub mod Samples
 pub mod BookSamples

@@ -14,3 +14,4 @@ pub mod Header
 pub mod Admission
 pub mod Grading
 pub mod Standing
+pub mod Rest

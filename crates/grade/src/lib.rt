@@ -1,6 +1,7 @@
 // Grading: the rule book, values, segment order, findings.
 pub mod admit;
 pub mod book;
+pub mod broken;
 pub mod date;
 pub mod finding;
 pub mod header;
@@ -8,5 +9,7 @@ pub mod limits;
 pub mod lookup;
 pub mod order;
 pub mod rule;
+pub mod step;
 pub mod value;
 pub mod walk;
+pub mod within;

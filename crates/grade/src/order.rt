@@ -1,6 +1,6 @@
 // The order of the segments.
 ghost use mathlib.Core.Path.{_≡_};
-ghost use Rattle.grade.specs.Order.{mayFollow, outOfOrder, tableSays};
+ghost use Rattle.grade.specs.Order.{outOfOrder, tableSays};
 
 // Which name, or the end in the last column, may follow which: rows and columns are MSH PID PD1 NK1 PV1 ORC RXA RXR OBX NTE.
 pub const FOLLOW: [[bool; 11]; 10] = [
@@ -147,11 +147,4 @@ pub fn out_of_order(table: &[[bool; 11]; 10], before: usize, name: usize) -> boo
         return false;
     }
     !table[before][name]
-}
-
-// The same by 01's table.
-pub fn breaks_order(before: usize, name: usize) -> bool
-    ensures { λ r. ⌜ r ≡ outOfOrder mayFollow before name ⌝ }
-{
-    out_of_order(&FOLLOW, before, name)
 }

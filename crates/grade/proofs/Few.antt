@@ -1,0 +1,111 @@
+-- How many findings a message can have at most: one for each place that there is. Assumes nothing.
+use Prim.Native.Nat.{ℕ, zero, suc, _+_, _*_, _-_, _≤_}
+use mathlib.Core.Path.{_≡_, refl, ap, sym, _∙_}
+use mathlib.Core.Bool.{Bool, true, false, cond}
+use mathlib.Core.List.{List, [], _∷_, _++_, map}
+use native.Mathlib.Omega.{arith}
+use native.Mathlib.Nat.{le-trans, mul-le-mul-left, mul-le-mul-right}
+use lib.ListN.{length, getD, take, drop, length-take, length-drop, length-append, length-map}
+use lib.Dec.{eqb}
+use Rattle.hl7.specs.Cut.{cut, ahead, partAt, pieceAt, butLast}
+use Rattle.hl7.specs.Place.{delimsOf, segmentsOf, cutUnless, partOfField, isMsh, fieldOf, neverCut, repetitionsOf}
+use Rattle.hl7.specs.declared.place.Delims.{Delims}
+use Rattle.hl7.proofs.Cutting.{piece-stands}
+use Rattle.grade.specs.Strict.{keep, countFrom, pairsFrom}
+use Rattle.grade.specs.Findings.{valuesOf, breaks, turns, places, findings, findingOf, ruleOf, segmentAt}
+use Rattle.grade.specs.declared.rule.Rule.{Rule}
+use Rattle.grade.specs.declared.finding.Finding.{Finding}
+
+-- ---- the lists that places are made of
+keep-few : {A : Type 0} (test : A → Bool) (l : List A) → length (keep test l) ≤ length l
+unfolding keep
+keep-few test [] = omega arith
+keep-few {A} test (x ∷ l) = by (test x) (keep-few test l)
+  where
+    by : (b : Bool) → length (keep test l) ≤ length l → length (cond b (x ∷ keep test l) (keep test l)) ≤ suc (length l)
+    by true ih = omega arith
+    by false ih = omega arith
+
+count-few : (n k : ℕ) → length (countFrom n k) ≡ k
+unfolding countFrom
+count-few n zero = refl
+count-few n (suc k) = ap suc (count-few (suc n) k)
+
+pairs-few : {A : Type 0} (n k b : ℕ) (f : ℕ → List A) → ((i : ℕ) → length (f i) ≤ b) → length (pairsFrom n k f) ≤ k * b
+unfolding pairsFrom
+pairs-few n zero b f h = omega arith
+pairs-few {A} n (suc k) b f h =
+    simp (length-append, length-map) (omega (arith, h n, pairs-few (suc n) k b f h))
+
+-- ---- the parts of a cut
+cut-few : (d : ℕ) (s : List ℕ) → length (cut d s) ≤ length s + 1
+unfolding cut ahead
+cut-few d [] = omega arith
+cut-few d (x ∷ s) = by (eqb x d) (cut-few d s)
+  where
+    by : (b : Bool) → length (cut d s) ≤ length s + 1 → length (ahead b x (cut d s)) ≤ length (x ∷ s) + 1
+    by true ih = omega arith
+    by false ih = omega (arith, length-drop 1 (cut d s))
+
+part-short : (d : ℕ) (s : List ℕ) (k : ℕ) → length (partAt (cut d s) k) ≤ length s
+part-short d s k = omega (arith, ap length (piece-stands d s k), length-take (length (partAt (cut d s) k)) (drop (pieceAt (cut d s) k .start) s), length-drop (pieceAt (cut d s) k .start) s)
+
+ended-few : (ps : List (List ℕ)) → length (butLast ps) ≤ length ps - 1
+unfolding butLast
+ended-few [] = omega arith
+ended-few (p ∷ []) = omega arith
+ended-few (p ∷ (q ∷ ps)) = omega (arith, ended-few (q ∷ ps))
+
+ended-short : (ps : List (List ℕ)) (k : ℕ) → length (partAt (butLast ps) k) ≤ length (partAt ps k)
+unfolding butLast
+ended-short [] k = omega arith
+ended-short (p ∷ []) k = omega arith
+ended-short (p ∷ (q ∷ ps)) zero = omega arith
+ended-short (p ∷ (q ∷ ps)) (suc k) = ended-short (q ∷ ps) k
+
+-- ---- segments, fields, repetitions
+field-short : (msh : Bool) (bar : ℕ) (seg : List ℕ) (f : ℕ) → length (partOfField msh bar seg f .bytes) ≤ length seg
+unfolding partOfField
+field-short msh bar seg zero = omega arith
+field-short true bar seg (suc zero) = omega (arith, length-take 1 (drop 3 seg), length-drop 3 seg)
+field-short true bar seg (suc (suc k)) = part-short bar seg (suc k)
+field-short false bar seg (suc k) = part-short bar seg (suc k)
+
+whole-few : (b : Bool) (d : ℕ) (s : List ℕ) → length (cutUnless b d s) ≤ length s + 1
+unfolding cutUnless
+whole-few true d s = omega arith
+whole-few false d s = cut-few d s
+
+values-few : (d : Delims) (rule : Rule) (seg : List ℕ) → length (valuesOf d rule seg) ≤ length seg + 1
+unfolding repetitionsOf
+values-few d rule seg =
+    simp length-map
+    (omega (arith, whole-few (neverCut seg (rule .place .field)) (d .tilde) (fieldOf d seg (rule .place .field) .bytes), field-short (isMsh seg) (d .bar) seg (rule .place .field)))
+
+module _ (o : ℕ → ℕ → Bool) (c : List Rule) (t : List (List (List ℕ))) (m : List ℕ) where
+  turns-few : (n j : ℕ) → turns o c t m n j ≤ length m + 1
+  turns-few n zero = omega arith
+  turns-few n (suc i) =
+      omega (arith, values-few (delimsOf m) (ruleOf o c t m i) (segmentAt o c t m n), ended-short (cut 13 m) n, part-short 13 m n)
+
+  places-few : length (places o c t m) ≤ suc (length (segmentsOf m)) * (suc (length c) * (length m + 1))
+  places-few = pairs-few _ _ _ _ (λ n. pairs-few _ _ _ _ (λ j. omega (arith, count-few 0 (turns o c t m n j), turns-few n j)))
+
+  -- a segment has its CR, a repetition after the first its tilde
+  pub findings-within : length (findings o c t m) ≤ (length m + 1) * ((length c + 1) * (length m + 1))
+  unfolding findings
+  findings-within =
+      let each : ℕ = suc (length c) * (length m + 1) in
+      let segments : suc (length (segmentsOf m)) ≤ length m + 1 = omega (arith, ended-few (cut 13 m), cut-few 13 m) in
+      let more : suc (length (segmentsOf m)) * each ≤ (length m + 1) * each = mul-le-mul-right each segments in
+      let kept = keep-few (breaks o c t m) (places o c t m) in
+      let rules : suc (length c) ≡ length c + 1 = omega arith in
+      rw (length-map, ← rules) (omega (arith, places-few))
+
+  pub findings-few : length m ≤ 32768 → length c ≤ 256 → length (findings o c t m) ≤ 32769 * (257 * 32769)
+  findings-few h k =
+      let bytes : length m + 1 ≤ 32769 = omega arith in
+      let rules : length c + 1 ≤ 257 = omega arith in
+      le-trans findings-within
+      (le-trans (mul-le-mul-right ((length c + 1) * (length m + 1)) bytes)
+      (mul-le-mul-left 32769 (le-trans (mul-le-mul-right (length m + 1) rules) (mul-le-mul-left 257 bytes))))

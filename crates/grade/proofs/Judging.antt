@@ -1,0 +1,216 @@
+-- Judging one segment: what each function of `within` adds to the list of what is still to come. Assumes nothing.
+use Prim.Native.Nat.{ℕ, _+_, _-_, _≤_, _<_}
+use mathlib.Core.Path.{_≡_, refl, sym, ap, ap₂, subst, subst⁻¹, subst₂, _∙_}
+use mathlib.Core.Bool.{Bool, true, false, cond, not, _&&_, and-false}
+use mathlib.Core.List.{List, [], _∷_, _++_, map}
+use native.Mathlib.Numerals.{add-one}
+use native.Mathlib.Omega.{arith}
+use borrow.Author.Tests.{lt-ltb, eq-eqb, leb-true}
+use lib.Dec.{eqb, leb, ltb}
+use lib.ListN.{length, getD, take, drop, length-take, length-drop, drop-of-length-le}
+use lib.Seq.{drop-cons}
+use Rattle.hl7.specs.Cut.{cut}
+use Rattle.hl7.specs.Walk.{partsFrom}
+use Rattle.hl7.specs.Spans.{between, Spans}
+use Rattle.hl7.specs.Place.{isMsh, neverCut, fieldOf, cutUnless, repetitionsIn, repetitionsOf}
+use Rattle.hl7.specs.declared.place.Delims.{Delims}
+use Rattle.hl7.specs.declared.cut.Span.{Span}
+use Rattle.hl7.proofs.Cutting.{between-inside, spans-length}
+use Rattle.hl7.proofs.Walking.{parts-start, parts-done}
+use Rattle.hl7.proofs.Placing.{cut-later}
+use Rattle.grade.specs.Limits.{ruleLimit, segmentCount}
+use Rattle.grade.specs.Rule.{firstField, kindFits, ruleFits}
+use Rattle.grade.specs.Standing.{noRule, rulesIn, setsIn, SetStands, codesAt}
+use Rattle.grade.specs.Order.{msh, counted}
+use Rattle.grade.specs.Broken.{judges, broken, codesOf, breaksRule}
+use Rattle.grade.specs.Findings.{isAbout, valueIn, valuesOf}
+use Rattle.grade.specs.Rest.{CodesStand, CodesAre, breaksBy, brokenValues, brokenFrom, NextValue, valueFinding, ofRule, ofRules, bytesOf, HereStands, PendingStands, Ready, pendingRest, rulesFrom, segmentRest, orderFinding, ofOrder, ofSegment, noPending, NextOfRule, NextWithin}
+use Rattle.grade.proofs.Holding.{place-limits, code-limits}
+use Rattle.grade.specs.declared.rule.Kind.{Kind}
+use Rattle.grade.specs.declared.rule.Kind.the-variants.{Required, Length, Number, Date, Time, Code}
+use Rattle.grade.specs.declared.rule.Rule.{Rule}
+use Rattle.grade.specs.declared.walk.Section.{Section}
+use Rattle.grade.specs.declared.finding.Finding.{Finding}
+use Rattle.grade.specs.declared.within.Here.{Here}
+use Rattle.grade.specs.declared.within.Pending.{Pending}
+use Rattle.grade.specs.declared.within.Value.{Value}
+use Rattle.grade.specs.declared.within.Value.the-variants.{Broken, Fine}
+use Rattle.grade.specs.declared.within.Within.{Within}
+use Rattle.grade.specs.declared.within.Within.the-variants.{Found, Nothing}
+
+-- ---- the codes of a kind's set
+pub set-stands : (b : List ℕ) (at : ℕ) {kind : Kind} {set : ℕ} → kind ≡ Code set → CodesStand b kind at → SetStands b at
+set-stands b at e h = subst (λ (k : Kind). CodesStand b k at) e h
+
+pub set-in-range : {sets set : ℕ} {kind : Kind} → kind ≡ Code set → kindFits sets kind ≡ true → (1 ≤ set) × (set ≤ sets)
+set-in-range {sets} {set} e h = code-limits sets set (sym (ap (kindFits sets) e) ∙ h)
+
+module _ (b : List ℕ) (sets : List (List (List ℕ))) (at : ℕ) where
+  pub codes-as : {kind k : Kind} → kind ≡ k → CodesAre b sets k at → CodesAre b sets kind at
+  codes-as e h = subst⁻¹ (λ (k : Kind). CodesAre b sets k at) e h
+
+  pub codes-of-set : {set w : ℕ} {kind : Kind} → kind ≡ Code set → w ≡ set → SetStands b at × (codesAt b at ≡ getD sets (w - 1) []) → CodesAre b sets kind at
+  codes-of-set e f h = codes-as e (h .0, h .1 ∙ ap (λ (n : ℕ). getD sets (n - 1) []) f)
+
+  pub codes-stand : (kind : Kind) → CodesAre b sets kind at → CodesStand b kind at
+  codes-stand Required h = tt
+  codes-stand (Length low high) h = tt
+  codes-stand Number h = tt
+  codes-stand Date h = tt
+  codes-stand (Time digits) h = tt
+  codes-stand (Code set) h = h .0
+
+  -- so that a value breaks the kind by the codes that stand there exactly when it does by those of the set
+  broken-same : (kind : Kind) → CodesAre b sets kind at → broken kind (codesAt b at) ≡ broken kind (codesOf sets kind)
+  unfolding broken
+  broken-same Required h = refl
+  broken-same (Length low high) h = refl
+  broken-same Number h = refl
+  broken-same Date h = refl
+  broken-same (Time digits) h = refl
+  broken-same (Code set) h = ap (broken (Code set)) (h .1)
+
+  breaks-same : (rule : Rule) → CodesAre b sets (rule .kind) at → breaksBy b rule at ≡ breaksRule sets rule
+  unfolding breaksRule
+  breaks-same rule h i r value = judges (rule .kind) r && broken-same (rule .kind) h i value
+
+-- ---- a rule's field is always cut: MSH's rules have field 3 or more, and no other segment has a field that is not
+pub always-cut : (sets : ℕ) (rule : Rule) (seg : List ℕ) → ruleFits sets rule ≡ true → (isMsh seg ≡ true → rule .place .segment ≡ msh) → neverCut seg (rule .place .field) ≡ false
+unfolding neverCut
+always-cut sets rule seg fits named = by (isMsh seg) refl
+  where
+    by : (b : Bool) → isMsh seg ≡ b → (leb (rule .place .field) 2 && isMsh seg) ≡ false
+    by true e = cut-later seg (subst (λ (n : ℕ). firstField n ≤ rule .place .field) (named e) (place-limits sets rule fits .first))
+    by false e = rw e (and-false (leb (rule .place .field) 2))
+
+-- ---- one rule at a segment of its name
+pub part-short : (m : List ℕ) (a e : ℕ) → length (between m a e) ≤ length m
+part-short m a e = simp (length-take, length-drop) (omega arith)
+
+-- what `field` found in the segment, as a part of the message
+module _ (d : Delims) (m b : List ℕ) (s : Section) (here : Here) (rule : Rule) (number : ℕ)
+    (ready : Ready m b s here) (fits : ruleFits (s .«set_count») rule ≡ true) (about : rule .place .segment ≡ here .name)
+    (w : ℕ) (wide : w ≡ rule .place .field) (span : Span) (found : Spans (bytesOf m here) (fieldOf d (bytesOf m here) w) span)
+    (codes : ℕ) (are : CodesAre b (setsIn b s) (rule .kind) codes) where
+  abbrev start : ℕ
+  start = here .start + span .start
+
+  abbrev end : ℕ
+  end = here .start + span .end
+
+  abbrev fld : List ℕ
+  fld = between m start end
+
+  field-inside : end ≤ here .end
+  field-inside = omega (arith, found .inside, ready .stands .forward, ready .stands .inside, length-take (here .end - here .start) (drop (here .start) m), length-drop (here .start) m)
+
+  field-bytes : fieldOf d (bytesOf m here) (rule .place .field) .bytes ≡ fld
+  field-bytes =
+      ap (λ (n : ℕ). fieldOf d (bytesOf m here) n .bytes) (sym wide) ∙ sym (found .bytes)
+      ∙ between-inside m (here .start) (here .end) (span .start) (span .end) field-inside
+
+  values-cut : valuesOf d rule (bytesOf m here) ≡ map (valueIn d false rule) (partsFrom (d .tilde) fld 0)
+  unfolding repetitionsOf cutUnless
+  values-cut =
+      let never = always-cut (s .«set_count») rule (bytesOf m here) fits (λ e. about ∙ ready .stands .msh e) in
+      ap (λ (n : Bool). map (valueIn d n rule) (cutUnless n (d .tilde) (fieldOf d (bytesOf m here) (rule .place .field) .bytes))) never
+      ∙ ap (λ (l : List ℕ). map (valueIn d false rule) (cut (d .tilde) l)) field-bytes
+      ∙ ap (map (valueIn d false rule)) (sym (parts-start (d .tilde) fld))
+
+  of-rule : ofRule d (setsIn b s) (here .name) (here .number) (bytesOf m here) number rule ≡ map (valueFinding (here .name) (here .number) rule number) (brokenFrom d fld b rule codes 0 0)
+  of-rule =
+      rw (lt-ltb (here .name) segmentCount (ready .stands .counts), eq-eqb (rule .place .segment) (here .name) about)
+      (ap₂ (λ (test : ℕ → List ℕ → Bool) (vs : List (List ℕ)). map (valueFinding (here .name) (here .number) rule number) (brokenValues test 0 vs)) (sym (breaks-same b (setsIn b s) codes rule are)) values-cut)
+
+  pub rule-found : (few : number ≤ ruleLimit) (r : Value) (k next : ℕ) (f : Finding) → NextValue d fld b rule codes (brokenFrom d fld b rule codes 0 0) r → r ≡ Broken k next → f ≡ valueFinding (here .name) (here .number) rule number k → NextOfRule d m b here number (ofRule d (setsIn b s) (here .name) (here .number) (bytesOf m here) number rule) (Found f (record { rule = rule; number = number; codes = codes; start = start; end = end; at = next; passed = k }))
+  rule-found few r k next f h e made =
+      let got = subst (NextValue d fld b rule codes (brokenFrom d fld b rule codes 0 0)) e h in
+      let make = valueFinding (here .name) (here .number) rule number in (
+        of-rule ∙ ap (map make) (got .0) ∙ ap (λ (g : Finding). g ∷ map make (brokenFrom d fld b rule codes next k)) (sym made),
+        refl,
+        record {
+          forward = omega (arith, found .forward);
+          inside = omega (arith, field-inside, ready .stands .inside);
+          passed = got .1;
+          few = few;
+          codes = codes-stand b (setsIn b s) codes (rule .kind) are;
+        },
+      )
+
+  pub rule-fine : (r : Value) → NextValue d fld b rule codes (brokenFrom d fld b rule codes 0 0) r → r ≡ Fine → ofRule d (setsIn b s) (here .name) (here .number) (bytesOf m here) number rule ≡ []
+  rule-fine r h e = of-rule ∙ ap (map (valueFinding (here .name) (here .number) rule number)) (subst (NextValue d fld b rule codes (brokenFrom d fld b rule codes 0 0)) e h)
+
+module _ (d : Delims) (m b : List ℕ) (s : Section) (here : Here) where
+  abbrev thisRule : ℕ → Rule → List Finding
+  thisRule number rule = ofRule d (setsIn b s) (here .name) (here .number) (bytesOf m here) number rule
+
+  -- ---- a rule of another segment gives nothing
+  pub not-about : (number : ℕ) (rule : Rule) → eqb (rule .place .segment) (here .name) ≡ false → thisRule number rule ≡ []
+  not-about number rule e = rw (e, and-false (counted (here .name)))
+
+  pub same-rule : (number : ℕ) (r : Within) {rule rule′ : Rule} → rule ≡ rule′ → NextOfRule d m b here number (thisRule number rule) r → NextOfRule d m b here number (thisRule number rule′) r
+  same-rule number r e h = subst (λ (q : Rule). NextOfRule d m b here number (thisRule number q) r) e h
+
+  -- ---- the rules from i on
+  rules-step : (i : ℕ) → i < length (rulesIn b s) → rulesFrom d m b s here i ≡ thisRule (i + 1) (getD (rulesIn b s) i noRule) ++ rulesFrom d m b s here (i + 1)
+  unfolding ofRules
+  rules-step i h = rw (add-one i) (ap (ofRules d (setsIn b s) (here .name) (here .number) (bytesOf m here) i) (drop-cons (rulesIn b s) i noRule h))
+
+  pub rules-over : (i : ℕ) → length (rulesIn b s) ≤ i → rulesFrom d m b s here i ≡ []
+  unfolding ofRules
+  rules-over i h = ap (ofRules d (setsIn b s) (here .name) (here .number) (bytesOf m here) i) (drop-of-length-le (rulesIn b s) h)
+
+  module _ (i : ℕ) (within : i < length (rulesIn b s)) (r : Within) (h : NextOfRule d m b here (i + 1) (thisRule (i + 1) (getD (rulesIn b s) i noRule)) r) where
+    pub next-found : (f : Finding) (p : Pending) → r ≡ Found f p → NextWithin d m b s here (rulesFrom d m b s here i) (Found f p)
+    next-found f p e =
+        let got = subst (NextOfRule d m b here (i + 1) (thisRule (i + 1) (getD (rulesIn b s) i noRule))) e h in (
+          rules-step i within
+              ∙ ap (λ (l : List Finding). l ++ rulesFrom d m b s here (i + 1)) (got .0)
+              ∙ ap (λ (k : ℕ). f ∷ (pendingRest d m b here p ++ rulesFrom d m b s here k)) (sym (got .1)),
+          got .2,
+        )
+
+    pub next-fine : r ≡ Nothing → rulesFrom d m b s here i ≡ rulesFrom d m b s here (i + 1)
+    next-fine e = rules-step i within ∙ ap (λ (l : List Finding). l ++ rulesFrom d m b s here (i + 1)) (subst (NextOfRule d m b here (i + 1) (thisRule (i + 1) (getD (rulesIn b s) i noRule))) e h)
+
+  -- the list may be replaced by an equal one
+  pub same-list : (l k : List Finding) (r : Within) → l ≡ k → NextWithin d m b s here k r → NextWithin d m b s here l r
+  same-list l k r e h = subst (λ (x : List Finding). NextWithin d m b s here x r) (sym e) h
+
+  -- ---- the present rule, then those after it
+  module _ (p : Pending) (stands : PendingStands m b p) (r : Value) where
+    abbrev make : ℕ → Finding
+    make = valueFinding (here .name) (here .number) (p .rule) (p .number)
+
+    abbrev from : ℕ → ℕ → List ℕ
+    from at passed = brokenFrom d (between m (p .start) (p .end)) b (p .rule) (p .codes) at passed
+
+    module _ (h : NextValue d (between m (p .start) (p .end)) b (p .rule) (p .codes) (from (p .at) (p .passed)) r) where
+      pub pending-found : (k next : ℕ) (f : Finding) → r ≡ Broken k next → f ≡ make k → NextWithin d m b s here (segmentRest d m b s here p) (Found f (record { rule = p .rule; number = p .number; codes = p .codes; start = p .start; end = p .end; at = next; passed = k }))
+      pending-found k next f e made =
+          let got = subst (NextValue d (between m (p .start) (p .end)) b (p .rule) (p .codes) (from (p .at) (p .passed))) e h in (
+            ap (λ (l : List ℕ). map make l ++ rulesFrom d m b s here (p .number)) (got .0)
+                ∙ ap (λ (g : Finding). g ∷ (map make (from next k) ++ rulesFrom d m b s here (p .number))) (sym made),
+            record { forward = stands .forward; inside = stands .inside; passed = got .1; few = stands .few; codes = stands .codes },
+          )
+
+      pub pending-fine : r ≡ Fine → segmentRest d m b s here p ≡ rulesFrom d m b s here (p .number)
+      pending-fine e = ap (λ (l : List ℕ). map make l ++ rulesFrom d m b s here (p .number)) (subst (NextValue d (between m (p .start) (p .end)) b (p .rule) (p .codes) (from (p .at) (p .passed))) e h)
+
+  -- ---- the order, then the rules
+  -- where nothing is left of a rule there are no repetitions: the field is empty, and the cursor is past it
+  pub nothing-pending : (number : ℕ) → pendingRest d m b here (noPending number) ≡ []
+  unfolding brokenValues
+  nothing-pending number = ap (λ (reps : List (List ℕ)). map (valueFinding (here .name) (here .number) noRule number) (brokenValues (breaksBy b noRule 0) 0 (map (valueIn d false noRule) reps))) (parts-done (d .tilde) (between m 0 0) 1 (omega arith))
+
+  pub none-stands : (number : ℕ) → number ≤ ruleLimit → PendingStands m b (noPending number)
+  none-stands number h = record { forward = omega arith; inside = omega arith; passed = omega arith; few = h; codes = tt }
+
+  module _ (out : ℕ → ℕ → Bool) (last : ℕ) where
+    pub order-found : (f : Finding) (p : Pending) → out last (here .name) ≡ true → f ≡ orderFinding (here .name) (here .number) → p ≡ noPending 0 → NextWithin d m b s here (ofSegment out d m b s here last) (Found f p)
+    order-found f p e made placed =
+        subst₂ (λ (g : Finding) (q : Pending). NextWithin d m b s here (ofSegment out d m b s here last) (Found g q)) (sym made) (sym placed)
+        (rw e (ap (λ (l : List Finding). orderFinding (here .name) (here .number) ∷ (l ++ rulesFrom d m b s here 0)) (sym (nothing-pending 0))), none-stands 0 (omega arith))
+
+    pub order-fine : out last (here .name) ≡ false → ofSegment out d m b s here last ≡ rulesFrom d m b s here 0
+    order-fine e = rw e
