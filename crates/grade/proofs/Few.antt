@@ -1,20 +1,19 @@
 -- How many findings a message can have at most: one for each place that there is. Assumes nothing.
 use Prim.Native.Nat.{ℕ, zero, suc, _+_, _*_, _-_, _≤_}
-use mathlib.Core.Path.{_≡_, refl, ap, sym, _∙_}
+use mathlib.Core.Path.{_≡_, refl, ap}
 use mathlib.Core.Bool.{Bool, true, false, cond}
-use mathlib.Core.List.{List, [], _∷_, _++_, map}
+use mathlib.Core.List.{List, [], _∷_}
 use native.Mathlib.Omega.{arith}
 use native.Mathlib.Nat.{le-trans, mul-le-mul-left, mul-le-mul-right}
-use lib.ListN.{length, getD, take, drop, length-take, length-drop, length-append, length-map}
+use lib.ListN.{length, drop, length-take, length-drop, length-append, length-map}
 use lib.Dec.{eqb}
 use Rattle.hl7.specs.Cut.{cut, ahead, partAt, pieceAt, butLast}
 use Rattle.hl7.specs.Place.{delimsOf, segmentsOf, cutUnless, partOfField, isMsh, fieldOf, neverCut, repetitionsOf}
 use Rattle.hl7.specs.declared.place.Delims.{Delims}
 use Rattle.hl7.proofs.Cutting.{piece-stands}
 use Rattle.grade.specs.Strict.{keep, countFrom, pairsFrom}
-use Rattle.grade.specs.Findings.{valuesOf, breaks, turns, places, findings, findingOf, ruleOf, segmentAt}
+use Rattle.grade.specs.Findings.{valuesOf, breaks, turns, places, findings, ruleOf, segmentAt}
 use Rattle.grade.specs.declared.rule.Rule.{Rule}
-use Rattle.grade.specs.declared.finding.Finding.{Finding}
 
 -- ---- the lists that places are made of
 keep-few : {A : Type 0} (test : A → Bool) (l : List A) → length (keep test l) ≤ length l

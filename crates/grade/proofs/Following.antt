@@ -1,12 +1,12 @@
 -- The follow table says what the order says. Assumes nothing.
 use Prim.Native.Nat.{ℕ, zero, suc, _+_, _≤_, _<_}
-use mathlib.Core.Path.{_≡_, refl, sym, ap, _∙_}
+use mathlib.Core.Path.{_≡_, refl, ap, _∙_}
 use mathlib.Core.Bool.{Bool, true, false, not, _&&_}
-use mathlib.Core.List.{List, [], _∷_, map}
+use mathlib.Core.List.{List, [], map}
 use native.Mathlib.Omega.{arith}
 use borrow.Author.Tests.{ltb-true, leb-true}
 use lib.ListN.{getD}
-use lib.Dec.{ltb, leb}
+use lib.Dec.{leb}
 use Rattle.grade.specs.Strict.{countFrom}
 use Rattle.grade.specs.Order.{counted, atEnd, outOfOrder, tableOf, tableSays}
 

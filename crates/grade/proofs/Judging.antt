@@ -1,21 +1,21 @@
 -- Judging one segment: what each function of `within` adds to the list of what is still to come. Assumes nothing.
 use Prim.Native.Nat.{ℕ, _+_, _-_, _≤_, _<_}
 use mathlib.Core.Path.{_≡_, refl, sym, ap, ap₂, subst, subst⁻¹, subst₂, _∙_}
-use mathlib.Core.Bool.{Bool, true, false, cond, not, _&&_, and-false}
+use mathlib.Core.Bool.{Bool, true, false, not, _&&_, and-false}
 use mathlib.Core.List.{List, [], _∷_, _++_, map}
 use native.Mathlib.Numerals.{add-one}
 use native.Mathlib.Omega.{arith}
-use borrow.Author.Tests.{lt-ltb, eq-eqb, leb-true}
-use lib.Dec.{eqb, leb, ltb}
-use lib.ListN.{length, getD, take, drop, length-take, length-drop, drop-of-length-le}
+use borrow.Author.Tests.{lt-ltb, eq-eqb}
+use lib.Dec.{eqb, leb}
+use lib.ListN.{length, getD, drop, length-take, length-drop, drop-of-length-le}
 use lib.Seq.{drop-cons}
 use Rattle.hl7.specs.Cut.{cut}
 use Rattle.hl7.specs.Walk.{partsFrom}
 use Rattle.hl7.specs.Spans.{between, Spans}
-use Rattle.hl7.specs.Place.{isMsh, neverCut, fieldOf, cutUnless, repetitionsIn, repetitionsOf}
+use Rattle.hl7.specs.Place.{isMsh, neverCut, fieldOf, cutUnless, repetitionsOf}
 use Rattle.hl7.specs.declared.place.Delims.{Delims}
 use Rattle.hl7.specs.declared.cut.Span.{Span}
-use Rattle.hl7.proofs.Cutting.{between-inside, spans-length}
+use Rattle.hl7.proofs.Cutting.{between-inside}
 use Rattle.hl7.proofs.Walking.{parts-start, parts-done}
 use Rattle.hl7.proofs.Placing.{cut-later}
 use Rattle.grade.specs.Limits.{ruleLimit, segmentCount}
@@ -23,8 +23,8 @@ use Rattle.grade.specs.Rule.{firstField, kindFits, ruleFits}
 use Rattle.grade.specs.Standing.{noRule, rulesIn, setsIn, SetStands, codesAt}
 use Rattle.grade.specs.Order.{msh, counted}
 use Rattle.grade.specs.Broken.{judges, broken, codesOf, breaksRule}
-use Rattle.grade.specs.Findings.{isAbout, valueIn, valuesOf}
-use Rattle.grade.specs.Rest.{CodesStand, CodesAre, breaksBy, brokenValues, brokenFrom, NextValue, valueFinding, ofRule, ofRules, bytesOf, HereStands, PendingStands, Ready, pendingRest, rulesFrom, segmentRest, orderFinding, ofOrder, ofSegment, noPending, NextOfRule, NextWithin}
+use Rattle.grade.specs.Findings.{valueIn, valuesOf}
+use Rattle.grade.specs.Rest.{CodesStand, CodesAre, breaksBy, brokenValues, brokenFrom, NextValue, valueFinding, ofRule, ofRules, bytesOf, PendingStands, Ready, pendingRest, rulesFrom, orderFinding, ofSegment, noPending, NextOfRule, NextWithin}
 use Rattle.grade.proofs.Holding.{place-limits, code-limits}
 use Rattle.grade.specs.declared.rule.Kind.{Kind}
 use Rattle.grade.specs.declared.rule.Kind.the-variants.{Required, Length, Number, Date, Time, Code}
@@ -84,9 +84,6 @@ always-cut sets rule seg fits named = by (isMsh seg) refl
     by false e = rw e (and-false (leb (rule .place .field) 2))
 
 -- ---- one rule at a segment of its name
-pub part-short : (m : List ℕ) (a e : ℕ) → length (between m a e) ≤ length m
-part-short m a e = simp (length-take, length-drop) (omega arith)
-
 -- what `field` found in the segment, as a part of the message
 module _ (d : Delims) (m b : List ℕ) (s : Section) (here : Here) (rule : Rule) (number : ℕ)
     (ready : Ready m b s here) (fits : ruleFits (s .«set_count») rule ≡ true) (about : rule .place .segment ≡ here .name)
@@ -117,28 +114,53 @@ module _ (d : Delims) (m b : List ℕ) (s : Section) (here : Here) (rule : Rule)
       ∙ ap (λ (l : List ℕ). map (valueIn d false rule) (cut (d .tilde) l)) field-bytes
       ∙ ap (map (valueIn d false rule)) (sym (parts-start (d .tilde) fld))
 
-  of-rule : ofRule d (setsIn b s) (here .name) (here .number) (bytesOf m here) number rule ≡ map (valueFinding (here .name) (here .number) rule number) (brokenFrom d fld b rule codes 0 0)
+  abbrev first : Pending
+  first = record { rule = rule; number = number; codes = codes; start = start; end = end; at = 0; passed = 0 }
+
+  pub first-stands : number ≤ ruleLimit → PendingStands m b first
+  first-stands few = record {
+    forward = omega (arith, found .forward);
+    inside = omega (arith, field-inside, ready .stands .inside);
+    passed = omega arith;
+    few = few;
+    codes = codes-stand b (setsIn b s) codes (rule .kind) are;
+  }
+
+  of-rule : ofRule d (setsIn b s) (here .name) (here .number) (bytesOf m here) number rule ≡ pendingRest d m b here first
   of-rule =
       rw (lt-ltb (here .name) segmentCount (ready .stands .counts), eq-eqb (rule .place .segment) (here .name) about)
       (ap₂ (λ (test : ℕ → List ℕ → Bool) (vs : List (List ℕ)). map (valueFinding (here .name) (here .number) rule number) (brokenValues test 0 vs)) (sym (breaks-same b (setsIn b s) codes rule are)) values-cut)
 
-  pub rule-found : (few : number ≤ ruleLimit) (r : Value) (k next : ℕ) (f : Finding) → NextValue d fld b rule codes (brokenFrom d fld b rule codes 0 0) r → r ≡ Broken k next → f ≡ valueFinding (here .name) (here .number) rule number k → NextOfRule d m b here number (ofRule d (setsIn b s) (here .name) (here .number) (bytesOf m here) number rule) (Found f (record { rule = rule; number = number; codes = codes; start = start; end = end; at = next; passed = k }))
-  rule-found few r k next f h e made =
-      let got = subst (NextValue d fld b rule codes (brokenFrom d fld b rule codes 0 0)) e h in
-      let make = valueFinding (here .name) (here .number) rule number in (
-        of-rule ∙ ap (map make) (got .0) ∙ ap (λ (g : Finding). g ∷ map make (brokenFrom d fld b rule codes next k)) (sym made),
-        refl,
-        record {
-          forward = omega (arith, found .forward);
-          inside = omega (arith, field-inside, ready .stands .inside);
-          passed = got .1;
-          few = few;
-          codes = codes-stand b (setsIn b s) codes (rule .kind) are;
-        },
-      )
+  pub rule-first : (r : Within) → NextOfRule d m b here number (pendingRest d m b here first) r → NextOfRule d m b here number (ofRule d (setsIn b s) (here .name) (here .number) (bytesOf m here) number rule) r
+  rule-first r h = subst⁻¹ (λ (l : List Finding). NextOfRule d m b here number l r) of-rule h
 
-  pub rule-fine : (r : Value) → NextValue d fld b rule codes (brokenFrom d fld b rule codes 0 0) r → r ≡ Fine → ofRule d (setsIn b s) (here .name) (here .number) (bytesOf m here) number rule ≡ []
-  rule-fine r h e = of-rule ∙ ap (map (valueFinding (here .name) (here .number) rule number)) (subst (NextValue d fld b rule codes (brokenFrom d fld b rule codes 0 0)) e h)
+module _ (d : Delims) (m b : List ℕ) (here : Here) where
+  -- ---- the rule that is being judged
+  module _ (p : Pending) (stands : PendingStands m b p) (r : Value) where
+    abbrev make : ℕ → Finding
+    make = valueFinding (here .name) (here .number) (p .rule) (p .number)
+
+    abbrev next-value : Value → Type 0
+    next-value v = NextValue d (between m (p .start) (p .end)) b (p .rule) (p .codes) (brokenFrom d (between m (p .start) (p .end)) b (p .rule) (p .codes) (p .at) (p .passed)) v
+
+    pub pending-found : next-value r → (k next : ℕ) (f : Finding) → r ≡ Broken k next → f ≡ make k → NextOfRule d m b here (p .number) (pendingRest d m b here p) (Found f (record { rule = p .rule; number = p .number; codes = p .codes; start = p .start; end = p .end; at = next; passed = k }))
+    pending-found h k next f e made =
+        let got = subst next-value e h in (
+          ap (map make) (got .0) ∙ ap (λ (g : Finding). g ∷ map make (brokenFrom d (between m (p .start) (p .end)) b (p .rule) (p .codes) next k)) (sym made),
+          refl,
+          record { forward = stands .forward; inside = stands .inside; passed = got .1; few = stands .few; codes = stands .codes },
+        )
+
+    pub pending-fine : next-value r → r ≡ Fine → pendingRest d m b here p ≡ []
+    pending-fine h e = ap (map make) (subst next-value e h)
+
+  -- nothing is left of a rule: its field is empty, and the cursor is past it
+  pub nothing-pending : (number : ℕ) → pendingRest d m b here (noPending number) ≡ []
+  unfolding brokenValues
+  nothing-pending number = ap (λ (reps : List (List ℕ)). map (valueFinding (here .name) (here .number) noRule number) (brokenValues (breaksBy b noRule 0) 0 (map (valueIn d false noRule) reps))) (parts-done (d .tilde) (between m 0 0) 1 (omega arith))
+
+pub none-stands : (m b : List ℕ) (number : ℕ) → number ≤ ruleLimit → PendingStands m b (noPending number)
+none-stands m b number h = record { forward = omega arith; inside = omega arith; passed = omega arith; few = h; codes = tt }
 
 module _ (d : Delims) (m b : List ℕ) (s : Section) (here : Here) where
   abbrev thisRule : ℕ → Rule → List Finding
@@ -152,7 +174,7 @@ module _ (d : Delims) (m b : List ℕ) (s : Section) (here : Here) where
   same-rule number r e h = subst (λ (q : Rule). NextOfRule d m b here number (thisRule number q) r) e h
 
   -- ---- the rules from i on
-  rules-step : (i : ℕ) → i < length (rulesIn b s) → rulesFrom d m b s here i ≡ thisRule (i + 1) (getD (rulesIn b s) i noRule) ++ rulesFrom d m b s here (i + 1)
+  pub rules-step : (i : ℕ) → i < length (rulesIn b s) → rulesFrom d m b s here i ≡ thisRule (i + 1) (getD (rulesIn b s) i noRule) ++ rulesFrom d m b s here (i + 1)
   unfolding ofRules
   rules-step i h = rw (add-one i) (ap (ofRules d (setsIn b s) (here .name) (here .number) (bytesOf m here) i) (drop-cons (rulesIn b s) i noRule h))
 
@@ -160,57 +182,29 @@ module _ (d : Delims) (m b : List ℕ) (s : Section) (here : Here) where
   unfolding ofRules
   rules-over i h = ap (ofRules d (setsIn b s) (here .name) (here .number) (bytesOf m here) i) (drop-of-length-le (rulesIn b s) h)
 
-  module _ (i : ℕ) (within : i < length (rulesIn b s)) (r : Within) (h : NextOfRule d m b here (i + 1) (thisRule (i + 1) (getD (rulesIn b s) i noRule)) r) where
-    pub next-found : (f : Finding) (p : Pending) → r ≡ Found f p → NextWithin d m b s here (rulesFrom d m b s here i) (Found f p)
-    next-found f p e =
-        let got = subst (NextOfRule d m b here (i + 1) (thisRule (i + 1) (getD (rulesIn b s) i noRule))) e h in (
-          rules-step i within
-              ∙ ap (λ (l : List Finding). l ++ rulesFrom d m b s here (i + 1)) (got .0)
-              ∙ ap (λ (k : ℕ). f ∷ (pendingRest d m b here p ++ rulesFrom d m b s here k)) (sym (got .1)),
+  -- the list may be replaced by an equal one
+  pub same-list : {l k : List Finding} (r : Within) → l ≡ k → NextWithin d m b s here k r → NextWithin d m b s here l r
+  same-list r e h = subst⁻¹ (λ (x : List Finding). NextWithin d m b s here x r) e h
+
+  -- ---- what one rule gives, then what the rules after it give
+  module _ (number : ℕ) (l : List Finding) (r : Within) (h : NextOfRule d m b here number l r) where
+    pub then-found : (f : Finding) (p : Pending) → r ≡ Found f p → NextWithin d m b s here (l ++ rulesFrom d m b s here number) (Found f p)
+    then-found f p e =
+        let got = subst (NextOfRule d m b here number l) e h in (
+          ap (λ (k : List Finding). k ++ rulesFrom d m b s here number) (got .0)
+              ∙ ap (λ (n : ℕ). f ∷ (pendingRest d m b here p ++ rulesFrom d m b s here n)) (sym (got .1)),
           got .2,
         )
 
-    pub next-fine : r ≡ Nothing → rulesFrom d m b s here i ≡ rulesFrom d m b s here (i + 1)
-    next-fine e = rules-step i within ∙ ap (λ (l : List Finding). l ++ rulesFrom d m b s here (i + 1)) (subst (NextOfRule d m b here (i + 1) (thisRule (i + 1) (getD (rulesIn b s) i noRule))) e h)
-
-  -- the list may be replaced by an equal one
-  pub same-list : (l k : List Finding) (r : Within) → l ≡ k → NextWithin d m b s here k r → NextWithin d m b s here l r
-  same-list l k r e h = subst (λ (x : List Finding). NextWithin d m b s here x r) (sym e) h
-
-  -- ---- the present rule, then those after it
-  module _ (p : Pending) (stands : PendingStands m b p) (r : Value) where
-    abbrev make : ℕ → Finding
-    make = valueFinding (here .name) (here .number) (p .rule) (p .number)
-
-    abbrev from : ℕ → ℕ → List ℕ
-    from at passed = brokenFrom d (between m (p .start) (p .end)) b (p .rule) (p .codes) at passed
-
-    module _ (h : NextValue d (between m (p .start) (p .end)) b (p .rule) (p .codes) (from (p .at) (p .passed)) r) where
-      pub pending-found : (k next : ℕ) (f : Finding) → r ≡ Broken k next → f ≡ make k → NextWithin d m b s here (segmentRest d m b s here p) (Found f (record { rule = p .rule; number = p .number; codes = p .codes; start = p .start; end = p .end; at = next; passed = k }))
-      pending-found k next f e made =
-          let got = subst (NextValue d (between m (p .start) (p .end)) b (p .rule) (p .codes) (from (p .at) (p .passed))) e h in (
-            ap (λ (l : List ℕ). map make l ++ rulesFrom d m b s here (p .number)) (got .0)
-                ∙ ap (λ (g : Finding). g ∷ (map make (from next k) ++ rulesFrom d m b s here (p .number))) (sym made),
-            record { forward = stands .forward; inside = stands .inside; passed = got .1; few = stands .few; codes = stands .codes },
-          )
-
-      pub pending-fine : r ≡ Fine → segmentRest d m b s here p ≡ rulesFrom d m b s here (p .number)
-      pending-fine e = ap (λ (l : List ℕ). map make l ++ rulesFrom d m b s here (p .number)) (subst (NextValue d (between m (p .start) (p .end)) b (p .rule) (p .codes) (from (p .at) (p .passed))) e h)
+    pub then-none : r ≡ Nothing → l ++ rulesFrom d m b s here number ≡ rulesFrom d m b s here number
+    then-none e = ap (λ (k : List Finding). k ++ rulesFrom d m b s here number) (subst (NextOfRule d m b here number l) e h)
 
   -- ---- the order, then the rules
-  -- where nothing is left of a rule there are no repetitions: the field is empty, and the cursor is past it
-  pub nothing-pending : (number : ℕ) → pendingRest d m b here (noPending number) ≡ []
-  unfolding brokenValues
-  nothing-pending number = ap (λ (reps : List (List ℕ)). map (valueFinding (here .name) (here .number) noRule number) (brokenValues (breaksBy b noRule 0) 0 (map (valueIn d false noRule) reps))) (parts-done (d .tilde) (between m 0 0) 1 (omega arith))
-
-  pub none-stands : (number : ℕ) → number ≤ ruleLimit → PendingStands m b (noPending number)
-  none-stands number h = record { forward = omega arith; inside = omega arith; passed = omega arith; few = h; codes = tt }
-
   module _ (out : ℕ → ℕ → Bool) (last : ℕ) where
     pub order-found : (f : Finding) (p : Pending) → out last (here .name) ≡ true → f ≡ orderFinding (here .name) (here .number) → p ≡ noPending 0 → NextWithin d m b s here (ofSegment out d m b s here last) (Found f p)
     order-found f p e made placed =
         subst₂ (λ (g : Finding) (q : Pending). NextWithin d m b s here (ofSegment out d m b s here last) (Found g q)) (sym made) (sym placed)
-        (rw e (ap (λ (l : List Finding). orderFinding (here .name) (here .number) ∷ (l ++ rulesFrom d m b s here 0)) (sym (nothing-pending 0))), none-stands 0 (omega arith))
+        (rw e (ap (λ (l : List Finding). orderFinding (here .name) (here .number) ∷ (l ++ rulesFrom d m b s here 0)) (sym (nothing-pending d m b here 0))), none-stands m b 0 (omega arith))
 
     pub order-fine : out last (here .name) ≡ false → ofSegment out d m b s here last ≡ rulesFrom d m b s here 0
     order-fine e = rw e

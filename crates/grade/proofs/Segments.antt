@@ -76,12 +76,12 @@ module _ (follows : ℕ → ℕ → Bool) (d : Delims) (m b : List ℕ) (s : Sec
     pub between-list : restBy out d m b s cursor ≡ from next last counts
     between-list =
         ap (λ (l : List Finding). l ++ from next last counts)
-        (ap₂ {C = List Finding} _++_ (nothing-pending d m b s (cursor .here) (s .«rule_count»)) (rules-over d m b s (cursor .here) (s .«rule_count») (omega (arith, rules-length b s holds))))
+        (ap₂ {C = List Finding} _++_ (nothing-pending d m b (cursor .here) (s .«rule_count»)) (rules-over d m b s (cursor .here) (s .«rule_count») (omega (arith, rules-length b s holds))))
 
     pub between-stands : CountsStand m next counts → Stands m b cursor
     between-stands h = record {
       here = record { forward = omega arith; inside = omega arith; counts = omega arith; msh = λ e. refl };
-      pending = none-stands d m b s (cursor .here) (s .«rule_count») (holds .fewRules);
+      pending = none-stands m b (s .«rule_count») (holds .fewRules);
       counts = h;
     }
 
@@ -143,8 +143,9 @@ module _ (follows : ℕ → ℕ → Bool) (d : Delims) (m b : List ℕ) (s : Sec
           one-segment
           ∙ rw (← named, lt-ltb name 10 h, ← add-one (getD counts name 0)) (sym (append-assoc (ofOrder out last name number) (rulesFrom d m b s this 0) (from (stop + 1) name (set counts name number))))
 
-      pub turned : name < 10 → (r : Within) → NextWithin d m b s this (ofSegment out d m b s this last) r → Turned out d m b s (stop + 1) (from at last counts) (record { found = r; here = this; last = name; counts = set counts name number })
-      turned h r got = record { stands = counts-more; next = by r got }
+      pub turned : name < 10 → (r : Within) → NextWithin d m b s this (ofSegment out d m b s this last) r → (now : List ℕ) → now ≡ set counts name number → Turned out d m b s (stop + 1) (from at last counts) (record { found = r; here = this; last = name; counts = now })
+      turned h r got now is-now =
+          subst⁻¹ (λ (l : List ℕ). Turned out d m b s (stop + 1) (from at last counts) (record { found = r; here = this; last = name; counts = l })) is-now (record { stands = counts-more; next = by r got })
         where
           by : (r : Within) → NextWithin d m b s this (ofSegment out d m b s this last) r → NextTurn out d m b s (stop + 1) (from at last counts) this name (set counts name number) r
           by (Found f p) got = (counted-one h ∙ ap (λ (l : List Finding). l ++ from (stop + 1) name (set counts name number)) (got .0), this-stands h, got .1)

@@ -2,138 +2,22 @@
 ghost use mathlib.Core.Path.{_≡_};
 ghost use Rattle.grade.specs.Order.{outOfOrder, tableSays};
 
-// Which name, or the end in the last column, may follow which: rows and columns are MSH PID PD1 NK1 PV1 ORC RXA RXR OBX NTE.
+const Y: bool = true;
+
+const N: bool = false;
+
+// Which name may come next: columns MSH PID PD1 NK1 PV1 ORC RXA RXR OBX NTE and the end.
 pub const FOLLOW: [[bool; 11]; 10] = [
-    [
-        false,
-        true,
-        false,
-        false,
-        false,
-        false,
-        false,
-        false,
-        false,
-        false,
-        false,
-    ],
-    [
-        false,
-        false,
-        true,
-        true,
-        true,
-        true,
-        false,
-        false,
-        false,
-        false,
-        true,
-    ],
-    [
-        false,
-        false,
-        false,
-        true,
-        true,
-        true,
-        false,
-        false,
-        false,
-        false,
-        true,
-    ],
-    [
-        false,
-        false,
-        false,
-        true,
-        true,
-        true,
-        false,
-        false,
-        false,
-        false,
-        true,
-    ],
-    [
-        false,
-        false,
-        false,
-        false,
-        false,
-        true,
-        false,
-        false,
-        false,
-        false,
-        true,
-    ],
-    [
-        false,
-        false,
-        false,
-        false,
-        false,
-        false,
-        true,
-        false,
-        false,
-        false,
-        false,
-    ],
-    [
-        false,
-        false,
-        false,
-        false,
-        false,
-        true,
-        false,
-        true,
-        true,
-        false,
-        true,
-    ],
-    [
-        false,
-        false,
-        false,
-        false,
-        false,
-        true,
-        false,
-        false,
-        true,
-        false,
-        true,
-    ],
-    [
-        false,
-        false,
-        false,
-        false,
-        false,
-        true,
-        false,
-        false,
-        true,
-        true,
-        true,
-    ],
-    [
-        false,
-        false,
-        false,
-        false,
-        false,
-        true,
-        false,
-        false,
-        true,
-        true,
-        true,
-    ],
+    [N, Y, N, N, N, N, N, N, N, N, N], // after MSH
+    [N, N, Y, Y, Y, Y, N, N, N, N, Y], // after PID
+    [N, N, N, Y, Y, Y, N, N, N, N, Y], // after PD1
+    [N, N, N, Y, Y, Y, N, N, N, N, Y], // after NK1
+    [N, N, N, N, N, Y, N, N, N, N, Y], // after PV1
+    [N, N, N, N, N, N, Y, N, N, N, N], // after ORC
+    [N, N, N, N, N, Y, N, Y, Y, N, Y], // after RXA
+    [N, N, N, N, N, Y, N, N, Y, N, Y], // after RXR
+    [N, N, N, N, N, Y, N, N, Y, Y, Y], // after OBX
+    [N, N, N, N, N, Y, N, N, Y, Y, Y], // after NTE
 ];
 
 // Whether a name, or the end, may not follow the counted name before it, by the table.

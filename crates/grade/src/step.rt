@@ -18,12 +18,11 @@ use hl7::place::Delims;
 use hl7::place::delims_of;
 ghost use mathlib.Core.Path.{_≡_};
 ghost use Prim.Native.Nat.{_+_, _≤_, _<_};
-ghost use lib.ListN.{length};
+ghost use lib.ListN.{length, set};
 ghost use Rattle.hl7.specs.Cut.{endFrom};
 ghost use Rattle.hl7.specs.Place.{carriageReturn};
 ghost use Rattle.hl7.specs.Refusals.{messageLimit};
-ghost use Rattle.grade.specs.Limits.{ruleLimit};
-ghost use Rattle.grade.specs.Rule.{otherNumber};
+ghost use Rattle.grade.specs.Limits.{segmentCount};
 ghost use Rattle.grade.specs.Standing.{Holds, rulesIn, setsIn};
 ghost use Rattle.grade.specs.Order.{nameOf, outOfOrder, mayFollow, tableSays};
 ghost use Rattle.grade.specs.Findings.{findings};
@@ -106,6 +105,16 @@ fn finish(
     }
 }
 
+// The counts with another number for a name.
+fn with_count(passed: [u32; 10], name: usize, number: u32) -> [u32; 10]
+    requires { ⌜ name < segmentCount ⌝ }
+    ensures { λ r. ⌜ r ≡ set passed name number ⌝ }
+{
+    let mut more = passed;
+    more[name] = number;
+    more
+}
+
 // The segment from at to stop, after the counted name last: its first finding.
 fn at_segment(
     table: &[[bool; 11]; 10],
@@ -121,11 +130,10 @@ fn at_segment(
     requires { ⌜ (length (now m) ≤ messageLimit) × Holds (now book) section × CountsStand (now m) at passed × (stop ≡ endFrom carriageReturn (now m) at) × (stop < length (now m)) ⌝ }
     ensures { λ r. ⌜ Turned (outOfOrder (tableSays (now (table .entry)))) d (now (m .entry)) (now (book .entry)) section (stop + 1) (walkFrom (outOfOrder (tableSays (now (table .entry)))) d (now (m .entry)) (now (book .entry)) section at last passed) r ⌝ }
 {
-    let mut counts = passed;
+    let counts = passed;
     let name = name_of(&m[at..stop]);
     if name < 10 {
         let number = counts[name] + 1;
-        counts[name] = number;
         let here = Here {
             start: at,
             end: stop,
@@ -136,7 +144,7 @@ fn at_segment(
             found: judge(table, d, m, book, section, here, last),
             here,
             last: name,
-            counts,
+            counts: with_count(counts, name, number),
         };
     }
     Turn {

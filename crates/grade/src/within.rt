@@ -26,7 +26,7 @@ ghost use Rattle.grade.specs.Rule.{kindFits, ruleFits};
 ghost use Rattle.grade.specs.Standing.{Holds, rulesIn, setsIn, noRule};
 ghost use Rattle.grade.specs.Order.{atEnd, outOfOrder, tableSays};
 ghost use Rattle.grade.specs.Broken.{severityLetter};
-ghost use Rattle.grade.specs.Rest.{CodesStand, CodesAre, brokenFrom, NextValue, valueFinding, ofRule, bytesOf, Ready, PendingStands, rulesFrom, segmentRest, orderFinding, ofSegment, noPending, NextOfRule, NextWithin};
+ghost use Rattle.grade.specs.Rest.{CodesStand, CodesAre, brokenFrom, NextValue, valueFinding, ofRule, bytesOf, Ready, PendingStands, pendingRest, rulesFrom, segmentRest, orderFinding, ofSegment, noPending, NextOfRule, NextWithin};
 
 // The segment that is being judged: its bytes, its name, and its number among the segments of that name.
 pub struct Here {
@@ -138,27 +138,25 @@ fn codes_of(book: &[u8], section: Section, kind: Kind) -> usize
     }
 }
 
-// The first finding of one rule at a segment of its name; number is the rule's, counted from 1.
-fn of_rule(
-    d: Delims,
-    m: &[u8],
-    book: &[u8],
-    section: Section,
-    here: Here,
-    rule: Rule,
-    number: usize,
-) -> Within
-    requires { ⌜ Ready (now m) (now book) section here × (ruleFits (section .«set_count») rule ≡ true) × (rule .place .segment ≡ here .name) × (number ≤ ruleLimit) ⌝ }
-    ensures { λ r. ⌜ NextOfRule d (now (m .entry)) (now (book .entry)) here number (ofRule d (setsIn (now (book .entry)) section) (here .name) (here .number) (bytesOf (now (m .entry)) here) number rule) r ⌝ }
+// The next finding of the rule that is being judged.
+fn next_pending(d: Delims, m: &[u8], book: &[u8], here: Here, pending: Pending) -> Within
+    requires { ⌜ (length (now m) ≤ messageLimit) × (here .name < segmentCount) × PendingStands (now m) (now book) pending ⌝ }
+    ensures { λ r. ⌜ NextOfRule d (now (m .entry)) (now (book .entry)) here (pending .number) (pendingRest d (now (m .entry)) (now (book .entry)) here pending) r ⌝ }
 {
-    let kind = rule.kind;
-    let first = here.start;
-    let last = here.end;
-    let span = field(d, &m[first..last], wide(rule.place.field));
-    let start = first + span.start;
-    let end = first + span.end;
-    let codes = codes_of(book, section, kind);
-    match next_value(d, &m[start..end], book, rule, codes, 0, 0) {
+    let rule = pending.rule;
+    let number = pending.number;
+    let codes = pending.codes;
+    let start = pending.start;
+    let end = pending.end;
+    match next_value(
+        d,
+        &m[start..end],
+        book,
+        rule,
+        codes,
+        pending.at,
+        pending.passed,
+    ) {
         Value::Broken { repetition, next } => Within::Found(
             value_finding(here, rule, number, repetition),
             Pending {
@@ -173,6 +171,35 @@ fn of_rule(
         ),
         Value::Fine => Within::Nothing,
     }
+}
+
+// The first finding of one rule at a segment of its name; number is the rule's, counted from 1.
+fn of_rule(
+    d: Delims,
+    m: &[u8],
+    book: &[u8],
+    section: Section,
+    here: Here,
+    rule: Rule,
+    number: usize,
+) -> Within
+    requires { ⌜ Ready (now m) (now book) section here × (ruleFits (section .«set_count») rule ≡ true) × (rule .place .segment ≡ here .name) × (number ≤ ruleLimit) ⌝ }
+    ensures { λ r. ⌜ NextOfRule d (now (m .entry)) (now (book .entry)) here number (ofRule d (setsIn (now (book .entry)) section) (here .name) (here .number) (bytesOf (now (m .entry)) here) number rule) r ⌝ }
+{
+    let kind = rule.kind;
+    let start = here.start;
+    let end = here.end;
+    let span = field(d, &m[start..end], wide(rule.place.field));
+    let pending = Pending {
+        rule,
+        number,
+        codes: codes_of(book, section, kind),
+        start: start + span.start,
+        end: start + span.end,
+        at: 0,
+        passed: 0,
+    };
+    next_pending(d, m, book, here, pending)
 }
 
 // The first finding of rule i, counted from 0. A rule of another segment is passed over by its name alone.
@@ -218,33 +245,9 @@ pub fn next_within(
     requires { ⌜ Ready (now m) (now book) section here × PendingStands (now m) (now book) pending ⌝ }
     ensures { λ r. ⌜ NextWithin d (now (m .entry)) (now (book .entry)) section here (segmentRest d (now (m .entry)) (now (book .entry)) section here pending) r ⌝ }
 {
-    let rule = pending.rule;
-    let number = pending.number;
-    let codes = pending.codes;
-    let start = pending.start;
-    let end = pending.end;
-    match next_value(
-        d,
-        &m[start..end],
-        book,
-        rule,
-        codes,
-        pending.at,
-        pending.passed,
-    ) {
-        Value::Broken { repetition, next } => Within::Found(
-            value_finding(here, rule, number, repetition),
-            Pending {
-                rule,
-                number,
-                codes,
-                start,
-                end,
-                at: next,
-                passed: repetition,
-            },
-        ),
-        Value::Fine => next_rule(d, m, book, section, here, number),
+    match next_pending(d, m, book, here, pending) {
+        Within::Found(f, p) => Within::Found(f, p),
+        Within::Nothing => next_rule(d, m, book, section, here, pending.number),
     }
 }
 

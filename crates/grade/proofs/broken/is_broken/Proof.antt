@@ -1,3 +1,4 @@
+-- `grade::broken::is_broken` meets its contract: an empty value, and any other. Assumes nothing.
 use mathlib.Core.Path.{sym, ap, _∙_}
 use mathlib.Core.Bool.{not}
 use borrow.Author.Tests.{eq-eqb, ne-eqb}
@@ -5,25 +6,17 @@ use Rattle.grade.specs.Broken.{broken}
 use borrow.Author.Needs.{needs}
 use Rattle.grade.proofs.broken.is_broken.Statement.{statement}
 use Rattle.grade.proofs.broken.is_broken.Tie as tie
-use Rattle.grade.proofs.broken.is_broken.Reads as reads
-use Rattle.grade.proofs.broken.is_broken.Lts as lts
-use Rattle.grade.proofs.broken.does_fit.Reads as does-fit-reads
-use Rattle.grade.proofs.broken.is_required.Reads as is-required-reads
 
--- src/broken.rt:52:9
 is-required-requires : tie.Need-is-required-requires
 is-required-requires c κs = search needs
 
--- src/broken.rt:52:9
 returns : tie.Need-returns
 unfolding broken
 returns c = c .is-required .ensures ∙ sym (rw (eq-eqb _ _ (c .before .if1 .taken)))
 
--- src/broken.rt:54:6
 does-fit-requires : tie.Need-does-fit-requires
 does-fit-requires c κs = search needs
 
--- src/broken.rt:47:1
 returns-2 : tie.Need-returns-2
 unfolding broken
 returns-2 c = ap not (c .does-fit .ensures) ∙ sym (rw (ne-eqb _ _ (c .before .if1 .left)))

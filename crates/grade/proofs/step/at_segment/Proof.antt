@@ -1,51 +1,32 @@
+-- `grade::step::at_segment` meets its contract: a name that does not count gives nothing and changes nothing; a counted one is judged and counted. Assumes nothing.
 use native.Mathlib.Omega.{arith}
 use Rattle.grade.specs.Order.{tableSays}
 use Rattle.grade.proofs.Segments.{this-stands, turned, turned-over}
 use borrow.Author.Needs.{needs}
 use Rattle.grade.proofs.step.at_segment.Statement.{statement}
 use Rattle.grade.proofs.step.at_segment.Tie as tie
-use Rattle.grade.proofs.step.at_segment.Reads as reads
-use Rattle.grade.proofs.step.at_segment.Lts as lts
-use Rattle.grade.proofs.step.name_of.Reads as name-of-reads
-use Rattle.grade.proofs.within.judge.Reads as judge-reads
 
--- src/step.rt:125:24
 sub-name-of : tie.Need-sub-name-of
 sub-name-of c = search needs
 
--- src/step.rt:125:24
 part-name-of-start : tie.Need-part-name-of-start
 part-name-of-start c = search needs
 
--- src/step.rt:125:24
 part-name-of-end : tie.Need-part-name-of-end
 part-name-of-end c = search needs
 
--- src/step.rt:125:9
 name-of-requires : tie.Need-name-of-requires
 name-of-requires c κs = search needs
 
--- src/step.rt:127:22
 mul-number : tie.Need-mul-number
 mul-number c = search needs
 
--- src/step.rt:127:22
 array-read-number : tie.Need-array-read-number
 array-read-number c = search needs
 
--- src/step.rt:127:22
 add-number : tie.Need-add-number
 add-number c = let given = c .before .before .before .before .before .pre in omega (arith, given .0, given .2 .inside, given .2 .counted (c .before .name-of .result))
 
--- src/step.rt:128:9
-mul-counts : tie.Need-mul-counts
-mul-counts c = search needs
-
--- src/step.rt:128:9
-array-write-counts : tie.Need-array-write-counts
-array-write-counts c = search needs
-
--- src/step.rt:136:20
 judge-requires : tie.Need-judge-requires
 judge-requires c κs =
     let start = c .before .before .before .before .before in
@@ -53,15 +34,16 @@ judge-requires c κs =
     let name = c .before .name-of in
     record { short = start .pre .0; holds = start .pre .1; stands = this-stands (tableSays (a .table .now)) (a .d) (a .m .now) (a .book .now) (a .section) (a .at) (a .last) (a .passed) (start .pre .2) (a .stop) (start .pre .3) (start .pre .4) (name .result) (name .ensures) (c .if1 .taken) }
 
--- src/step.rt:135:9
+with-count-requires : tie.Need-with-count-requires
+with-count-requires c κs = search needs
+
 returns : tie.Need-returns
 returns c =
-    let start = c .before .before .before .before .before .before in
+    let start = c .before .before .before .before .before .before .before in
     let a = start .args in
-    let name = c .before .before .name-of in
-    turned (tableSays (a .table .now)) (a .d) (a .m .now) (a .book .now) (a .section) (a .at) (a .last) (a .passed) (start .pre .2) (a .stop) (start .pre .3) (start .pre .4) (name .result) (name .ensures) (c .before .if1 .taken) (c .judge .result) (c .judge .ensures)
+    let name = c .before .before .before .name-of in
+    turned (tableSays (a .table .now)) (a .d) (a .m .now) (a .book .now) (a .section) (a .at) (a .last) (a .passed) (start .pre .2) (a .stop) (start .pre .3) (start .pre .4) (name .result) (name .ensures) (c .before .before .if1 .taken) (c .before .judge .result) (c .before .judge .ensures) (c .with-count .result) (c .with-count .ensures)
 
--- src/step.rt:110:1
 returns-2 : tie.Need-returns-2
 returns-2 c =
     let start = c .before .before .before .before .before in
@@ -80,8 +62,7 @@ at-segment-spec =
     mul-number
     array-read-number
     add-number
-    mul-counts
-    array-write-counts
     judge-requires
+    with-count-requires
     returns
     returns-2)

@@ -1,15 +1,11 @@
+-- `grade::step::between` meets its contract: field by field. Assumes nothing.
 use borrow.Author.Needs.{needs}
 use Rattle.grade.proofs.step.between.Statement.{statement}
 use Rattle.grade.proofs.step.between.Tie as tie
-use Rattle.grade.proofs.step.between.Reads as reads
-use Rattle.grade.proofs.step.between.Lts as lts
-use Rattle.grade.proofs.within.no_pending.Reads as no-pending-reads
 
--- src/step.rt:79:18
 no-pending-requires : tie.Need-no-pending-requires
 no-pending-requires c κs = search needs
 
--- src/step.rt:69:1
 returns : tie.Need-returns
 returns c =
     let a = c .before .args in

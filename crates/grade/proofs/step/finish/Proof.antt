@@ -1,34 +1,25 @@
+-- `grade::step::finish` meets its contract: the end's finding, if it has one. Assumes nothing.
 use mathlib.Core.Path.{sym, _∙_}
 use Rattle.grade.specs.Order.{outOfOrder, tableSays}
 use Rattle.grade.proofs.Segments.{ended-found, ended-fine}
 use borrow.Author.Needs.{needs}
 use Rattle.grade.proofs.step.finish.Statement.{statement}
 use Rattle.grade.proofs.step.finish.Tie as tie
-use Rattle.grade.proofs.step.finish.Reads as reads
-use Rattle.grade.proofs.step.finish.Lts as lts
-use Rattle.grade.proofs.order.out_of_order.Reads as out-of-order-reads
-use Rattle.grade.proofs.step.between.Reads as between-reads
-use Rattle.grade.proofs.within.order_finding.Reads as order-finding-reads
 
--- src/step.rt:96:9
 between-requires : tie.Need-between-requires
 between-requires c κs = search needs
 
--- src/step.rt:97:8
 out-of-order-requires : tie.Need-out-of-order-requires
 out-of-order-requires c κs = search needs
 
--- src/step.rt:99:35
 order-finding-requires : tie.Need-order-finding-requires
 order-finding-requires c κs = search needs
 
--- src/step.rt:98:9
 returns : tie.Need-returns
 returns c =
     let a = c .before .before .before .before .args in
     ended-found (outOfOrder (tableSays (a .table .now))) (a .section .«rule_count») (a .end) (a .last) (a .counts) _ _ (sym (c .before .before .out-of-order .ensures) ∙ c .before .if1 .taken) (c .order-finding .ensures) (c .before .before .before .between .ensures)
 
--- src/step.rt:87:1
 returns-2 : tie.Need-returns-2
 returns-2 c =
     let a = c .before .before .before .args in

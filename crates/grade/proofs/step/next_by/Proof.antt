@@ -1,30 +1,22 @@
+-- `grade::step::next_by` meets its contract: the present segment first, then the segments after it. Assumes nothing.
 use Rattle.grade.specs.Order.{tableSays}
 use Rattle.grade.proofs.Segments.{cursor-found, cursor-fine, same-steps}
 use borrow.Author.Needs.{needs}
 use Rattle.grade.proofs.step.next_by.Statement.{statement}
 use Rattle.grade.proofs.step.next_by.Tie as tie
-use Rattle.grade.proofs.step.next_by.Reads as reads
-use Rattle.grade.proofs.step.next_by.Lts as lts
-use Rattle.grade.proofs.step.next_segment.Reads as next-segment-reads
-use Rattle.grade.proofs.within.next_within.Reads as next-within-reads
 
--- src/step.rt:228:11
 next-within-requires : tie.Need-next-within-requires
 next-within-requires c κs = search needs
 
--- src/step.rt:229:23
 enum-known-f : tie.Need-enum-known-f
 enum-known-f c = search needs
 
--- src/step.rt:239:28
 enum-told : tie.Need-enum-told
 enum-told c = search needs
 
--- src/step.rt:239:28
 next-segment-requires : tie.Need-next-segment-requires
 next-segment-requires c κs = search needs
 
--- src/step.rt:212:1
 returns : tie.Need-returns
 returns c =
     let start = c .before .before .before .before .before .before .before .before .before in
@@ -32,7 +24,6 @@ returns c =
     let inner = c .before .before .before .next-within in
     cursor-found (tableSays (a .table .now)) (a .d) (a .m .now) (a .book .now) (a .section) (a .cursor) (start .pre .2) (inner .result) (inner .ensures) _ _ (c .before .f .given .1)
 
--- src/step.rt:212:1
 returns-2 : tie.Need-returns-2
 returns-2 c =
     let start = c .before .before .before .before .before .before .before .before .before in

@@ -1,3 +1,4 @@
+-- `grade::step::next_segment` meets its contract: the segments passed gave nothing, and counts and last stand for them. Assumes nothing.
 use Prim.Native.Nat.{_-_, _≤_}
 use mathlib.Core.Path.{_≡_, refl, _∙_}
 use native.Mathlib.Omega.{arith}
@@ -10,11 +11,6 @@ use Rattle.grade.specs.Rest.{CountsStand, walkFrom}
 use Rattle.grade.proofs.Segments.{no-segment, turn-found, turn-fine, same-steps}
 use Rattle.grade.proofs.step.next_segment.Statement.{statement}
 use Rattle.grade.proofs.step.next_segment.Tie as tie
-use Rattle.grade.proofs.step.next_segment.Reads as reads
-use Rattle.grade.proofs.step.next_segment.Lts as lts
-use Rattle.grade.proofs.step.at_segment.Reads as at-segment-reads
-use Rattle.grade.proofs.step.finish.Reads as finish-reads
-use Rattle.hl7.proofs.cut.find.Reads as find-reads
 
 abbrev Inv-loop : tie.InvT-loop
 Inv-loop table d m book section from before end at₀ last₀ counts₀ at last counts =
@@ -24,19 +20,15 @@ Inv-loop table d m book section from before end at₀ last₀ counts₀ at last 
 abbrev μ-loop : tie.MeasureT-loop
 μ-loop table d m book section from before end at₀ last₀ counts₀ at last counts = end - at
 
--- src/step.rt:173:5
 loop-holds : tie.Need-loop-holds Inv-loop μ-loop
 loop-holds c = let given = c .before .before .pre in (given .0, given .1, given .2, refl, refl)
 
--- src/step.rt:174:13
 find-requires : tie.Need-find-requires Inv-loop μ-loop
 find-requires c κs = search needs
 
--- src/step.rt:176:13
 finish-requires : tie.Need-finish-requires Inv-loop μ-loop
 finish-requires c κs = search needs
 
--- src/step.rt:176:13
 returns : tie.Need-returns Inv-loop μ-loop
 returns c =
     let a = c .before .before .before .before .before .before .args in
@@ -45,21 +37,17 @@ returns c =
     same-steps (tableSays (a .table .now)) (a .d) (a .m .now) (a .book .now) (a .section) (l .inv .4)
     (no-segment (tableSays (a .table .now)) (a .d) (a .m .now) (a .book .now) (a .section) (l .at) (l .last) (l .counts) (l .inv .1) (l .inv .2) (omega (arith, stop .ensures)) (c .finish .result) (c .finish .ensures))
 
--- src/step.rt:178:13
 at-segment-requires : tie.Need-at-segment-requires Inv-loop μ-loop
 at-segment-requires c κs =
     let l = c .before .before .loop in
     (l .inv .0, l .inv .1, l .inv .2, c .before .find .ensures, omega arith)
 
--- src/step.rt:180:14
 add-at : tie.Need-add-at Inv-loop μ-loop
 add-at c = search needs
 
--- src/step.rt:184:27
 enum-known-found : tie.Need-enum-known-found Inv-loop μ-loop
 enum-known-found c = search needs
 
--- src/step.rt:186:17
 returns-2 : tie.Need-returns-2 Inv-loop μ-loop
 returns-2 c =
     let a = c .before .before .before .before .before .before .before .before .before .before .before .args in
@@ -70,11 +58,9 @@ returns-2 c =
 enum-told : tie.Need-enum-told Inv-loop μ-loop
 enum-told c = search needs
 
--- src/step.rt:173:5
 loop-less : tie.Need-loop-less Inv-loop μ-loop
 loop-less c = search needs
 
--- src/step.rt:173:5
 loop-again : tie.Need-loop-again Inv-loop μ-loop
 loop-again c =
     let a = c .before .before .before .before .before .before .before .before .before .args in

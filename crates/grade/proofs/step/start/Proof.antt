@@ -1,3 +1,4 @@
+-- `grade::step::start` meets its contract: the walk from the first segment on gives the findings by place. Assumes nothing.
 use mathlib.Core.Path.{ap, subst⁻¹, _∙_}
 use Rattle.hl7.specs.Place.{delimsOf}
 use Rattle.grade.specs.Rule.{otherNumber}
@@ -7,15 +8,10 @@ use Rattle.grade.proofs.Segments.{between-list, between-stands, start-c
 use borrow.Author.Needs.{needs}
 use Rattle.grade.proofs.step.start.Statement.{statement}
 use Rattle.grade.proofs.step.start.Tie as tie
-use Rattle.grade.proofs.step.start.Reads as reads
-use Rattle.grade.proofs.step.start.Lts as lts
-use Rattle.grade.proofs.step.between.Reads as between-reads
 
--- src/step.rt:208:5
 between-requires : tie.Need-between-requires
 between-requires c κs = search needs
 
--- src/step.rt:203:1
 returns : tie.Need-returns
 returns c =
     let start = c .before .before .before in

@@ -9,7 +9,6 @@ use Rattle.grade.proofs.Holding.{rule-fits}
 use Rattle.grade.proofs.Judging.{not-about, same-rule}
 use Rattle.grade.proofs.within.at_rule.Statement.{statement}
 use Rattle.grade.proofs.within.at_rule.Tie as tie
-use Rattle.grade.proofs.within.at_rule.Lts as lts
 
 is-about-requires : tie.Need-is-about-requires
 is-about-requires c κs = search needs

@@ -1,70 +1,52 @@
+-- `grade::within::codes_of` meets its contract: a CODE rule has a set within the section, any other kind has none. Assumes nothing.
 use native.Mathlib.Omega.{arith}
 use Rattle.grade.proofs.Judging.{set-in-range, codes-as, codes-of-set}
 use borrow.Author.Needs.{needs}
 use Rattle.grade.proofs.within.codes_of.Statement.{statement}
 use Rattle.grade.proofs.within.codes_of.Tie as tie
-use Rattle.grade.proofs.within.codes_of.Reads as reads
-use Rattle.grade.proofs.within.codes_of.Lts as lts
-use Rattle.grade.proofs.lookup.set_at.Reads as set-at-reads
-use Rattle.hl7.proofs.bytes.wide.Reads as wide-reads
 
--- src/within.rt:132:27
 enum-told : tie.Need-enum-told
 enum-told c = search needs
 
--- src/within.rt:133:45
 enum-told-2 : tie.Need-enum-told-2
 enum-told-2 c = search needs
 
--- src/within.rt:134:25
 enum-told-3 : tie.Need-enum-told-3
 enum-told-3 c = search needs
 
--- src/within.rt:135:23
 enum-told-4 : tie.Need-enum-told-4
 enum-told-4 c = search needs
 
--- src/within.rt:136:37
 enum-told-5 : tie.Need-enum-told-5
 enum-told-5 c = search needs
 
--- src/within.rt:137:22
 enum-known-kind : tie.Need-enum-known-kind
 enum-known-kind c = search needs
 
--- src/within.rt:137:53
 wide-requires : tie.Need-wide-requires
 wide-requires c κs = search needs
 
--- src/within.rt:137:53
 sub-set-at : tie.Need-sub-set-at
 sub-set-at c = let range = set-in-range (c .before .before .kind .given .1) (c .before .before .before .before .before .pre .1) in omega (arith, c .wide .ensures .0)
 
--- src/within.rt:137:31
 set-at-requires : tie.Need-set-at-requires
 set-at-requires c κs = let start = c .before .before .before .before .before in let range = set-in-range (c .before .before .kind .given .1) (start .pre .1) in (start .pre .0, omega (arith, c .wide .ensures .0))
 
--- src/within.rt:127:1
 returns : tie.Need-returns
 returns c = codes-as _ _ 0 (c .enum-told .given .1) tt
 
--- src/within.rt:127:1
 returns-2 : tie.Need-returns-2
 returns-2 c = codes-as _ _ 0 (c .enum-told2 .given .1) tt
 
--- src/within.rt:127:1
 returns-3 : tie.Need-returns-3
 returns-3 c = codes-as _ _ 0 (c .enum-told3 .given .1) tt
 
--- src/within.rt:127:1
 returns-4 : tie.Need-returns-4
 returns-4 c = codes-as _ _ 0 (c .enum-told4 .given .1) tt
 
--- src/within.rt:127:1
 returns-5 : tie.Need-returns-5
 returns-5 c = codes-as _ _ 0 (c .enum-told5 .given .1) tt
 
--- src/within.rt:127:1
 returns-6 : tie.Need-returns-6
 returns-6 c = codes-of-set _ _ (c .set-at .result) (c .before .before .before .kind .given .1) (c .before .wide .ensures .0) (c .set-at .ensures)
 

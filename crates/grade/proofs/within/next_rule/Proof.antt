@@ -6,10 +6,9 @@ use borrow.Author.Needs.{needs}
 use Rattle.grade.specs.Rest.{Ready, rulesFrom}
 use Rattle.grade.specs.declared.within.Within.the-variants.{Found}
 use Rattle.grade.proofs.Holding.{rules-length}
-use Rattle.grade.proofs.Judging.{rules-over, next-found, next-fine, same-list}
+use Rattle.grade.proofs.Judging.{rules-step, rules-over, then-found, then-none, same-list}
 use Rattle.grade.proofs.within.next_rule.Statement.{statement}
 use Rattle.grade.proofs.within.next_rule.Tie as tie
-use Rattle.grade.proofs.within.next_rule.Lts as lts
 
 abbrev Inv-loop : tie.InvT-loop
 Inv-loop d m book section here first n i₀ i =
@@ -32,8 +31,9 @@ returns c =
     let a = c .before .before .before .before .before .before .before .before .args in
     let l = c .before .before .before .before .before .loop in
     let rule = c .before .before .before .at-rule in
-    same-list (a .d) (a .m .now) (a .book .now) (a .section) (a .here) _ _ (Found (c .before .f .given .0 .0) (c .before .f .given .0 .1 .0)) (l .inv .2)
-    (next-found (a .d) (a .m .now) (a .book .now) (a .section) (a .here) (l .i) (omega (arith, rules-length (a .book .now) (a .section) (l .inv .1 .holds))) (rule .result) (rule .ensures) _ _ (c .before .f .given .1))
+    same-list (a .d) (a .m .now) (a .book .now) (a .section) (a .here) (Found (c .before .f .given .0 .0) (c .before .f .given .0 .1 .0))
+    (l .inv .2 ∙ rules-step (a .d) (a .m .now) (a .book .now) (a .section) (a .here) (l .i) (omega (arith, rules-length (a .book .now) (a .section) (l .inv .1 .holds))))
+    (then-found (a .d) (a .m .now) (a .book .now) (a .section) (a .here) _ _ (rule .result) (rule .ensures) _ _ (c .before .f .given .1))
 
 enum-told : tie.Need-enum-told Inv-loop μ-loop
 enum-told c = search needs
@@ -48,8 +48,12 @@ loop-again : tie.Need-loop-again Inv-loop μ-loop
 loop-again c =
     let a = c .before .before .before .before .before .before .before .args in
     let l = c .before .before .before .before .loop in
-    let rule = c .before .before .at-rule in
-    (l .inv .0, l .inv .1, l .inv .2 ∙ next-fine (a .d) (a .m .now) (a .book .now) (a .section) (a .here) (l .i) (omega (arith, rules-length (a .book .now) (a .section) (l .inv .1 .holds))) (rule .result) (rule .ensures) (c .enum-told .given .1))
+    let rule = c .before .before .at-rule in (
+      l .inv .0,
+      l .inv .1,
+      l .inv .2 ∙ rules-step (a .d) (a .m .now) (a .book .now) (a .section) (a .here) (l .i) (omega (arith, rules-length (a .book .now) (a .section) (l .inv .1 .holds)))
+          ∙ then-none (a .d) (a .m .now) (a .book .now) (a .section) (a .here) _ _ (rule .result) (rule .ensures) (c .enum-told .given .1),
+    )
 
 returns-2 : tie.Need-returns-2 Inv-loop μ-loop
 returns-2 c =

@@ -11,8 +11,6 @@ use Rattle.grade.specs.Rest.{CodesStand, brokenFrom}
 use Rattle.grade.proofs.Repetitions.{value-broken, value-fine, values-over}
 use Rattle.grade.proofs.within.next_value.Statement.{statement}
 use Rattle.grade.proofs.within.next_value.Tie as tie
-use Rattle.grade.proofs.within.next_value.Lts as lts
-use Rattle.grade.proofs.within.next_value.Reads as reads
 
 abbrev Inv-loop : tie.InvT-loop
 Inv-loop d fld book rule codes at passed cursor₀ done₀ cursor done =
