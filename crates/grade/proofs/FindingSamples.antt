@@ -10,7 +10,7 @@ use Rattle.grade.specs.Rule.{segmentNames, numberFrom, segmentOf, errorC
 use Rattle.grade.specs.Digits.{countWithin, digitRun}
 use Rattle.grade.specs.Calendar.{monthLength, isRealDate}
 use Rattle.grade.specs.Values.{isDate}
-use Rattle.grade.specs.Order.{msh, pid, orc, rxa, atEnd, nameBefore, earlier, isIn, mayFollow}
+use Rattle.grade.specs.Order.{msh, pid, pd1, nk1, pv1, orc, rxa, rxr, obx, nte, atEnd, nameOf, nameBefore, earlier, isIn, mayFollow}
 use Rattle.grade.specs.Broken.{broken, judges, breaksRule, severityLetter}
 use Rattle.grade.specs.Strict.{keep, countFrom, pairsFrom}
 use Rattle.grade.specs.Findings.{findings}
@@ -20,6 +20,14 @@ use Rattle.grade.specs.declared.rule.Severity.{Severity}
 use Rattle.grade.specs.declared.rule.Severity.the-variants.{Error, Warning, Informational}
 use Rattle.grade.specs.declared.rule.Rule.{Rule}
 use Rattle.grade.specs.declared.finding.Finding.{Finding}
+
+-- the ten names have the numbers that the order is stated with
+names :
+    map nameOf
+    (bytes "MSH" ∷ bytes "PID" ∷ bytes "PD1" ∷ bytes "NK1" ∷ bytes "PV1" ∷ bytes "ORC" ∷ bytes "RXA" ∷ bytes "RXR" ∷ bytes "OBX" ∷ bytes "NTE" ∷ [])
+    ≡ msh ∷ pid ∷ pd1 ∷ nk1 ∷ pv1 ∷ orc ∷ rxa ∷ rxr ∷ obx ∷ nte ∷ []
+unfolding segmentOf segmentNames numberFrom same
+names = refl
 
 -- the segments, each with its CR
 abbrev message : List (List ℕ) → List ℕ

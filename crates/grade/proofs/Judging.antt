@@ -20,7 +20,7 @@ use Rattle.hl7.proofs.Walking.{parts-start, parts-done}
 use Rattle.hl7.proofs.Placing.{cut-later}
 use Rattle.grade.specs.Limits.{ruleLimit, segmentCount}
 use Rattle.grade.specs.Rule.{firstField, kindFits, ruleFits}
-use Rattle.grade.specs.Standing.{noRule, rulesIn, setsIn, SetStands, codesAt}
+use Rattle.grade.specs.Standing.{noRule, rulesIn, setsIn, SetStands, codesAt, SetAt}
 use Rattle.grade.specs.Order.{msh, counted}
 use Rattle.grade.specs.Broken.{judges, broken, codesOf, breaksRule}
 use Rattle.grade.specs.Findings.{valueIn, valuesOf}
@@ -49,8 +49,8 @@ module _ (b : List ℕ) (sets : List (List (List ℕ))) (at : ℕ) where
   pub codes-as : {kind k : Kind} → kind ≡ k → CodesAre b sets k at → CodesAre b sets kind at
   codes-as e h = subst⁻¹ (λ (k : Kind). CodesAre b sets k at) e h
 
-  pub codes-of-set : {set w : ℕ} {kind : Kind} → kind ≡ Code set → w ≡ set → SetStands b at × (codesAt b at ≡ getD sets (w - 1) []) → CodesAre b sets kind at
-  codes-of-set e f h = codes-as e (h .0, h .1 ∙ ap (λ (n : ℕ). getD sets (n - 1) []) f)
+  pub codes-placed : {set w place : ℕ} {kind : Kind} → kind ≡ Code set → w ≡ set → at ≡ place → SetAt b sets (w - 1) place → CodesAre b sets kind at
+  codes-placed e f g h = codes-as e (rw g (h .stands), rw g (h .codes ∙ ap (λ (n : ℕ). getD sets (n - 1) []) f))
 
   pub codes-stand : (kind : Kind) → CodesAre b sets kind at → CodesStand b kind at
   codes-stand Required h = tt
@@ -109,7 +109,7 @@ module _ (d : Delims) (m b : List ℕ) (s : Section) (here : Here) (rule : Rule)
   values-cut : valuesOf d rule (bytesOf m here) ≡ map (valueIn d false rule) (partsFrom (d .tilde) fld 0)
   unfolding repetitionsOf cutUnless
   values-cut =
-      let never = always-cut (s .«set_count») rule (bytesOf m here) fits (λ e. about ∙ ready .stands .msh e) in
+      let never = always-cut (s .«set_count») rule (bytesOf m here) fits (λ e. about ∙ ready .stands .named e) in
       ap (λ (n : Bool). map (valueIn d n rule) (cutUnless n (d .tilde) (fieldOf d (bytesOf m here) (rule .place .field) .bytes))) never
       ∙ ap (λ (l : List ℕ). map (valueIn d false rule) (cut (d .tilde) l)) field-bytes
       ∙ ap (map (valueIn d false rule)) (sym (parts-start (d .tilde) fld))

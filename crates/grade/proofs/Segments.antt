@@ -80,7 +80,7 @@ module _ (follows : ℕ → ℕ → Bool) (d : Delims) (m b : List ℕ) (s : Sec
 
     pub between-stands : CountsStand m next counts → Stands m b cursor
     between-stands h = record {
-      here = record { forward = omega arith; inside = omega arith; counts = omega arith; msh = λ e. refl };
+      here = record { forward = omega arith; inside = omega arith; counts = omega arith; named = λ e. refl };
       pending = none-stands m b (s .«rule_count») (holds .fewRules);
       counts = h;
     }
@@ -129,7 +129,7 @@ module _ (follows : ℕ → ℕ → Bool) (d : Delims) (m b : List ℕ) (s : Sec
       this = record { start = at; end = stop; name = name; number = number }
 
       pub this-stands : name < 10 → HereStands m this
-      this-stands h = record { forward = omega arith; inside = omega arith; counts = h; msh = λ e. named ∙ msh-named segment e }
+      this-stands h = record { forward = omega arith; inside = omega arith; counts = h; named = λ e. named ∙ msh-named segment e }
 
       counts-more : CountsStand m (stop + 1) (set counts name number)
       counts-more = record {

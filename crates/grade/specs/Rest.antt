@@ -102,12 +102,12 @@ ofRules d sets name number segment i (rule ∷ rules) =
 abbrev pub bytesOf : List ℕ → Here → List ℕ
 bytesOf m here = between m (here .start) (here .end)
 
--- a segment that can be read, of a counted name
+-- a segment that can be read, of a counted name; where its bytes begin with MSH, that is its name
 pub record HereStands (m : List ℕ) (here : Here) : Type 0 where
   pub forward : here .start ≤ here .end
   pub inside : here .end ≤ length m
   pub counts : here .name < segmentCount
-  pub msh : isMsh (bytesOf m here) ≡ true → here .name ≡ msh
+  pub named : isMsh (bytesOf m here) ≡ true → here .name ≡ msh
 
 -- the field can be read, no more repetitions were passed than bytes, and the codes can be read
 pub record PendingStands (m b : List ℕ) (p : Pending) : Type 0 where

@@ -104,3 +104,16 @@ SetStands b at = isFound (codeSet b at) ≡ true
 -- the codes of the set that stands there
 abbrev pub codesAt : List ℕ → ℕ → List (List ℕ)
 codesAt b at = itemsOf (codeSet b at)
+
+-- set k of the sets stands at a position
+pub record SetAt (b : List ℕ) (sets : List (List (List ℕ))) (k at : ℕ) : Type 0 where
+  pub stands : SetStands b at
+  pub codes : codesAt b at ≡ getD sets k []
+
+-- each of the sets stands at its position, of so many
+abbrev pub SetsAt : List ℕ → List (List (List ℕ)) → ℕ → List ℕ → Type 0
+SetsAt b sets count places = (k : ℕ) → k < count → SetAt b sets k (getD places k 0)
+
+-- each set of a section stands at its position
+abbrev pub Placed : List ℕ → Section → List ℕ → Type 0
+Placed b s places = SetsAt b (setsIn b s) (s .«set_count») places

@@ -44,7 +44,7 @@ fn does_fit(kind: Kind, value: &[u8], book: &[u8], codes: usize) -> bool
     }
 }
 
-pub fn is_broken(kind: Kind, value: &[u8], book: &[u8], codes: usize) -> bool
+fn is_broken(kind: Kind, value: &[u8], book: &[u8], codes: usize) -> bool
     requires { ⌜ CodesStand (now book) kind codes ⌝ }
     ensures { λ r. ⌜ r ≡ broken kind (codesAt (now (book .entry)) codes) (now (value .entry)) ⌝ }
 {
@@ -62,7 +62,7 @@ fn is_judged(kind: Kind, passed: u32) -> bool
 }
 
 // Whether a rule is broken at a repetition of which so many came before, by its value there.
-pub fn breaks_rule(
+pub(crate) fn breaks_rule(
     d: Delims,
     rep: &[u8],
     book: &[u8],

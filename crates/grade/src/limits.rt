@@ -13,6 +13,9 @@ pub const COMPONENT_LIMIT: u8 = 20;
 
 pub const SET_LIMIT: u8 = 64;
 
+// The same, as the length of a list of places.
+pub const SET_PLACES: usize = 64;
+
 pub const CODE_COUNT_LIMIT: usize = 1024;
 
 pub const CODE_LIMIT: usize = 20;

@@ -1,17 +1,17 @@
 // What stands in a section of a sound book: a rule by its number, and the codes of a set.
 ghost use mathlib.Core.Path.{_≡_};
-ghost use Prim.Native.Nat.{_<_};
+ghost use Prim.Native.Nat.{_<_, _≤_};
 ghost use mathlib.Core.Bool.{true};
-ghost use mathlib.Core.List.{[]};
 ghost use lib.Dec.{eqb};
 ghost use lib.ListN.{getD};
 ghost use Rattle.hl7.specs.Bytes.{among};
-ghost use Rattle.grade.specs.Limits.{codeLimit, segmentCount};
+ghost use Rattle.grade.specs.Limits.{codeLimit, segmentCount, setLimit};
 ghost use Rattle.grade.specs.Reader.{isFound, itemsOf, times};
 ghost use Rattle.grade.specs.Book.{text, codeSet};
-ghost use Rattle.grade.specs.Standing.{endOf, rulesIn, setsIn, noRule, Holds, SetStands, codesAt};
+ghost use Rattle.grade.specs.Standing.{endOf, rulesIn, setsIn, noRule, Holds, SetStands, codesAt, SetsAt, Placed};
 ghost use Rattle.grade.specs.declared.walk.Next.{Next};
 use crate::limits::RULE_SIZE;
+use crate::limits::SET_PLACES;
 use crate::rule::Kind;
 use crate::rule::Place;
 use crate::rule::Rule;
@@ -95,28 +95,38 @@ fn set_after(book: &[u8], at: usize) -> usize
     codes_after(book, at + 2, pair_at(book, at))
 }
 
-// Where set k of count sets stands, the first at a position.
-fn nth_set(book: &[u8], at: usize, count: usize, k: usize) -> usize
-    requires { ⌜ (isFound (times count codeSet (now book) at) ≡ true) × (k < count) ⌝ }
-    ensures { λ r. ⌜ SetStands (now (book .entry)) r × (codesAt (now (book .entry)) r ≡ getD (itemsOf (times count codeSet (now (book .entry)) at)) k []) ⌝ }
+// Where each of count sets stands, the first at a position.
+fn note_sets(book: &[u8], at: usize, count: usize) -> [usize; SET_PLACES]
+    requires { ⌜ (isFound (times count codeSet (now book) at) ≡ true) × (count ≤ setLimit) ⌝ }
+    ensures { λ r. ⌜ SetsAt (now (book .entry)) (itemsOf (times count codeSet (now (book .entry)) at)) count r ⌝ }
 {
+    let mut places = [0usize; SET_PLACES];
     let mut from = at;
     let mut i = 0;
-    while i < k {
+    while i < count {
+        places[i] = from;
         from = set_after(book, from);
         i += 1;
     }
-    from
+    places
 }
 
-// Where the set with a number, counted from 0, stands.
-pub fn set_at(book: &[u8], section: Section, k: usize) -> usize
-    requires { ⌜ Holds (now book) section × (k < section .«set_count») ⌝ }
-    ensures { λ r. ⌜ SetStands (now (book .entry)) r × (codesAt (now (book .entry)) r ≡ getD (setsIn (now (book .entry)) section) k []) ⌝ }
+// Where each set of a section stands: they are walked once, and then found at once.
+pub fn sets_of(book: &[u8], section: Section) -> [usize; SET_PLACES]
+    requires { ⌜ Holds (now book) section ⌝ }
+    ensures { λ r. ⌜ Placed (now (book .entry)) section r ⌝ }
 {
     let sets_at = section.sets_at;
     let count = section.set_count as usize;
-    nth_set(book, sets_at, count, k)
+    note_sets(book, sets_at, count)
+}
+
+// The place with a number.
+pub fn place_at(places: &[usize; SET_PLACES], k: usize) -> usize
+    requires { ⌜ k < setLimit ⌝ }
+    ensures { λ r. ⌜ r ≡ getD (now (places .entry)) k 0 ⌝ }
+{
+    places[k]
 }
 
 // The value is one of count codes that stand at a position.

@@ -1,5 +1,6 @@
 // The stepper: where it stands, and the next finding.
 use crate::finding::Finding;
+use crate::limits::SET_PLACES;
 use crate::order::FOLLOW;
 use crate::order::out_of_order;
 use crate::rule::segment_of;
@@ -13,7 +14,7 @@ use crate::within::no_pending;
 use crate::within::order_finding;
 use hl7::bytes::byte_at;
 use hl7::bytes::wide;
-use hl7::cut::find;
+use hl7::cut::find_far;
 use hl7::place::Delims;
 use hl7::place::delims_of;
 ghost use mathlib.Core.Path.{_≡_};
@@ -23,7 +24,7 @@ ghost use Rattle.hl7.specs.Cut.{endFrom};
 ghost use Rattle.hl7.specs.Place.{carriageReturn};
 ghost use Rattle.hl7.specs.Refusals.{messageLimit};
 ghost use Rattle.grade.specs.Limits.{segmentCount};
-ghost use Rattle.grade.specs.Standing.{Holds, rulesIn, setsIn};
+ghost use Rattle.grade.specs.Standing.{Holds, Placed, rulesIn, setsIn};
 ghost use Rattle.grade.specs.Order.{nameOf, outOfOrder, mayFollow, tableSays};
 ghost use Rattle.grade.specs.Findings.{findings};
 ghost use Rattle.grade.specs.Rest.{walkFrom, CountsStand, Turned, rest, restBy, Stands, Steps, StepsBy, betweenAt, endStep};
@@ -122,12 +123,13 @@ fn at_segment(
     m: &[u8],
     book: &[u8],
     section: Section,
+    sets: &[usize; SET_PLACES],
     at: usize,
     stop: usize,
     last: usize,
     passed: [u32; 10],
 ) -> Turn
-    requires { ⌜ (length (now m) ≤ messageLimit) × Holds (now book) section × CountsStand (now m) at passed × (stop ≡ endFrom carriageReturn (now m) at) × (stop < length (now m)) ⌝ }
+    requires { ⌜ (length (now m) ≤ messageLimit) × Holds (now book) section × CountsStand (now m) at passed × (stop ≡ endFrom carriageReturn (now m) at) × (stop < length (now m)) × Placed (now book) section (now sets) ⌝ }
     ensures { λ r. ⌜ Turned (outOfOrder (tableSays (now (table .entry)))) d (now (m .entry)) (now (book .entry)) section (stop + 1) (walkFrom (outOfOrder (tableSays (now (table .entry)))) d (now (m .entry)) (now (book .entry)) section at last passed) r ⌝ }
 {
     let counts = passed;
@@ -141,7 +143,7 @@ fn at_segment(
             number,
         };
         return Turn {
-            found: judge(table, d, m, book, section, here, last),
+            found: judge(table, d, m, book, section, sets, here, last),
             here,
             last: name,
             counts: with_count(counts, name, number),
@@ -167,11 +169,12 @@ fn next_segment(
     m: &[u8],
     book: &[u8],
     section: Section,
+    sets: &[usize; SET_PLACES],
     from: usize,
     before: usize,
     passed: [u32; 10],
 ) -> Step
-    requires { ⌜ (length (now m) ≤ messageLimit) × Holds (now book) section × CountsStand (now m) from passed ⌝ }
+    requires { ⌜ (length (now m) ≤ messageLimit) × Holds (now book) section × CountsStand (now m) from passed × Placed (now book) section (now sets) ⌝ }
     ensures { λ r. ⌜ StepsBy (outOfOrder (tableSays (now (table .entry)))) d (now (m .entry)) (now (book .entry)) section (walkFrom (outOfOrder (tableSays (now (table .entry)))) d (now (m .entry)) (now (book .entry)) section from before passed) r ⌝ }
 {
     let end = m.len();
@@ -179,11 +182,11 @@ fn next_segment(
     let mut last = before;
     let mut counts = passed;
     loop {
-        let stop = find(m, b'\r', at);
+        let stop = find_far(m, b'\r', at);
         if end <= stop {
             return finish(table, section, end, last, counts);
         }
-        let turn = at_segment(table, d, m, book, section, at, stop, last, counts);
+        let turn = at_segment(table, d, m, book, section, sets, at, stop, last, counts);
         let found = turn.found;
         at = stop + 1;
         last = turn.last;
@@ -223,9 +226,10 @@ fn next_by(
     m: &[u8],
     book: &[u8],
     section: Section,
+    sets: &[usize; SET_PLACES],
     cursor: Cursor,
 ) -> Step
-    requires { ⌜ (length (now m) ≤ messageLimit) × Holds (now book) section × Stands (now m) (now book) cursor ⌝ }
+    requires { ⌜ (length (now m) ≤ messageLimit) × Holds (now book) section × Stands (now m) (now book) cursor × Placed (now book) section (now sets) ⌝ }
     ensures { λ r. ⌜ StepsBy (outOfOrder (tableSays (now (table .entry)))) d (now (m .entry)) (now (book .entry)) section (restBy (outOfOrder (tableSays (now (table .entry)))) d (now (m .entry)) (now (book .entry)) section cursor) r ⌝ }
 {
     let here = cursor.here;
@@ -233,7 +237,7 @@ fn next_by(
     let next = cursor.next;
     let last = cursor.last;
     let counts = cursor.counts;
-    match next_within(d, m, book, section, here, pending) {
+    match next_within(d, m, book, section, sets, here, pending) {
         Within::Found(f, p) => Step {
             answer: Answer::Finds(f),
             next: Cursor {
@@ -244,14 +248,20 @@ fn next_by(
                 counts,
             },
         },
-        Within::Nothing => next_segment(table, d, m, book, section, next, last, counts),
+        Within::Nothing => next_segment(table, d, m, book, section, sets, next, last, counts),
     }
 }
 
-// The next finding, or the end.
-pub fn next(m: &[u8], book: &[u8], section: Section, cursor: Cursor) -> Step
-    requires { ⌜ (length (now m) ≤ messageLimit) × Holds (now book) section × Stands (now m) (now book) cursor ⌝ }
+// The next finding, or the end; the section's sets stand at the places that `sets_of` gave.
+pub fn next(
+    m: &[u8],
+    book: &[u8],
+    section: Section,
+    sets: &[usize; SET_PLACES],
+    cursor: Cursor,
+) -> Step
+    requires { ⌜ (length (now m) ≤ messageLimit) × Holds (now book) section × Stands (now m) (now book) cursor × Placed (now book) section (now sets) ⌝ }
     ensures { λ r. ⌜ Steps (now (m .entry)) (now (book .entry)) section (rest (now (m .entry)) (now (book .entry)) section cursor) r ⌝ }
 {
-    next_by(&FOLLOW, delims_of(m), m, book, section, cursor)
+    next_by(&FOLLOW, delims_of(m), m, book, section, sets, cursor)
 }

@@ -1,9 +1,10 @@
 // Judging one segment: its order, its rules, their repetitions.
 use crate::broken::breaks_rule;
 use crate::finding::Finding;
+use crate::limits::SET_PLACES;
 use crate::lookup::is_about;
+use crate::lookup::place_at;
 use crate::lookup::rule_at;
-use crate::lookup::set_at;
 use crate::order::out_of_order;
 use crate::rule::Kind;
 use crate::rule::Place;
@@ -23,7 +24,7 @@ ghost use lib.ListN.{length, getD};
 ghost use Rattle.hl7.specs.Refusals.{messageLimit};
 ghost use Rattle.grade.specs.Limits.{ruleLimit, segmentCount};
 ghost use Rattle.grade.specs.Rule.{kindFits, ruleFits};
-ghost use Rattle.grade.specs.Standing.{Holds, rulesIn, setsIn, noRule};
+ghost use Rattle.grade.specs.Standing.{Holds, Placed, rulesIn, setsIn, noRule};
 ghost use Rattle.grade.specs.Order.{atEnd, outOfOrder, tableSays};
 ghost use Rattle.grade.specs.Broken.{severityLetter};
 ghost use Rattle.grade.specs.Rest.{CodesStand, CodesAre, brokenFrom, NextValue, valueFinding, ofRule, bytesOf, Ready, PendingStands, pendingRest, rulesFrom, segmentRest, orderFinding, ofSegment, noPending, NextOfRule, NextWithin};
@@ -124,8 +125,8 @@ fn value_finding(here: Here, rule: Rule, number: usize, repetition: u32) -> Find
 }
 
 // Where the codes of a kind's set stand, if it has one.
-fn codes_of(book: &[u8], section: Section, kind: Kind) -> usize
-    requires { ⌜ Holds (now book) section × (kindFits (section .«set_count») kind ≡ true) ⌝ }
+fn codes_of(book: &[u8], section: Section, sets: &[usize; SET_PLACES], kind: Kind) -> usize
+    requires { ⌜ Holds (now book) section × Placed (now book) section (now sets) × (kindFits (section .«set_count») kind ≡ true) ⌝ }
     ensures { λ r. ⌜ CodesAre (now (book .entry)) (setsIn (now (book .entry)) section) kind r ⌝ }
 {
     match kind {
@@ -134,7 +135,7 @@ fn codes_of(book: &[u8], section: Section, kind: Kind) -> usize
         Kind::Number => 0,
         Kind::Date => 0,
         Kind::Time { digits: _ } => 0,
-        Kind::Code { set } => set_at(book, section, wide(set) - 1),
+        Kind::Code { set } => place_at(sets, wide(set) - 1),
     }
 }
 
@@ -179,11 +180,12 @@ fn of_rule(
     m: &[u8],
     book: &[u8],
     section: Section,
+    sets: &[usize; SET_PLACES],
     here: Here,
     rule: Rule,
     number: usize,
 ) -> Within
-    requires { ⌜ Ready (now m) (now book) section here × (ruleFits (section .«set_count») rule ≡ true) × (rule .place .segment ≡ here .name) × (number ≤ ruleLimit) ⌝ }
+    requires { ⌜ Ready (now m) (now book) section here × (ruleFits (section .«set_count») rule ≡ true) × (rule .place .segment ≡ here .name) × (number ≤ ruleLimit) × Placed (now book) section (now sets) ⌝ }
     ensures { λ r. ⌜ NextOfRule d (now (m .entry)) (now (book .entry)) here number (ofRule d (setsIn (now (book .entry)) section) (here .name) (here .number) (bytesOf (now (m .entry)) here) number rule) r ⌝ }
 {
     let kind = rule.kind;
@@ -193,7 +195,7 @@ fn of_rule(
     let pending = Pending {
         rule,
         number,
-        codes: codes_of(book, section, kind),
+        codes: codes_of(book, section, sets, kind),
         start: start + span.start,
         end: start + span.end,
         at: 0,
@@ -203,25 +205,50 @@ fn of_rule(
 }
 
 // The first finding of rule i, counted from 0. A rule of another segment is passed over by its name alone.
-fn at_rule(d: Delims, m: &[u8], book: &[u8], section: Section, here: Here, i: usize) -> Within
-    requires { ⌜ Ready (now m) (now book) section here × (i < section .«rule_count») ⌝ }
+fn at_rule(
+    d: Delims,
+    m: &[u8],
+    book: &[u8],
+    section: Section,
+    sets: &[usize; SET_PLACES],
+    here: Here,
+    i: usize,
+) -> Within
+    requires { ⌜ Ready (now m) (now book) section here × (i < section .«rule_count») × Placed (now book) section (now sets) ⌝ }
     ensures { λ r. ⌜ NextOfRule d (now (m .entry)) (now (book .entry)) here (i + 1) (ofRule d (setsIn (now (book .entry)) section) (here .name) (here .number) (bytesOf (now (m .entry)) here) (i + 1) (getD (rulesIn (now (book .entry)) section) i noRule)) r ⌝ }
 {
     if is_about(book, section, i, here.name) {
-        return of_rule(d, m, book, section, here, rule_at(book, section, i), i + 1);
+        return of_rule(
+            d,
+            m,
+            book,
+            section,
+            sets,
+            here,
+            rule_at(book, section, i),
+            i + 1,
+        );
     }
     Within::Nothing
 }
 
 // The first finding of the rules from index first on.
-fn next_rule(d: Delims, m: &[u8], book: &[u8], section: Section, here: Here, first: usize) -> Within
-    requires { ⌜ Ready (now m) (now book) section here ⌝ }
+fn next_rule(
+    d: Delims,
+    m: &[u8],
+    book: &[u8],
+    section: Section,
+    sets: &[usize; SET_PLACES],
+    here: Here,
+    first: usize,
+) -> Within
+    requires { ⌜ Ready (now m) (now book) section here × Placed (now book) section (now sets) ⌝ }
     ensures { λ r. ⌜ NextWithin d (now (m .entry)) (now (book .entry)) section here (rulesFrom d (now (m .entry)) (now (book .entry)) section here first) r ⌝ }
 {
     let n = section.rule_count;
     let mut i = first;
     while i < n {
-        match at_rule(d, m, book, section, here, i) {
+        match at_rule(d, m, book, section, sets, here, i) {
             Within::Found(f, p) => {
                 return Within::Found(f, p);
             }
@@ -234,24 +261,25 @@ fn next_rule(d: Delims, m: &[u8], book: &[u8], section: Section, here: Here, fir
 }
 
 // The next finding of a segment: of the present rule first, then of the rules after it.
-pub fn next_within(
+pub(crate) fn next_within(
     d: Delims,
     m: &[u8],
     book: &[u8],
     section: Section,
+    sets: &[usize; SET_PLACES],
     here: Here,
     pending: Pending,
 ) -> Within
-    requires { ⌜ Ready (now m) (now book) section here × PendingStands (now m) (now book) pending ⌝ }
+    requires { ⌜ Ready (now m) (now book) section here × PendingStands (now m) (now book) pending × Placed (now book) section (now sets) ⌝ }
     ensures { λ r. ⌜ NextWithin d (now (m .entry)) (now (book .entry)) section here (segmentRest d (now (m .entry)) (now (book .entry)) section here pending) r ⌝ }
 {
     match next_pending(d, m, book, here, pending) {
         Within::Found(f, p) => Within::Found(f, p),
-        Within::Nothing => next_rule(d, m, book, section, here, pending.number),
+        Within::Nothing => next_rule(d, m, book, section, sets, here, pending.number),
     }
 }
 
-pub fn order_finding(name: usize, number: u32) -> Finding
+pub(crate) fn order_finding(name: usize, number: u32) -> Finding
     requires { ⌜ name ≤ atEnd ⌝ }
     ensures { λ r. ⌜ r ≡ orderFinding name number ⌝ }
 {
@@ -268,7 +296,7 @@ pub fn order_finding(name: usize, number: u32) -> Finding
 }
 
 // Nothing is left of the rules up to a number.
-pub fn no_pending(number: usize) -> Pending
+pub(crate) fn no_pending(number: usize) -> Pending
     ensures { λ r. ⌜ r ≡ noPending number ⌝ }
 {
     Pending {
@@ -291,20 +319,21 @@ pub fn no_pending(number: usize) -> Pending
 }
 
 // The first finding of a segment after the counted name last: its order, then its rules.
-pub fn judge(
+pub(crate) fn judge(
     table: &[[bool; 11]; 10],
     d: Delims,
     m: &[u8],
     book: &[u8],
     section: Section,
+    sets: &[usize; SET_PLACES],
     here: Here,
     last: usize,
 ) -> Within
-    requires { ⌜ Ready (now m) (now book) section here ⌝ }
+    requires { ⌜ Ready (now m) (now book) section here × Placed (now book) section (now sets) ⌝ }
     ensures { λ r. ⌜ NextWithin d (now (m .entry)) (now (book .entry)) section here (ofSegment (outOfOrder (tableSays (now (table .entry)))) d (now (m .entry)) (now (book .entry)) section here last) r ⌝ }
 {
     if out_of_order(table, last, here.name) {
         return Within::Found(order_finding(here.name, here.number), no_pending(0));
     }
-    next_rule(d, m, book, section, here, 0)
+    next_rule(d, m, book, section, sets, here, 0)
 }

@@ -1,6 +1,6 @@
 -- Laws of `specs/Bytes.antt`, each in the words of a loop that goes along the bytes by index. Assumes nothing.
 use mathlib.Core.Path.{_≡_, refl, sym, ap, ap₂, _∙_}
-use mathlib.Core.Bool.{Bool, true, false, cond, _&&_, and-false, and-assoc, true≢false}
+use mathlib.Core.Bool.{Bool, true, false, cond, _&&_, and-true, and-false, and-assoc, true≢false}
 use mathlib.Core.List.{List, [], _∷_, _++_, map}
 use Prim.Native.Nat.{ℕ, zero, suc, _+_, _-_, _≤_, _<_}
 use native.Mathlib.Numerals.{add-one}
@@ -91,6 +91,25 @@ unfolding all
 all-snoc test [] x h k = rw k
 all-snoc test (y ∷ v) x h k = let t = and-both (test y) (all test v) h in rw (t .0) (all-snoc test v x (t .1) k)
 
+-- every byte of what is put together, or taken apart
+module _ (test : ℕ → Bool) where
+  pub all-append : (s t : List ℕ) → all test s ≡ true → all test t ≡ true → all test (s ++ t) ≡ true
+  unfolding all
+  all-append [] t e f = f
+  all-append (x ∷ s) t e f = let both = and-both (test x) (all test s) e in rw (both .0) (all-append s t (both .1) f)
+
+  pub all-take : (n : ℕ) (s : List ℕ) → all test s ≡ true → all test (take n s) ≡ true
+  unfolding all
+  all-take zero s e = refl
+  all-take (suc n) [] e = refl
+  all-take (suc n) (x ∷ s) e = let both = and-both (test x) (all test s) e in rw (both .0) (all-take n s (both .1))
+
+  pub all-drop : (n : ℕ) (s : List ℕ) → all test s ≡ true → all test (drop n s) ≡ true
+  unfolding all
+  all-drop zero s e = e
+  all-drop (suc n) [] e = refl
+  all-drop (suc n) (x ∷ s) e = all-drop n s (and-both (test x) (all test s) e .1)
+
 -- gathered by a loop without an early exit
 pub all-gathered : (test : ℕ → Bool) (v : List ℕ) (i : ℕ) (b : Bool) → i < length v → (b && all test (drop i v)) ≡ ((b && test (getD v i 0)) && all test (drop (i + 1) v))
 unfolding all
@@ -98,11 +117,13 @@ all-gathered test v i b h = ap (λ (l : List ℕ). b && all test l) (rest-at v i
 
 pub all-over : (test : ℕ → Bool) (v : List ℕ) (i : ℕ) (b : Bool) → length v ≤ i → (b && all test (drop i v)) ≡ b
 unfolding all
-all-over test v i b h = ap (λ (l : List ℕ). b && all test l) (drop-of-length-le v h) ∙ and-true-right b
-  where
-    and-true-right : (b : Bool) → (b && true) ≡ b
-    and-true-right true = refl
-    and-true-right false = refl
+all-over test v i b h = ap (λ (l : List ℕ). b && all test l) (drop-of-length-le v h) ∙ and-true b
+
+-- with one more at the end
+pub all-last : (test : ℕ → Bool) (v : List ℕ) (x : ℕ) → all test (v ++ (x ∷ [])) ≡ (all test v && test x)
+unfolding all
+all-last test [] x = and-true (test x)
+all-last test (y ∷ v) x = ap (λ (b : Bool). test y && b) (all-last test v x) ∙ sym (and-assoc (test y) (all test v) (test x))
 
 -- ---- how many bytes are d
 module _ (d : ℕ) (v : List ℕ) (i : ℕ) where

@@ -32,7 +32,7 @@ judge-requires c κs =
     let start = c .before .before .before .before .before in
     let a = start .args in
     let name = c .before .name-of in
-    record { short = start .pre .0; holds = start .pre .1; stands = this-stands (tableSays (a .table .now)) (a .d) (a .m .now) (a .book .now) (a .section) (a .at) (a .last) (a .passed) (start .pre .2) (a .stop) (start .pre .3) (start .pre .4) (name .result) (name .ensures) (c .if1 .taken) }
+    (record { short = start .pre .0; holds = start .pre .1; stands = this-stands (tableSays (a .table .now)) (a .d) (a .m .now) (a .book .now) (a .section) (a .at) (a .last) (a .passed) (start .pre .2) (a .stop) (start .pre .3) (start .pre .4) (name .result) (name .ensures) (omega arith) }, start .pre .5)
 
 with-count-requires : tie.Need-with-count-requires
 with-count-requires c κs = search needs
@@ -42,14 +42,14 @@ returns c =
     let start = c .before .before .before .before .before .before .before in
     let a = start .args in
     let name = c .before .before .before .name-of in
-    turned (tableSays (a .table .now)) (a .d) (a .m .now) (a .book .now) (a .section) (a .at) (a .last) (a .passed) (start .pre .2) (a .stop) (start .pre .3) (start .pre .4) (name .result) (name .ensures) (c .before .before .if1 .taken) (c .before .judge .result) (c .before .judge .ensures) (c .with-count .result) (c .with-count .ensures)
+    turned (tableSays (a .table .now)) (a .d) (a .m .now) (a .book .now) (a .section) (a .at) (a .last) (a .passed) (start .pre .2) (a .stop) (start .pre .3) (start .pre .4) (name .result) (name .ensures) (omega arith) (c .before .judge .result) (c .before .judge .ensures) (c .with-count .result) (c .with-count .ensures)
 
 returns-2 : tie.Need-returns-2
 returns-2 c =
     let start = c .before .before .before .before .before in
     let a = start .args in
     let name = c .before .name-of in
-    turned-over (tableSays (a .table .now)) (a .d) (a .m .now) (a .book .now) (a .section) (a .at) (a .last) (a .passed) (start .pre .2) (a .stop) (start .pre .3) (start .pre .4) (name .result) (name .ensures) _ (c .if1 .left)
+    turned-over (tableSays (a .table .now)) (a .d) (a .m .now) (a .book .now) (a .section) (a .at) (a .last) (a .passed) (start .pre .2) (a .stop) (start .pre .3) (start .pre .4) (name .result) (name .ensures) _ (omega arith)
 
 pub at-segment-spec : {M : Type 1} → statement M
 at-segment-spec =

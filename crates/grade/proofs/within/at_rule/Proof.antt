@@ -28,6 +28,7 @@ of-rule-requires c κs =
       ap (ruleFits (a .section .«set_count»)) is-it ∙ rule-fits (a .book .now) (a .section) (start .pre .0 .holds) (a .i) (start .pre .1),
       ap (λ (r : Rule). r .place .segment) is-it ∙ eqb-true _ _ (sym (c .before .before .is-about .ensures) ∙ c .before .if1 .taken),
       omega (arith, start .pre .0 .holds .fewRules),
+      start .pre .2,
     )
 
 returns : tie.Need-returns

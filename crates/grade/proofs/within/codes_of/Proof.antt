@@ -1,6 +1,6 @@
 -- `grade::within::codes_of` meets its contract: a CODE rule has a set within the section, any other kind has none. Assumes nothing.
 use native.Mathlib.Omega.{arith}
-use Rattle.grade.proofs.Judging.{set-in-range, codes-as, codes-of-set}
+use Rattle.grade.proofs.Judging.{set-in-range, codes-as, codes-placed}
 use borrow.Author.Needs.{needs}
 use Rattle.grade.proofs.within.codes_of.Statement.{statement}
 use Rattle.grade.proofs.within.codes_of.Tie as tie
@@ -26,11 +26,14 @@ enum-known-kind c = search needs
 wide-requires : tie.Need-wide-requires
 wide-requires c κs = search needs
 
-sub-set-at : tie.Need-sub-set-at
-sub-set-at c = let range = set-in-range (c .before .before .kind .given .1) (c .before .before .before .before .before .pre .1) in omega (arith, c .wide .ensures .0)
+sub-place-at : tie.Need-sub-place-at
+sub-place-at c = let range = set-in-range (c .before .before .kind .given .1) (c .before .before .before .before .before .pre .2) in omega (arith, c .wide .ensures .0)
 
-set-at-requires : tie.Need-set-at-requires
-set-at-requires c κs = let start = c .before .before .before .before .before in let range = set-in-range (c .before .before .kind .given .1) (start .pre .1) in (start .pre .0, omega (arith, c .wide .ensures .0))
+place-at-requires : tie.Need-place-at-requires
+place-at-requires c κs =
+    let start = c .before .before .before .before .before in
+    let range = set-in-range (c .before .before .kind .given .1) (start .pre .2) in
+    omega (arith, c .wide .ensures .0, start .pre .0 .fewSets)
 
 returns : tie.Need-returns
 returns c = codes-as _ _ 0 (c .enum-told .given .1) tt
@@ -48,7 +51,10 @@ returns-5 : tie.Need-returns-5
 returns-5 c = codes-as _ _ 0 (c .enum-told5 .given .1) tt
 
 returns-6 : tie.Need-returns-6
-returns-6 c = codes-of-set _ _ (c .set-at .result) (c .before .before .before .kind .given .1) (c .before .wide .ensures .0) (c .set-at .ensures)
+returns-6 c =
+    let start = c .before .before .before .before .before .before in
+    let range = set-in-range (c .before .before .before .kind .given .1) (start .pre .2) in
+    codes-placed _ _ (c .place-at .result) (c .before .before .before .kind .given .1) (c .before .wide .ensures .0) (c .place-at .ensures) (start .pre .1 _ (omega (arith, c .before .wide .ensures .0)))
 
 pub codes-of-spec : {M : Type 1} → statement M
 codes-of-spec =
@@ -61,8 +67,8 @@ codes-of-spec =
     enum-told-5
     enum-known-kind
     wide-requires
-    sub-set-at
-    set-at-requires
+    sub-place-at
+    place-at-requires
     returns
     returns-2
     returns-3

@@ -4,6 +4,7 @@ use mathlib.Core.Path.{_≡_, refl, _∙_}
 use native.Mathlib.Omega.{arith}
 use borrow.Author.Needs.{needs}
 use Rattle.grade.specs.Rest.{Ready, rulesFrom}
+use Rattle.grade.specs.Standing.{Placed}
 use Rattle.grade.specs.declared.within.Within.the-variants.{Found}
 use Rattle.grade.proofs.Holding.{rules-length}
 use Rattle.grade.proofs.Judging.{rules-step, rules-over, then-found, then-none, same-list}
@@ -11,14 +12,14 @@ use Rattle.grade.proofs.within.next_rule.Statement.{statement}
 use Rattle.grade.proofs.within.next_rule.Tie as tie
 
 abbrev Inv-loop : tie.InvT-loop
-Inv-loop d m book section here first n i₀ i =
-    (n ≡ section .«rule_count») × Ready m book section here × (rulesFrom d m book section here first ≡ rulesFrom d m book section here i)
+Inv-loop d m book section sets here first n i₀ i =
+    (n ≡ section .«rule_count») × Ready m book section here × (rulesFrom d m book section here first ≡ rulesFrom d m book section here i) × Placed book section sets
 
 abbrev μ-loop : tie.MeasureT-loop
-μ-loop d m book section here first n i₀ i = n - i
+μ-loop d m book section sets here first n i₀ i = n - i
 
 loop-holds : tie.Need-loop-holds Inv-loop μ-loop
-loop-holds c = (refl, c .before .before .pre, refl)
+loop-holds c = (refl, c .before .before .pre .0, refl, c .before .before .pre .1)
 
 at-rule-requires : tie.Need-at-rule-requires Inv-loop μ-loop
 at-rule-requires c κs = search needs
@@ -53,6 +54,7 @@ loop-again c =
       l .inv .1,
       l .inv .2 ∙ rules-step (a .d) (a .m .now) (a .book .now) (a .section) (a .here) (l .i) (omega (arith, rules-length (a .book .now) (a .section) (l .inv .1 .holds)))
           ∙ then-none (a .d) (a .m .now) (a .book .now) (a .section) (a .here) _ _ (rule .result) (rule .ensures) (c .enum-told .given .1),
+      l .inv .3,
     )
 
 returns-2 : tie.Need-returns-2 Inv-loop μ-loop

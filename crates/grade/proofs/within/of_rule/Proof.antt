@@ -23,13 +23,13 @@ field-requires c κs = search needs
 codes-of-requires : tie.Need-codes-of-requires
 codes-of-requires c κs =
     let start = c .before .before .before .before .before in
-    (start .pre .0 .holds, kind-limits (start .args .section .«set_count») (start .args .rule) (start .pre .1))
-
-add-t17 : tie.Need-add-t17
-add-t17 c = search needs
+    (start .pre .0 .holds, start .pre .4, kind-limits (start .args .section .«set_count») (start .args .rule) (start .pre .1))
 
 add-t18 : tie.Need-add-t18
 add-t18 c = search needs
+
+add-t19 : tie.Need-add-t19
+add-t19 c = search needs
 
 next-pending-requires : tie.Need-next-pending-requires
 next-pending-requires c κs =
@@ -59,7 +59,7 @@ of-rule-spec =
     wide-requires
     field-requires
     codes-of-requires
-    add-t17
     add-t18
+    add-t19
     next-pending-requires
     returns)

@@ -1,0 +1,10 @@
+pub mod Writing
+pub mod Decimals
+pub mod Lines
+pub mod Sizes
+pub mod Listing
+pub mod Answering
+pub mod Admitting
+pub mod Reading
+pub mod Promises
+pub mod Samples

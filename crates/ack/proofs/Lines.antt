@@ -1,0 +1,110 @@
+-- The laws of the layout. Assumes nothing.
+use mathlib.Core.Path.{_≡_, refl, sym, ap, _∙_}
+use mathlib.Core.List.{List, [], _∷_, _++_, map, flatMap, append-nil, append-assoc}
+use Prim.Native.Nat.{ℕ, zero, suc, _+_, _-_, _*_, _≤_}
+use native.Mathlib.Omega.{arith}
+use borrow.Author.Tests.{eq-eqb, ne-eqb}
+use lib.ListN.{getD, take, drop, List·getD-map, drop-of-length-le}
+use Rattle.hl7.specs.Text.{bytes}
+use Rattle.hl7.specs.Place.{carriageReturn}
+use Rattle.hl7.specs.declared.place.Delims.{Delims}
+use Rattle.grade.specs.Rule.{segmentNames, nameBytes}
+use Rattle.grade.specs.declared.finding.Finding.{Finding}
+use Rattle.ack.specs.Decimal.{decimal}
+use Rattle.ack.specs.Layout.{ownByte, own, marked, joined, copied, mshLine, verdict, msaLine, componentParts, valueParts, placeParts, codeText, errLine, ended, ackBytes}
+use Rattle.ack.specs.Pieces.{heading, errs}
+
+-- ---- texts
+pub own-at : (d : Delims) (text : List ℕ) (i : ℕ) → getD (own d text) i 0 ≡ ownByte d (getD text i 0)
+unfolding ownByte
+own-at d text i = List·getD-map (ownByte d) text i 0
+
+-- the names stand in one text, three bytes each
+pub names-at : (n : ℕ) → take 3 (drop (n * 3) (bytes "MSHPIDPD1NK1PV1ORCRXARXROBXNTE")) ≡ nameBytes n
+unfolding nameBytes segmentNames
+names-at zero = refl
+names-at (suc zero) = refl
+names-at (suc (suc zero)) = refl
+names-at (suc (suc (suc zero))) = refl
+names-at (suc (suc (suc (suc zero)))) = refl
+names-at (suc (suc (suc (suc (suc zero))))) = refl
+names-at (suc (suc (suc (suc (suc (suc zero)))))) = refl
+names-at (suc (suc (suc (suc (suc (suc (suc zero))))))) = refl
+names-at (suc (suc (suc (suc (suc (suc (suc (suc zero)))))))) = refl
+names-at (suc (suc (suc (suc (suc (suc (suc (suc (suc zero))))))))) = refl
+names-at (suc (suc (suc (suc (suc (suc (suc (suc (suc (suc n)))))))))) =
+    let past : 30 ≤ suc (suc (suc (suc (suc (suc (suc (suc (suc (suc n))))))))) * 3 = omega arith in
+    rw (drop-of-length-le (bytes "MSHPIDPD1NK1PV1ORCRXARXROBXNTE") past)
+
+pub code-other : (n : ℕ) → (n ≡ 100 → ⊥) → (n ≡ 101 → ⊥) → (n ≡ 102 → ⊥) → (n ≡ 103 → ⊥) → (n ≡ 200 → ⊥) → (n ≡ 201 → ⊥) → (n ≡ 202 → ⊥) → (n ≡ 203 → ⊥) → codeText n ≡ []
+unfolding codeText
+code-other n a b c d e f g h =
+    rw (ne-eqb n 100 a, ne-eqb n 101 b, ne-eqb n 102 c, ne-eqb n 103 d, ne-eqb n 200 e, ne-eqb n 201 f, ne-eqb n 202 g, ne-eqb n 203 h)
+
+-- ---- ERR-2, by the tests of the code
+module _ (mark : ℕ) where
+  pub component-none : (n : ℕ) → n ≡ 0 → [] ≡ marked mark (componentParts n)
+  unfolding marked componentParts
+  component-none n e = rw (eq-eqb n 0 e)
+
+  pub component-some : (n : ℕ) → (n ≡ 0 → ⊥) → mark ∷ decimal n ≡ marked mark (componentParts n)
+  unfolding marked componentParts
+  component-some n e = rw (ne-eqb n 0 e, append-nil (decimal n))
+
+  module _ (f : Finding) where
+    pub value-none : f .field ≡ 0 → [] ≡ marked mark (valueParts f)
+    unfolding marked valueParts
+    value-none e = rw (eq-eqb (f .field) 0 e)
+
+    pub value-some : (f .field ≡ 0 → ⊥) → (mark ∷ decimal (f .field)) ++ ((mark ∷ decimal (f .repetition)) ++ marked mark (componentParts (f .component))) ≡ marked mark (valueParts f)
+    unfolding marked valueParts
+    value-some e = rw (ne-eqb (f .field) 0 e)
+
+    pub place-none : f .name ≡ 10 → [] ≡ joined mark (placeParts f)
+    unfolding joined placeParts
+    place-none e = rw (eq-eqb (f .name) 10 e)
+
+    pub place-some : (f .name ≡ 10 → ⊥) → nameBytes (f .name) ++ ((mark ∷ decimal (f .number)) ++ marked mark (valueParts f)) ≡ joined mark (placeParts f)
+    unfolding joined marked placeParts
+    place-some e = rw (ne-eqb (f .name) 10 e)
+
+-- ---- lines, as the code writes them
+-- each part with the mark in front, and the CR
+withEnd : ℕ → List (List ℕ) → List ℕ
+withEnd mark [] = carriageReturn ∷ []
+withEnd mark (part ∷ parts) = mark ∷ (part ++ withEnd mark parts)
+
+line-ends : (mark : ℕ) (part : List ℕ) (parts : List (List ℕ)) → part ++ withEnd mark parts ≡ ended (joined mark (part ∷ parts))
+unfolding joined marked withEnd
+line-ends mark part parts = ap (λ (l : List ℕ). part ++ l) (ends parts) ∙ sym (append-assoc part (marked mark parts) (carriageReturn ∷ []))
+  where
+    ends : (ps : List (List ℕ)) → withEnd mark ps ≡ marked mark ps ++ (carriageReturn ∷ [])
+    ends [] = refl
+    ends (p ∷ ps) = ap (λ (l : List ℕ). mark ∷ l) (ap (λ (l : List ℕ). p ++ l) (ends ps) ∙ sym (append-assoc p (marked mark ps) (carriageReturn ∷ [])))
+
+pub msh-pieces : (d : Delims) (head stamp : List ℕ) {control w : ℕ} → w ≡ control →
+    own d (bytes "MSH|^~\\&")
+    ++ ((d .bar ∷ copied d head 5)
+    ++ ((d .bar ∷ copied d head 6)
+    ++ ((d .bar ∷ copied d head 3)
+    ++ ((d .bar ∷ copied d head 4)
+    ++ ((d .bar ∷ stamp)
+    ++ (own d (bytes "||ACK^V04^ACK")
+    ++ ((d .bar ∷ decimal w)
+    ++ ((d .bar ∷ copied d head 11)
+    ++ own d (bytes "|2.5.1|||NE|NE|||||Z23^CDCPHINVS\r")))))))))
+    ≡ ended (mshLine d head stamp control)
+unfolding mshLine withEnd ownByte
+msh-pieces d head stamp e = rw e (line-ends (d .bar) (bytes "MSH") _)
+
+-- ---- the ACK
+each-ended : (d : Delims) (findings : List Finding) → flatMap ended (map (errLine d) findings) ≡ errs d findings
+unfolding errs flatMap
+each-ended d [] = refl
+each-ended d (f ∷ findings) = ap (λ (l : List ℕ). ended (errLine d f) ++ l) (each-ended d findings)
+
+-- the first two segments, and then the ERRs
+pub ack-is : (d : Delims) (head stamp : List ℕ) (control : ℕ) (findings : List Finding) → ackBytes d head stamp control findings ≡ heading d head stamp control (verdict findings) ++ errs d findings
+unfolding ackBytes heading flatMap
+ack-is d head stamp control findings =
+    rw (each-ended d findings) (sym (append-assoc (ended (mshLine d head stamp control)) (ended (msaLine d head (verdict findings))) (errs d findings)))

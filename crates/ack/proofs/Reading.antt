@@ -1,0 +1,362 @@
+-- What a reader finds in a written ACK: cut by its CRs it is MSH, MSA and one ERR for each finding, in order, and MSA-1 is what the findings make it.
+-- Assumes nothing.
+use mathlib.Core.Path.{_≡_, refl, sym, ap, subst, _∙_}
+use mathlib.Core.Bool.{Bool, true, false, cond, not, _&&_, _||_, true≢false}
+use mathlib.Core.Logic.{_↔_}
+use mathlib.Core.List.{List, [], _∷_, _++_, map, flatMap, append-assoc}
+use Prim.Native.Nat.{ℕ, zero, suc, _+_, _*_, _/_, _%_}
+use Prim.Native.Char.{code}
+use native.Mathlib.Omega.{arith}
+use lib.Dec.{eqb, ltb}
+use lib.ListN.{length, getD, take, drop}
+use borrow.Author.Tests.{ne-eqb, eqb-false, not-true}
+use Rattle.hl7.specs.Text.{bytes}
+use Rattle.hl7.specs.Bytes.{all, begins}
+use Rattle.hl7.specs.Cut.{ahead, cut, partAt, pieceAt, butLast}
+use Rattle.hl7.specs.Place.{carriageReturn, segmentsOf, nthOf, cutUnless, partOfField, isMsh, neverCut, componentOf, inField, inSegment, place}
+use Rattle.hl7.specs.declared.place.Delims.{Delims}
+use Rattle.hl7.proofs.Comparing.{and-both, all-append, all-take, all-drop}
+use Rattle.hl7.proofs.Cutting.{cut-delimiter, cut-other, piece-stands}
+use Rattle.grade.specs.Rule.{nameBytes}
+use Rattle.grade.specs.declared.finding.Finding.{Finding}
+use Rattle.ack.specs.Decimal.{digit, lastDigits, decimal}
+use Rattle.ack.specs.Layout.{ownByte, own, marked, joined, copied, mshLine, has, isHeader, isFault, letter, verdict, msaLine, componentParts, valueParts, placeParts, codeText, errLine, ended, ackLines, ackBytes}
+use Rattle.ack.proofs.Lines.{names-at}
+
+-- ---- parts that hold no mark
+-- x is not the mark
+abbrev pub isNot : ℕ → ℕ → Bool
+isNot mark x = not (eqb x mark)
+
+-- the mark is not among the bytes
+abbrev pub without : ℕ → List ℕ → Type 0
+without mark s = all (isNot mark) s ≡ true
+
+abbrev pub Each : (List ℕ → Type 0) → List (List ℕ) → Type 0
+Each P [] = Unit {0}
+Each P (p ∷ ps) = P p × Each P ps
+
+infixr 20 _also_
+_also_ : {A B : Type 0} → A → B → A × B
+a also b = (a, b)
+
+-- what stands before the first mark is the first part
+cut-ended : (mark : ℕ) (s rest : List ℕ) → without mark s → cut mark (s ++ (mark ∷ rest)) ≡ s ∷ cut mark rest
+unfolding all
+cut-ended mark [] rest e = cut-delimiter mark mark rest refl
+cut-ended mark (x ∷ s) rest e =
+    let both = and-both (isNot mark x) (all (isNot mark) s) e in
+    cut-other mark x (s ++ (mark ∷ rest)) (eqb-false x mark (not-true (eqb x mark) (both .0))) ∙ rw (cut-ended mark s rest (both .1))
+
+-- what has no mark is not cut
+cut-whole : (mark : ℕ) (s : List ℕ) → without mark s → cut mark s ≡ s ∷ []
+unfolding all cut
+cut-whole mark [] e = refl
+cut-whole mark (x ∷ s) e =
+    let both = and-both (isNot mark x) (all (isNot mark) s) e in
+    cut-other mark x s (eqb-false x mark (not-true (eqb x mark) (both .0))) ∙ rw (cut-whole mark s (both .1))
+
+-- no part of a cut holds the mark
+pub part-without : (mark : ℕ) (s : List ℕ) (k : ℕ) → without mark (partAt (cut mark s) k)
+unfolding all cut ahead
+part-without mark s k = at (cut mark s) k (parts s)
+  where
+    more : (x : ℕ) (b : Bool) (ps : List (List ℕ)) → eqb x mark ≡ b → Each (without mark) ps → Each (without mark) (ahead b x ps)
+    more x true ps e h = (refl, h)
+    more x false [] e h = (rw e, tt)
+    more x false (p ∷ ps) e h = (rw e (h .0), h .1)
+
+    parts : (s : List ℕ) → Each (without mark) (cut mark s)
+    parts [] = (refl, tt)
+    parts (x ∷ s) = more x (eqb x mark) (cut mark s) refl (parts s)
+
+    at : (ps : List (List ℕ)) (k : ℕ) → Each (without mark) ps → without mark (partAt ps k)
+    at [] k h = refl
+    at (p ∷ ps) zero h = h .0
+    at (p ∷ ps) (suc k) h = at ps k (h .1)
+
+-- lines that end with a CR are cut as they were put together, and nothing stands after the last
+lines-cut : (lines : List (List ℕ)) → Each (without carriageReturn) lines → cut carriageReturn (flatMap ended lines) ≡ lines ++ ([] ∷ [])
+unfolding flatMap cut
+lines-cut [] e = refl
+lines-cut (line ∷ lines) e =
+    ap (cut carriageReturn) (append-assoc line (carriageReturn ∷ []) (flatMap ended lines))
+    ∙ cut-ended carriageReturn line (flatMap ended lines) (e .0)
+    ∙ ap (λ (ps : List (List ℕ)). line ∷ ps) (lines-cut lines (e .1))
+
+but-last : (lines : List (List ℕ)) → butLast (lines ++ ([] ∷ [])) ≡ lines
+unfolding butLast
+but-last [] = refl
+but-last (p ∷ []) = refl
+but-last (p ∷ (q ∷ lines)) = ap (λ (ps : List (List ℕ)). p ∷ ps) (but-last (q ∷ lines))
+
+-- ---- what the layout is made of holds no CR, where what it copies holds none
+abbrev pub clean : List ℕ → Type 0
+clean s = without carriageReturn s
+
+letter-clean : (header fault : Bool) → isNot carriageReturn (letter header fault) ≡ true
+letter-clean true fault = refl
+letter-clean false true = refl
+letter-clean false false = refl
+
+or-false : (t u : Bool) → (t || u) ≡ false → (t ≡ false) × (u ≡ false)
+or-false true u e = absurd (true≢false e)
+or-false false u e = (refl, e)
+
+part-clean : (n from : ℕ) (s : List ℕ) → clean s → clean (take n (drop from s))
+part-clean n from s e = all-take (isNot carriageReturn) n (drop from s) (all-drop (isNot carriageReturn) from s e)
+
+cond-clean : (b : Bool) (s t : List ℕ) → clean s → clean t → clean (cond b s t)
+cond-clean true s t e f = e
+cond-clean false s t e f = f
+
+-- none of the five delimiters is a CR
+abbrev pub Fine : Delims → Type 0
+Fine d = clean (d .bar ∷ d .caret ∷ d .tilde ∷ d .backslash ∷ d .ampersand ∷ [])
+
+marked-clean : (mark : ℕ) (parts : List (List ℕ)) → isNot carriageReturn mark ≡ true → Each clean parts → clean (marked mark parts)
+unfolding marked all
+marked-clean mark [] h e = refl
+marked-clean mark (p ∷ ps) h e = rw h (all-append (isNot carriageReturn) p (marked mark ps) (e .0) (marked-clean mark ps h (e .1)))
+
+joined-clean : (mark : ℕ) (parts : List (List ℕ)) → isNot carriageReturn mark ≡ true → Each clean parts → clean (joined mark parts)
+unfolding joined all
+joined-clean mark [] h e = refl
+joined-clean mark (p ∷ ps) h e = all-append (isNot carriageReturn) p (marked mark ps) (e .0) (marked-clean mark ps h (e .1))
+
+-- a digit
+digit-clean : (n : ℕ) → clean (digit n ∷ [])
+unfolding all
+digit-clean n = rw (ne-eqb (48 + n) carriageReturn (λ e. omega (arith, e)))
+
+decimal-clean : (n : ℕ) → clean (decimal n)
+unfolding decimal lastDigits all
+decimal-clean n = of 20 n
+  where
+    of : (k n : ℕ) → clean (lastDigits k n)
+    of zero n = refl
+    of (suc k) n =
+        cond-clean (ltb n 10) (digit n ∷ []) (lastDigits k (n / 10) ++ (digit (n % 10) ∷ [])) (digit-clean n)
+        (all-append (isNot carriageReturn) (lastDigits k (n / 10)) (digit (n % 10) ∷ []) (of k (n / 10)) (digit-clean (n % 10)))
+
+name-clean : (n : ℕ) → clean (nameBytes n)
+unfolding all
+name-clean n = subst clean (names-at n) (part-clean 3 (n * 3) (bytes "MSHPIDPD1NK1PV1ORCRXARXROBXNTE") refl)
+
+-- a field is a part of its segment
+copied-clean : (d : Delims) (head : List ℕ) (k : ℕ) → clean head → clean (copied d head k)
+unfolding copied partOfField all
+copied-clean d head k e = of (isMsh head) k
+  where
+    piece : (j : ℕ) → clean (pieceAt (cut (d .bar) head) j .bytes)
+    piece j =
+        let p = pieceAt (cut (d .bar) head) j in
+        subst clean (piece-stands (d .bar) head j) (part-clean (length (p .bytes)) (p .start) head e)
+
+    of : (msh : Bool) (k : ℕ) → clean (partOfField msh (d .bar) head k .bytes)
+    of msh zero = refl
+    of true (suc zero) = part-clean 1 3 head e
+    of true (suc (suc k)) = piece (suc k)
+    of false (suc k) = piece (suc k)
+
+-- a text without CR has none either when the five are put into it
+own-clean : (d : Delims) → Fine d → (text : List ℕ) → clean text → clean (own d text)
+unfolding ownByte all
+own-clean d fine text e = of text e
+  where
+    pass : (b : Bool) (x y : ℕ) → isNot carriageReturn x ≡ true → isNot carriageReturn y ≡ true → isNot carriageReturn (cond b x y) ≡ true
+    pass true x y e f = e
+    pass false x y e f = f
+
+    byte : (x : ℕ) → isNot carriageReturn x ≡ true → isNot carriageReturn (ownByte d x) ≡ true
+    byte x h =
+        let after-bar = and-both (isNot carriageReturn (d .bar)) _ fine in
+        let after-caret = and-both (isNot carriageReturn (d .caret)) _ (after-bar .1) in
+        let after-tilde = and-both (isNot carriageReturn (d .tilde)) _ (after-caret .1) in
+        let after-backslash = and-both (isNot carriageReturn (d .backslash)) _ (after-tilde .1) in
+        let after-ampersand = and-both (isNot carriageReturn (d .ampersand)) _ (after-backslash .1) in
+        pass (eqb x 124) _ _ (after-bar .0)
+        (pass (eqb x 94) _ _ (after-caret .0)
+        (pass (eqb x 126) _ _ (after-tilde .0) (pass (eqb x 92) _ _ (after-backslash .0) (pass (eqb x 38) _ _ (after-ampersand .0) h))))
+
+    of : (text : List ℕ) → clean text → clean (own d text)
+    of [] e = refl
+    of (x ∷ text) e =
+        let both = and-both (isNot carriageReturn x) (all (isNot carriageReturn) text) e in
+        rw (byte x (both .0)) (of text (both .1))
+
+-- ---- the lines
+module _ (d : Delims) (fine : Fine d) where
+  bar-clean : isNot carriageReturn (d .bar) ≡ true
+  unfolding all
+  bar-clean = and-both (isNot carriageReturn (d .bar)) _ fine .0
+
+  caret-clean : isNot carriageReturn (d .caret) ≡ true
+  unfolding all
+  caret-clean = and-both (isNot carriageReturn (d .caret)) _ (and-both (isNot carriageReturn (d .bar)) _ fine .1) .0
+
+  msh-clean : (head stamp : List ℕ) (control : ℕ) → clean head → clean stamp → clean (mshLine d head stamp control)
+  unfolding mshLine all
+  msh-clean head stamp control h s =
+      joined-clean (d .bar) _ bar-clean
+      (refl
+      also own-clean d fine (bytes "^~\\&") refl
+      also copied-clean d head 5 h
+      also copied-clean d head 6 h
+      also copied-clean d head 3 h
+      also copied-clean d head 4 h
+      also s
+      also refl
+      also own-clean d fine (bytes "ACK^V04^ACK") refl
+      also decimal-clean control
+      also copied-clean d head 11 h
+      also refl also refl also refl also refl also refl also refl also refl also refl also refl
+      also own-clean d fine (bytes "Z23^CDCPHINVS") refl
+      also tt)
+
+  msa-clean : (head : List ℕ) (second : ℕ) → clean head → isNot carriageReturn second ≡ true → clean (msaLine d head second)
+  unfolding msaLine all
+  msa-clean head second h s = joined-clean (d .bar) _ bar-clean (refl, (rw s, (copied-clean d head 10 h, tt)))
+
+  code-clean : (n : ℕ) → clean (codeText n)
+  unfolding codeText all
+  code-clean n =
+      cond-clean (eqb n 100) _ _ refl
+      (cond-clean (eqb n 101) _ _ refl
+      (cond-clean (eqb n 102) _ _ refl
+      (cond-clean (eqb n 103) _ _ refl
+      (cond-clean (eqb n 200) _ _ refl (cond-clean (eqb n 201) _ _ refl (cond-clean (eqb n 202) _ _ refl (cond-clean (eqb n 203) _ _ refl refl)))))))
+
+  each-cond : (b : Bool) (ps : List (List ℕ)) → Each clean ps → Each clean (cond b [] ps)
+  each-cond true ps e = tt
+  each-cond false ps e = e
+
+  place-clean : (f : Finding) → Each clean (placeParts f)
+  unfolding placeParts valueParts componentParts
+  place-clean f =
+      each-cond (eqb (f .name) 10) _
+      (name-clean (f .name)
+      also decimal-clean (f .number)
+      also each-cond (eqb (f .field) 0) _
+      (decimal-clean (f .field) also decimal-clean (f .repetition) also each-cond (eqb (f .component) 0) _ (decimal-clean (f .component) also tt)))
+
+  err-clean : (f : Finding) → eqb (f .severity) carriageReturn ≡ false → clean (errLine d f)
+  unfolding errLine all
+  err-clean f s =
+      joined-clean (d .bar) _ bar-clean
+      (refl
+      also refl
+      also joined-clean (d .caret) _ caret-clean (place-clean f)
+      also own-clean d fine (codeText (f .code)) (code-clean (f .code))
+      also (rw s)
+      also all-append (isNot carriageReturn) (decimal (f .rule)) (own d (bytes "^^L")) (decimal-clean (f .rule)) (own-clean d fine (bytes "^^L") refl)
+      also tt)
+
+  errs-clean : (findings : List Finding) → has (λ f. eqb (f .severity) carriageReturn) findings ≡ false → Each clean (map (errLine d) findings)
+  unfolding has
+  errs-clean [] e = tt
+  errs-clean (f ∷ findings) e =
+      let both = or-false (eqb (f .severity) carriageReturn) (has (λ g. eqb (g .severity) carriageReturn) findings) e in
+      (err-clean f (both .0), errs-clean findings (both .1))
+
+  -- ---- the ACK
+  -- what it copies holds no CR
+  module _ (head stamp : List ℕ) (control : ℕ) (findings : List Finding) (headClean : clean head) (stampClean : clean stamp) (letters : has (λ f. eqb (f .severity) carriageReturn) findings ≡ false) where
+    ack-cut : cut carriageReturn (ackBytes d head stamp control findings) ≡ ackLines d head stamp control findings ++ ([] ∷ [])
+    unfolding ackBytes
+    ack-cut =
+        lines-cut (ackLines d head stamp control findings)
+        (msh-clean head stamp control headClean stampClean, (msa-clean head (verdict findings) headClean (letter-clean (has isHeader findings) (has isFault findings)), errs-clean findings letters))
+
+    -- the segments of the ACK are MSH, MSA, and one ERR for each finding, in order
+    pub ack-segments : segmentsOf (ackBytes d head stamp control findings) ≡ ackLines d head stamp control findings
+    ack-segments = ap butLast ack-cut ∙ but-last (ackLines d head stamp control findings)
+
+-- ---- MSA-1
+-- the letters of MSA and MSA-1 are neither bar nor tilde
+abbrev pub Apart : Delims → Type 0
+Apart d = without (d .bar) (bytes "MSAER") × without (d .tilde) (bytes "MSAER")
+
+abbrev msa1Of : ℕ → List ℕ
+msa1Of second = code "A" ∷ second ∷ []
+
+letters-without : (mark : ℕ) (header fault : Bool) → without mark (bytes "MSAER") → without mark (msa1Of (letter header fault))
+unfolding all
+letters-without mark header fault e =
+    let m = and-both (isNot mark (code "M")) _ e in
+    let s = and-both (isNot mark (code "S")) _ (m .1) in
+    let a = and-both (isNot mark (code "A")) _ (s .1) in
+    let l = and-both (isNot mark (code "E")) _ (a .1) in
+    rw (a .0) (of header fault (a .0) (l .0) (and-both (isNot mark (code "R")) _ (l .1) .0))
+  where
+    of : (header fault : Bool) → isNot mark (code "A") ≡ true → isNot mark (code "E") ≡ true → isNot mark (code "R") ≡ true → (isNot mark (letter header fault) && true) ≡ true
+    of true fault a e r = rw r
+    of false true a e r = rw e
+    of false false a e r = rw a
+
+name-without : (mark : ℕ) → without mark (bytes "MSAER") → without mark (bytes "MSA")
+name-without mark e = all-take (isNot mark) 3 (bytes "MSAER") e
+
+-- field 1, repetition 1 of MSA, as a reader finds it
+msa1-read : (d : Delims) → Apart d → (head : List ℕ) (header fault : Bool) → inSegment d (msaLine d head (letter header fault)) 1 1 0 .bytes ≡ msa1Of (letter header fault)
+unfolding inSegment inField nthOf cutUnless componentOf neverCut partOfField msaLine joined marked begins
+msa1-read d apart head header fault =
+    let second = letter header fault in
+    let whole : cut (d .bar) (bytes "MSA" ++ (d .bar ∷ (msa1Of second ++ (d .bar ∷ (copied d head 10 ++ []))))) ≡ bytes "MSA" ∷ msa1Of second ∷ cut (d .bar) (copied d head 10 ++ []) =
+    cut-ended (d .bar) (bytes "MSA") (msa1Of second ++ (d .bar ∷ (copied d head 10 ++ []))) (name-without (d .bar) (apart .0))
+    ∙ ap (λ (ps : List (List ℕ)). bytes "MSA" ∷ ps) (cut-ended (d .bar) (msa1Of second) (copied d head 10 ++ []) (letters-without (d .bar) header fault (apart .0))) in
+    ap (λ (ps : List (List ℕ)). partAt (cut (d .tilde) (partAt ps 1)) 0) whole
+    ∙ ap (λ (ps : List (List ℕ)). partAt ps 0) (cut-whole (d .tilde) (msa1Of second) (letters-without (d .tilde) header fault (apart .1)))
+
+both : {A B C : Type 0} → A ↔ B → B ↔ C → A ↔ C
+both f g = (λ a. g .0 (f .0 a), λ c. f .1 (g .1 c))
+
+letter-ar : (header fault : Bool) → (letter header fault ≡ code "R") ↔ (header ≡ true)
+letter-ar true fault = (λ e. refl, λ e. refl)
+letter-ar false true = (λ e. absurd (omega (arith, e)), λ e. absurd (true≢false (sym e)))
+letter-ar false false = (λ e. absurd (omega (arith, e)), λ e. absurd (true≢false (sym e)))
+
+letter-ae : (header fault : Bool) → (letter header fault ≡ code "E") ↔ ((header ≡ false) × (fault ≡ true))
+letter-ae true fault = (λ e. absurd (omega (arith, e)), λ e. absurd (true≢false (e .0)))
+letter-ae false true = (λ e. (refl, refl), λ e. refl)
+letter-ae false false = (λ e. absurd (omega (arith, e)), λ e. absurd (true≢false (sym (e .1))))
+
+letter-aa : (header fault : Bool) → (letter header fault ≡ code "A") ↔ ((header ≡ false) × (fault ≡ false))
+letter-aa true fault = (λ e. absurd (omega (arith, e)), λ e. absurd (true≢false (e .0)))
+letter-aa false true = (λ e. absurd (omega (arith, e)), λ e. absurd (true≢false (e .1)))
+letter-aa false false = (λ e. (refl, refl), λ e. refl)
+
+module _ (d : Delims) (fine : Fine d) (apart : Apart d) (head stamp : List ℕ) (control : ℕ) (findings : List Finding) (headClean : clean head) (stampClean : clean stamp) (letters : has (λ f. eqb (f .severity) carriageReturn) findings ≡ false) where
+  -- MSA-1 of the ACK, as the bytes at segment 2, field 1
+  abbrev pub msa1 : List ℕ
+  msa1 = place d (ackBytes d head stamp control findings) 2 1 1 0 .bytes
+
+  pub msa1-is : msa1 ≡ code "A" ∷ verdict findings ∷ []
+  unfolding place nthOf cutUnless
+  msa1-is =
+      ap (λ (ps : List (List ℕ)). inSegment d (partAt ps 1) 1 1 0 .bytes) (ack-cut d fine head stamp control findings headClean stampClean letters)
+      ∙ msa1-read d apart head (has isHeader findings) (has isFault findings)
+
+  second-is : (letter : ℕ) → (msa1 ≡ code "A" ∷ letter ∷ []) ↔ (verdict findings ≡ letter)
+  second-is letter =
+      (λ e. ap (λ (l : List ℕ). getD l 1 0) (sym msa1-is ∙ e), λ e. msa1-is ∙ ap msa1Of e)
+
+  -- AR exactly if a header code is among the findings
+  pub ar-exactly : (msa1 ≡ bytes "AR") ↔ (has isHeader findings ≡ true)
+  ar-exactly = both (second-is (code "R")) (letter-ar (has isHeader findings) (has isFault findings))
+
+  -- else AE if an E or W is among them
+  pub ae-exactly : (msa1 ≡ bytes "AE") ↔ ((has isHeader findings ≡ false) × (has isFault findings ≡ true))
+  ae-exactly = both (second-is (code "E")) (letter-ae (has isHeader findings) (has isFault findings))
+
+  -- else AA
+  pub aa-only : (msa1 ≡ bytes "AA") ↔ ((has isHeader findings ≡ false) × (has isFault findings ≡ false))
+  aa-only = both (second-is (code "A")) (letter-aa (has isHeader findings) (has isFault findings))
+
+  -- a finding about the header is an E: then it is AA exactly when no finding is E or W
+  pub aa-exactly : (has isHeader findings ≡ true → has isFault findings ≡ true) → (msa1 ≡ bytes "AA") ↔ (has isFault findings ≡ false)
+  aa-exactly errors = both aa-only (λ e. e .1, of (has isHeader findings) (has isFault findings) errors)
+    where
+      of : (header fault : Bool) → (header ≡ true → fault ≡ true) → fault ≡ false → (header ≡ false) × (fault ≡ false)
+      of true fault errors e = absurd (true≢false (sym (errors refl) ∙ e))
+      of false fault errors e = (refl, e)

@@ -1,0 +1,81 @@
+-- `ack::answer::answer_admitted` meets its contract. Assumes nothing.
+use mathlib.Core.Path.{sym, _∙_}
+use Prim.Native.Nat.{_-_}
+use native.Mathlib.Omega.{arith}
+use borrow.Author.Needs.{needs}
+use Rattle.ack.proofs.Admitting.{admitted-short, admitted-holds, admitted-few, stamp-length, part-within, answer-stamp, answer-by-header, answer-by-grading}
+use Rattle.ack.proofs.answer.answer_admitted.Statement.{statement}
+use Rattle.ack.proofs.answer.answer_admitted.Tie as tie
+
+answer-header-requires : tie.Need-answer-header-requires
+answer-header-requires c κs =
+    let at-wrong = c .before .before .before in
+    let at-segment = at-wrong .before in
+    let at-then = at-segment .before .before in
+    let begin = at-then .before .before .before .before .before .before in
+    let stamp = stamp-length (begin .args .stamp .now) (sym (at-then .before .is-stamp .ensures) ∙ at-then .if1 .taken) in
+    (part-within (begin .args .m .now) (at-segment .segment .result .end - at-segment .segment .result .start) (at-segment .segment .result .start) (admitted-short (begin .args .m .now) (begin .args .book .now) (begin .pre)), omega arith, sym (at-wrong .any-wrong .ensures) ∙ c .before .before .if2 .taken)
+
+answer-graded-requires : tie.Need-answer-graded-requires
+answer-graded-requires c κs =
+    let at-wrong = c .before .before .before in
+    let at-segment = at-wrong .before in
+    let at-then = at-segment .before .before in
+    let begin = at-then .before .before .before .before .before .before in
+    let stamp = stamp-length (begin .args .stamp .now) (sym (at-then .before .is-stamp .ensures) ∙ at-then .if1 .taken) in
+    let short = admitted-short (begin .args .m .now) (begin .args .book .now) (begin .pre) in (
+      short,
+      admitted-holds (begin .args .m .now) (begin .args .book .now) (begin .pre),
+      part-within (begin .args .m .now) (at-segment .segment .result .end - at-segment .segment .result .start) (at-segment .segment .result .start) short,
+      omega arith,
+      admitted-few (begin .args .m .now) (begin .args .book .now) (begin .pre),
+    )
+
+returns : tie.Need-returns
+returns c =
+    let at-answer = c .before .before in
+    let at-if = at-answer .before .before .before in
+    let at-wrong = at-if .before in
+    let at-segment = at-wrong .before in
+    let at-then = at-segment .before .before in
+    let begin = at-then .before .before .before .before .before .before in
+    answer-by-header _ _ _ _ _ (begin .pre) (sym (at-then .before .is-stamp .ensures) ∙ at-then .if1 .taken) (at-segment .before .delims-of .ensures) (at-segment .segment .ensures .bytes)
+    (sym (at-wrong .any-wrong .ensures) ∙ at-if .if2 .taken) (at-answer .answer-header .ensures)
+
+returns-2 : tie.Need-returns-2
+returns-2 c =
+    let at-answer = c .before .before in
+    let at-if = at-answer .before .before .before in
+    let at-wrong = at-if .before in
+    let at-segment = at-wrong .before in
+    let at-then = at-segment .before .before in
+    let begin = at-then .before .before .before .before .before .before in
+    answer-by-grading _ _ _ _ _ (begin .pre) (sym (at-then .before .is-stamp .ensures) ∙ at-then .if1 .taken) (at-segment .before .delims-of .ensures) (at-segment .segment .ensures .bytes)
+    (sym (at-wrong .any-wrong .ensures) ∙ at-if .if2 .left) (at-answer .answer-graded .ensures)
+
+returns-3 : tie.Need-returns-3
+returns-3 c =
+    let begin = c .before .before .before .before .before .before in
+    answer-stamp _ _ _ _ _ (begin .pre) (sym (c .before .is-stamp .ensures) ∙ c .if1 .left)
+
+pub answer-admitted-spec : {M : Type 1} → statement M
+answer-admitted-spec =
+    tie.close
+    (tie.spec
+    (λ c κs. tt)
+    (λ c κs. tt)
+    (λ c κs. tt)
+    (λ c κs. tt)
+    (λ c. search needs)
+    (λ c. search needs)
+    (λ c. search needs)
+    answer-header-requires
+    (λ c. search needs)
+    returns
+    (λ c. search needs)
+    (λ c. search needs)
+    (λ c. search needs)
+    answer-graded-requires
+    (λ c. search needs)
+    returns-2
+    returns-3)

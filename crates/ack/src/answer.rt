@@ -1,0 +1,136 @@
+// The one call that answers: refusals in their order, then the length, then the bytes.
+use crate::errs::header_length;
+use crate::errs::measure;
+use crate::errs::put_errs;
+use crate::errs::put_header;
+use crate::layout::letter_of;
+use crate::layout::put_heading;
+use crate::measure::heading_length;
+use crate::refusal::Answer;
+use crate::refusal::refused;
+use crate::refusal::unreadable;
+use grade::admit::Admitted;
+use grade::admit::admit;
+use grade::date::is_stamp;
+use grade::header::Header;
+use grade::header::any_wrong;
+use grade::lookup::sets_of;
+use grade::step::start;
+use grade::walk::Section;
+use hl7::place::Delims;
+use hl7::place::delims_of;
+use hl7::place::segment;
+ghost use mathlib.Core.Path.{_≡_};
+ghost use mathlib.Core.Bool.{true, false};
+ghost use mathlib.Core.List.{[]};
+ghost use Prim.Native.Nat.{_≤_};
+ghost use lib.ListN.{length};
+ghost use Rattle.hl7.specs.Refusals.{messageLimit};
+ghost use Rattle.grade.specs.Header.{headerFindings, anyWrong};
+ghost use Rattle.grade.specs.Admission.{admitted};
+ghost use Rattle.grade.specs.declared.admit.Admitted.the-variants as Admitted;
+ghost use Rattle.grade.specs.Standing.{Holds, rulesIn, setsIn};
+ghost use Rattle.grade.specs.Order.{mayFollow};
+ghost use Rattle.grade.specs.Findings.{findings};
+ghost use Rattle.ack.specs.Layout.{ackBytes};
+ghost use Rattle.ack.specs.Pieces.{findingLimit};
+ghost use Rattle.ack.specs.Answers.{Answered, Answers};
+
+// The ACK of a message whose header is wrong, where it fits.
+fn answer_header(
+    out: &mut [u8],
+    d: Delims,
+    head: &[u8],
+    stamp: &[u8],
+    control: u32,
+    header: Header,
+) -> Answer
+    requires { ⌜ (length (now head) ≤ messageLimit) × (length (now stamp) ≤ 19) × (anyWrong header ≡ true) ⌝ }
+    ensures { λ r. ⌜ Answered [] false (ackBytes d (now (head .entry)) (now (stamp .entry)) control (headerFindings header)) (now (out .entry)) r (now (out .exit)) ⌝ }
+{
+    let need = heading_length(d, head, stamp, control) + header_length(d, header);
+    if out.len() < need {
+        return Answer::Refused {
+            number: 11,
+            detail: need,
+        };
+    }
+    let at = put_heading(out, 0, d, head, stamp, control, b'R');
+    let end = put_header(out, at, d, header);
+    Answer::Written(end)
+}
+
+// The ACK of a message that is graded by a section, where it fits: the findings are gone through once to measure, and once more to write.
+fn answer_graded(
+    out: &mut [u8],
+    d: Delims,
+    m: &[u8],
+    book: &[u8],
+    section: Section,
+    head: &[u8],
+    stamp: &[u8],
+    control: u32,
+) -> Answer
+    requires { ⌜ (length (now m) ≤ messageLimit) × Holds (now book) section × (length (now head) ≤ messageLimit) × (length (now stamp) ≤ 19) × (length (findings mayFollow (rulesIn (now book) section) (setsIn (now book) section) (now m)) ≤ findingLimit) ⌝ }
+    ensures { λ r. ⌜ Answered [] false (ackBytes d (now (head .entry)) (now (stamp .entry)) control (findings mayFollow (rulesIn (now (book .entry)) section) (setsIn (now (book .entry)) section) (now (m .entry)))) (now (out .entry)) r (now (out .exit)) ⌝ }
+{
+    let sets = sets_of(book, section);
+    let cursor = start(m, book, section);
+    let measured = measure(m, book, section, &sets, cursor);
+    let need = heading_length(d, head, stamp, control) + measured.length;
+    if out.len() < need {
+        return Answer::Refused {
+            number: 11,
+            detail: need,
+        };
+    }
+    let second = letter_of(measured.header, measured.fault);
+    let at = put_heading(out, 0, d, head, stamp, control, second);
+    let end = put_errs(out, at, d, m, book, section, &sets, cursor);
+    Answer::Written(end)
+}
+
+// The answer to a message that was admitted: refusals 10 and 11, or the ACK.
+fn answer_admitted(
+    out: &mut [u8],
+    m: &[u8],
+    book: &[u8],
+    section: Section,
+    header: Header,
+    stamp: &[u8],
+    control: u32,
+) -> Answer
+    requires { ⌜ Admitted.By section header ≡ admitted (now m) (now book) ⌝ }
+    ensures { λ r. ⌜ Answers (now (m .entry)) (now (book .entry)) (now (stamp .entry)) control (now (out .entry)) r (now (out .exit)) ⌝ }
+{
+    if is_stamp(stamp) {
+        let d = delims_of(m);
+        let msh = segment(m, 1);
+        let from = msh.start;
+        let to = msh.end;
+        if any_wrong(header) {
+            return answer_header(out, d, &m[from..to], stamp, control, header);
+        }
+        return answer_graded(out, d, m, book, section, &m[from..to], stamp, control);
+    }
+    Answer::Refused {
+        number: 10,
+        detail: 0,
+    }
+}
+
+// The answer to a message by a book: the ACK in the first bytes of the output, or the first refusal that applies, which alters nothing.
+pub fn answer(m: &[u8], book: &[u8], stamp: &[u8], control: u32, out: &mut [u8]) -> Answer
+    ensures { λ r. ⌜ Answers (now (m .entry)) (now (book .entry)) (now (stamp .entry)) control (now (out .entry)) r (now (out .exit)) ⌝ }
+{
+    match admit(m, book) {
+        Admitted::By(section, header) => {
+            answer_admitted(out, m, book, section, header, stamp, control)
+        }
+        Admitted::Unreadable(reading) => unreadable(reading),
+        Admitted::NoControlId => refused(6),
+        Admitted::MalformedBook => refused(7),
+        Admitted::OtherVersion => refused(8),
+        Admitted::NoSection => refused(9),
+    }
+}

@@ -1,0 +1,88 @@
+// How long an ACK's segments are, by their numbers alone: the worst message has millions of findings.
+use crate::layout::put_heading;
+use crate::layout::wide16;
+use crate::layout::wide32;
+use crate::output::decimal_length;
+use grade::finding::Finding;
+use hl7::bytes::wide;
+use hl7::place::Delims;
+ghost use mathlib.Core.Path.{_≡_};
+ghost use Prim.Native.Nat.{ℕ, _≤_, min};
+ghost use lib.ListN.{length};
+ghost use Rattle.hl7.specs.declared.place.Delims.{Delims};
+ghost use Rattle.grade.specs.Rule.{nameBytes};
+ghost use Rattle.ack.specs.Splice.{limit};
+ghost use Rattle.ack.specs.Layout.{marked, joined, componentParts, valueParts, placeParts, codeText, errLine, ended};
+ghost use Rattle.ack.specs.Pieces.{heading};
+
+// How long the first two segments are, whatever MSA-1 is: where they would end in an output that holds nothing.
+pub fn heading_length(d: Delims, head: &[u8], stamp: &[u8], control: u32) -> usize
+    ensures { λ r. ⌜ ((second : ℕ) → r ≡ min (length (heading d (now (head .entry)) (now (stamp .entry)) control second)) limit) ⌝ }
+{
+    let mut nothing = [0u8; 0];
+    put_heading(&mut nothing, 0, d, head, stamp, control, b'A')
+}
+
+// How long ERR-2's component is, with its caret.
+fn component_length(component: u8) -> usize
+    ensures { λ r. ⌜ ((mark : ℕ) → r ≡ length (marked mark (componentParts component))) × (r ≤ 21) ⌝ }
+{
+    if component == 0 {
+        return 0;
+    }
+    1 + decimal_length(wide(component))
+}
+
+// How long ERR-2 is from its field on.
+fn value_length(finding: Finding) -> usize
+    ensures { λ r. ⌜ ((mark : ℕ) → r ≡ length (marked mark (valueParts finding))) × (r ≤ 63) ⌝ }
+{
+    if finding.field == 0 {
+        return 0;
+    }
+    2
+        + decimal_length(wide(finding.field))
+        + decimal_length(wide32(finding.repetition))
+        + component_length(finding.component)
+}
+
+// How long a segment's name is.
+fn name_length(name: u8) -> usize
+    ensures { λ r. ⌜ (r ≡ length (nameBytes name)) × (r ≤ 3) ⌝ }
+{
+    if name < 10 { 3 } else { 0 }
+}
+
+// How long ERR-2 is.
+fn place_length(finding: Finding) -> usize
+    ensures { λ r. ⌜ ((mark : ℕ) → r ≡ length (joined mark (placeParts finding))) × (r ≤ 87) ⌝ }
+{
+    if finding.name == 10 {
+        return 0;
+    }
+    1 + name_length(finding.name) + decimal_length(wide32(finding.number)) + value_length(finding)
+}
+
+// How long ERR-3 is.
+fn code_length(code: u16) -> usize
+    ensures { λ r. ⌜ (r ≡ length (codeText code)) × (r ≤ 40) ⌝ }
+{
+    match code {
+        100 => 34,
+        101 => 34,
+        102 => 27,
+        103 => 33,
+        200 => 36,
+        201 => 34,
+        202 => 37,
+        203 => 34,
+        _ => 0,
+    }
+}
+
+// How long the ERR segment of a finding is.
+pub fn err_length(finding: Finding) -> usize
+    ensures { λ r. ⌜ ((d : Delims) → r ≡ length (ended (errLine d finding))) × (r ≤ 160) ⌝ }
+{
+    13 + place_length(finding) + code_length(finding.code) + decimal_length(wide16(finding.rule))
+}

@@ -1,0 +1,11 @@
+-- `relay::line::start` meets its contract. Assumes nothing.
+use mathlib.Core.Path.{refl}
+use Rattle.relay.proofs.Feeding.{fed-start}
+use Rattle.relay.proofs.line.start.Statement.{statement}
+use Rattle.relay.proofs.line.start.Tie as tie
+
+returns : tie.Need-returns
+returns c = fed-start _ refl
+
+pub start-spec : {M : Type 1} → statement M
+start-spec = tie.close (tie.spec returns)

@@ -1,0 +1,76 @@
+-- `relay::reply::reply` meets its contract. Assumes nothing.
+use native.Mathlib.Omega.{arith}
+use Rattle.show.proofs.Putting.{puts-whole}
+use Rattle.show.proofs.Showing.{shown-fits}
+use Rattle.relay.proofs.Replying.{replies-bad, replies-good}
+use borrow.Author.Needs.{needs}
+use Rattle.relay.proofs.reply.reply.Statement.{statement}
+use Rattle.relay.proofs.reply.reply.Tie as tie
+
+line-says-requires : tie.Need-line-says-requires
+line-says-requires c κs = search needs
+
+enum-told : tie.Need-enum-told
+enum-told c = search needs
+
+slice-aggregate-put-text : tie.Need-slice-aggregate-put-text
+slice-aggregate-put-text c = search needs
+
+put-text-requires : tie.Need-put-text-requires
+put-text-requires c κs = search needs
+
+enum-known-control : tie.Need-enum-known-control
+enum-known-control c = search needs
+
+slice-aggregate-front : tie.Need-slice-aggregate-front
+slice-aggregate-front c = search needs
+
+front-requires : tie.Need-front-requires
+front-requires c κs = search needs
+
+answer-requires : tie.Need-answer-requires
+answer-requires c κs = search needs
+
+put-answer-requires : tie.Need-put-answer-requires
+put-answer-requires c κs = search needs
+
+same-length : tie.Need-same-length
+same-length c = search needs
+
+returns : tie.Need-returns
+returns c input f room =
+    let at-put-text = c .before .before in
+    let at-told = at-put-text .before .before .before in
+    let told = rw (at-told .enum-told .given .1) at (at-told .before .before .line-says .ensures input f) in
+    replies-bad input _ _ _ told (puts-whole (at-put-text .put-text .ensures) (omega arith))
+
+same-length-2 : tie.Need-same-length-2
+same-length-2 c = search needs
+
+returns-2 : tie.Need-returns-2
+returns-2 c input f room =
+    let at-put-answer = c .before .before in
+    let at-answer = at-put-answer .before .before .before .before in
+    let at-front = at-answer .before .before in
+    let at-control = at-front .before .before .before .before .before in
+    let told = rw (at-control .control .given .1) at (at-control .before .before .line-says .ensures input f) in
+    let kept = at-answer .answer .kept .1 .1 .1 .1 .0 in
+    replies-good input _ _ _ _ _ told (at-front .front .ensures) (at-answer .answer .ensures) (puts-whole (at-put-answer .put-answer .ensures) (shown-fits _ _ (omega arith)))
+
+pub reply-spec : {M : Type 1} → statement M
+reply-spec =
+    tie.close
+    (tie.spec
+    line-says-requires
+    enum-told
+    slice-aggregate-put-text
+    put-text-requires
+    enum-known-control
+    slice-aggregate-front
+    front-requires
+    answer-requires
+    put-answer-requires
+    same-length
+    returns
+    same-length-2
+    returns-2)

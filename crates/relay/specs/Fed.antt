@@ -1,0 +1,60 @@
+-- What the reader of the line keeps of the input: the names that only inner contracts use. Assumes nothing.
+use Prim.Native.Nat.{ℕ, _+_, min}
+use mathlib.Core.Path.{_≡_}
+use mathlib.Core.Bool.{not}
+use mathlib.Core.List.{List}
+use lib.Dec.{eqb, ltb}
+use lib.ListN.{length, take}
+use Rattle.hl7.specs.Bytes.{all}
+use Rattle.relay.specs.Line.{lineOf, space, has, stampOf, lastItem, isDigit, valueOf, largestControl, Said, badLine, goodLine, said}
+use Rattle.relay.specs.declared.line.Head.{Head}
+use Rattle.relay.specs.declared.line.Item.{Item}
+use Rattle.relay.specs.declared.line.State.{State}
+use Rattle.relay.specs.declared.line.Line.{Line}
+use Rattle.relay.specs.declared.line.Line.the-variants.{Bad, Good}
+
+-- one byte more than a stamp has
+abbrev pub headLength : ℕ
+headLength = 20
+
+-- values are told apart up to here
+abbrev pub tooLarge : ℕ
+tooLarge = largestControl + 1
+
+-- h holds the first bytes of the line
+pub record Heads (line : List ℕ) (h : Head) : Type 0 where
+  pub room : length (h .bytes) ≡ headLength
+  pub count : h .count ≡ min (length line) headLength
+  pub holds : take (h .count) (h .bytes) ≡ take headLength line
+
+-- i tells what stands before and after the line's last space
+pub record Items (line : List ℕ) (i : Item) : Type 0 where
+  pub spaced : i .spaced ≡ has space line
+  pub stamp : i .stamp ≡ min (length (stampOf line)) headLength
+  pub filled : i .filled ≡ not (eqb (length (lastItem line)) 0)
+  pub digits : i .digits ≡ all isDigit (lastItem line)
+  pub value : i .value ≡ min (valueOf (lastItem line)) tooLarge
+
+-- s is what was kept of this input
+pub record Fed (input : List ℕ) (s : State) : Type 0 where
+  pub ended : s .ended ≡ ltb (length (lineOf input)) (length input)
+  pub head : Heads (lineOf input) (s .head)
+  pub item : Items (lineOf input) (s .item)
+
+-- a stamp that is too long is told by its first bytes, which are too many too
+abbrev pub shortened : Said → Said
+shortened badLine = badLine
+shortened (goodLine stamp control) = goodLine (take headLength stamp) control
+
+-- an answer of the code, with the kept bytes, on paper
+abbrev pub heard : Head → Line → Said
+heard h Bad = badLine
+heard h (Good control stamp) = goodLine (take stamp (h .bytes)) control
+
+-- r is what the line says, of whatever input s was kept
+abbrev pub Says : State → Line → Type 0
+Says s r = (input : List ℕ) → Fed input s → heard (s .head) r ≡ shortened (said (lineOf input))
+
+-- s is what was kept of some input
+abbrev pub Kept : State → Type 0
+Kept s = (input : List ℕ) × Fed input s

@@ -1,0 +1,68 @@
+-- The line that the program reads: stamp, space, control number. Assumes nothing.
+use Prim.Native.Nat.{ℕ, _+_, _-_, _*_}
+use mathlib.Core.Bool.{Bool, false, cond, not, _&&_, _||_}
+use mathlib.Core.List.{List, [], _∷_}
+use lib.Dec.{eqb, leb}
+use lib.ListN.{length}
+use Rattle.hl7.specs.Bytes.{within, all}
+use Rattle.hl7.specs.Cut.{cut, partAt}
+
+abbrev pub lineFeed : ℕ
+lineFeed = 10
+
+abbrev pub space : ℕ
+space = 32
+
+-- the line ends at the first line feed or the end of input
+abbrev pub lineOf : List ℕ → List ℕ
+lineOf input = partAt (cut lineFeed input) 0
+
+-- d is one of the bytes s
+unfoldable pub has : ℕ → List ℕ → Bool
+has d [] = false
+has d (x ∷ s) = eqb x d || has d s
+
+-- everything before the last d of s; nothing where there is none
+unfoldable pub beforeLast : ℕ → List ℕ → List ℕ
+beforeLast d [] = []
+beforeLast d (x ∷ s) = cond (has d s) (x ∷ beforeLast d s) []
+
+-- what stands after the last d of s; all of s where there is none
+unfoldable pub afterLast : ℕ → List ℕ → List ℕ
+afterLast d [] = []
+afterLast d (x ∷ s) = cond (has d s) (afterLast d s) (cond (eqb x d) s (x ∷ s))
+
+-- everything before the line's last space is the stamp
+abbrev pub stampOf : List ℕ → List ℕ
+stampOf line = beforeLast space line
+
+-- and what stands after it is the last item
+abbrev pub lastItem : List ℕ → List ℕ
+lastItem line = afterLast space line
+
+abbrev pub isDigit : ℕ → Bool
+isDigit x = within 48 57 x
+
+-- the value of digits that follow a number n, leading zeros allowed
+unfoldable pub valueAfter : ℕ → List ℕ → ℕ
+valueAfter n [] = n
+valueAfter n (x ∷ item) = valueAfter (10 * n + (x - 48)) item
+
+abbrev pub valueOf : List ℕ → ℕ
+valueOf item = valueAfter 0 item
+
+abbrev pub largestControl : ℕ
+largestControl = 4294967295
+
+-- all digits, at least one, with a value up to 4,294,967,295
+unfoldable pub isControl : List ℕ → Bool
+isControl item = not (eqb (length item) 0) && all isDigit item && leb (valueOf item) largestControl
+
+-- what a line says: a stamp and a control number, or nothing that can be used
+pub data Said : Type 0 where
+  badLine : Said
+  goodLine : (stamp : List ℕ) (control : ℕ) → Said
+
+-- a line without a space, or whose last item is no control number, is a bad line
+unfoldable pub said : List ℕ → Said
+said line = cond (has space line && isControl (lastItem line)) (goodLine (stampOf line) (valueOf (lastItem line))) badLine

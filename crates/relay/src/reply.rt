@@ -1,0 +1,29 @@
+// What the program prints.
+use crate::line::Line;
+use crate::line::State;
+use crate::line::line_says;
+use ack::answer::answer;
+use hl7::bytes::front;
+use show::text::put_answer;
+use show::text::put_text;
+ghost use mathlib.Core.List.{List};
+ghost use Prim.Native.Nat.{ℕ, _≤_};
+ghost use lib.ListN.{length, take};
+ghost use Rattle.show.specs.Shown.{refusalRoom};
+ghost use Rattle.relay.specs.Fed.{Fed};
+ghost use Rattle.relay.specs.Reply.{Replies};
+
+// The text that is printed, put into the output that was lent for the ACK. A bad line is told before anything else.
+pub fn reply(state: State, message: &[u8], book: &[u8], out: &mut [u8]) -> usize
+    ensures { λ r. ⌜ ((input : List ℕ) → Fed input state → refusalRoom ≤ length (now (out .entry)) → Replies input (now (message .entry)) (now (book .entry)) (now (out .entry)) (take r (now (out .exit)))) ⌝ }
+{
+    match line_says(state) {
+        Line::Bad => put_text(out, b"bad line\n"),
+        Line::Good { control, stamp } => {
+            let head = state.head;
+            let bytes = head.bytes;
+            let answer = answer(message, book, front(&bytes, stamp), control, out);
+            put_answer(out, answer)
+        }
+    }
+}

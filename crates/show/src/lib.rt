@@ -1,0 +1,2 @@
+// The text that a program prints.
+pub mod text;
