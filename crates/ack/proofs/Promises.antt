@@ -1,6 +1,6 @@
 -- What the promise of `answer` says of the bytes that were written: read by the definitions for any message, they are MSH, MSA and one ERR for each finding
 -- that the section has, in order, and MSA-1 is AA exactly when no finding is E or W. Assumes nothing.
-use mathlib.Core.Path.{_≡_, refl, sym, ap, subst, _∙_}
+use mathlib.Core.Path.{_≡_, refl, sym, ap, subst, subst⁻¹, _∙_}
 use mathlib.Core.Bool.{Bool, true, false, cond, not, _||_, true≢false}
 use mathlib.Core.Logic.{_↔_}
 use mathlib.Core.List.{List, [], _∷_, _++_, map}
@@ -15,7 +15,7 @@ use borrow.Author.Tests.{eq-eqb, ne-eqb, eqb-true, leb-true, not-false}
 use Rattle.hl7.specs.Text.{bytes}
 use Rattle.hl7.specs.Bytes.{all}
 use Rattle.hl7.specs.Place.{carriageReturn, delimsOf, nthOf, cutUnless, segmentsOf, place}
-use Rattle.hl7.specs.Refusals.{Told, firstRow, messageRows, formRows}
+use Rattle.hl7.specs.Refusals.{Told, Row, firstRow, holdsAt, First, messageRows, formRows}
 use Rattle.hl7.proofs.Comparing.{and-both, all-append}
 use Rattle.grade.specs.Digits.{isDigit, isSign, digitRun}
 use Rattle.grade.specs.Values.{isStamp}
@@ -23,7 +23,7 @@ use Rattle.grade.specs.Rule.{errorCode}
 use Rattle.grade.specs.Broken.{severityLetter}
 use Rattle.grade.specs.Strict.{keep}
 use Rattle.grade.specs.Order.{mayFollow}
-use Rattle.grade.specs.Findings.{Event, ruleOf, findingAt, findingOf, breaks, places, findings}
+use Rattle.grade.specs.Findings.{Event, ruleOf, findingAt, findingOf, breaks, places, findings, Demand3}
 use Rattle.grade.specs.Header.{mshOf, headerOf, anyWrong, headerFinding, onlyIf, headerFindings}
 use Rattle.grade.specs.Admission.{bookRows, admitRows}
 use Rattle.grade.specs.Grading.{sectionFor, listedBy, listedFor}
@@ -33,10 +33,12 @@ use Rattle.grade.specs.declared.rule.Rule.{Rule}
 use Rattle.grade.specs.declared.header.Header.{Header}
 use Rattle.grade.specs.declared.finding.Finding.{Finding}
 use Rattle.grade.proofs.Admitting.{admit-numbered}
+use Rattle.grade.proofs.Demand3.{findings-meet}
 use Rattle.ack.specs.Layout.{has, isHeader, isFault, ackLines}
-use Rattle.ack.specs.Answers.{answerRows, ackFor, Answers}
+use Rattle.ack.specs.Answers.{paper, answerRows, ackFor, Answers}
+use Rattle.ack.specs.declared.refusal.Answer.{Answer}
 use Rattle.ack.specs.declared.refusal.Answer.the-variants.{Written}
-use Rattle.ack.proofs.Answering.{number-is, written-exactly}
+use Rattle.ack.proofs.Answering.{number-is, answered-once, refused-exactly, written-exactly}
 use Rattle.ack.proofs.Reading.{isNot, clean, Fine, Apart, part-without, ack-segments, ar-exactly, ae-exactly, aa-exactly}
 
 -- ---- what is listed
@@ -168,6 +170,27 @@ stamp-clean v e =
     let zone : clean (drop 15 v) = subst clean (take-all 4 (drop 15 v) (omega (arith, length-drop 15 v))) zone-run in
     subst clean (sym (split-at v 14 0 (omega arith))) (all-append (isNot carriageReturn) (take 14 v) (getD v 14 0 ∷ drop 15 v) time (rw (sign-fine (getD v 14 0) (signed .1)) zone))
 
+-- ---- exactly one result, and which
+-- any two results that the promise allows have the same number, detail and output
+pub answers-once : (m b stamp : List ℕ) (control : ℕ) (out : List ℕ) {after after′ : List ℕ} {a a′ : Answer} → Answers m b stamp control out a after → Answers m b stamp control out a′ after′
+    → (paper a .number ≡ paper a′ .number) × (paper a .detail ≡ paper a′ .detail) × (after ≡ after′)
+answers-once m b stamp control out w v = answered-once w v
+
+module _ (m b stamp : List ℕ) (control : ℕ) (out : List ℕ) {a : Answer} {after : List ℕ} (w : Answers m b stamp control out a after) where
+  -- the eleven rows
+  abbrev pub rowsOf : List Row
+  rowsOf = answerRows (admitRows m b) (not (isStamp stamp)) (ackFor m b stamp control) out
+
+  -- the number is k + 1 exactly when row k, from 0, is the first of the eleven to hold
+  pub refusal-exactly : (k : ℕ) → (paper a .number ≡ suc k) ↔ First rowsOf k
+  unfolding admitRows messageRows formRows bookRows
+  refusal-exactly = refused-exactly (admitRows m b) (not (isStamp stamp)) (ackFor m b stamp control) out (admit-numbered m b) refl w
+
+  -- and 0 exactly when none holds
+  pub answered-exactly : (paper a .number ≡ 0) ↔ ((i : ℕ) → holdsAt rowsOf i ≡ false)
+  unfolding admitRows messageRows formRows bookRows
+  answered-exactly = written-exactly (admitRows m b) (not (isStamp stamp)) (ackFor m b stamp control) out (admit-numbered m b) refl w
+
 -- ---- what was written
 fine-own : (m : List ℕ) → Fine (delimsOf m)
 unfolding delimsOf all
@@ -189,7 +212,7 @@ module _ (m b stamp : List ℕ) (control : ℕ) (out : List ℕ) {n : ℕ} {afte
   unfolding admitRows messageRows formRows bookRows
   stamp-right =
       not-false (isStamp stamp)
-      (written-exactly (admitRows m b) (not (isStamp stamp)) (ackFor m b stamp control) out (admit-numbered m b) refl w .0 refl 9)
+      (answered-exactly m b stamp control out w .0 refl 9)
 
   -- the first n bytes are the ACK, and all later ones are as they were
   pub written-is : (take n after ≡ ackFor m b stamp control) × (drop n after ≡ drop n out)
@@ -220,3 +243,21 @@ module _ (m b stamp : List ℕ) (control : ℕ) (out : List ℕ) {n : ℕ} {afte
   written-ae =
       rw (written-is .0)
       (ae-exactly (delimsOf m) (fine-own m) (apart-own m) (mshOf m) stamp control (listedFor m b) (head-clean m) (stamp-clean stamp stamp-right) (listed-letters m b))
+
+-- ---- demand 3
+-- where the header is accepted, the ACK's segments after MSH and MSA are one ERR for each event that breaks the order or a rule of the section that the
+-- message names: none left out, none twice, none besides, in order
+pub record Listed (m b stamp : List ℕ) (control : ℕ) (ack : List ℕ) : Type 0 where
+  pub found : List Finding
+  pub segments : segmentsOf ack ≡ ackLines (delimsOf m) (mshOf m) stamp control found
+  pub demand : Demand3 mayFollow (sectionFor m b .rules) (sectionFor m b .sets) m found
+
+pub demand-3 : (m b stamp : List ℕ) (control : ℕ) (out : List ℕ) {n : ℕ} {after : List ℕ} → Answers m b stamp control out (Written n) after → anyWrong (headerOf (delimsOf m) (mshOf m)) ≡ false → Listed m b stamp control (take n after)
+unfolding listedBy
+demand-3 m b stamp control out w accepted =
+    let graded : listedFor m b ≡ findings mayFollow (sectionFor m b .rules) (sectionFor m b .sets) m = rw accepted in
+    record {
+      found = listedFor m b;
+      segments = written-segments m b stamp control out w;
+      demand = subst⁻¹ (Demand3 mayFollow (sectionFor m b .rules) (sectionFor m b .sets) m) graded (findings-meet mayFollow (sectionFor m b .rules) (sectionFor m b .sets) m);
+    }

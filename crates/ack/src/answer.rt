@@ -48,11 +48,11 @@ fn answer_header(
     requires { ⌜ (length (now head) ≤ messageLimit) × (length (now stamp) ≤ 19) × (anyWrong header ≡ true) ⌝ }
     ensures { λ r. ⌜ Answered [] false (ackBytes d (now (head .entry)) (now (stamp .entry)) control (headerFindings header)) (now (out .entry)) r (now (out .exit)) ⌝ }
 {
-    let need = heading_length(d, head, stamp, control) + header_length(d, header);
-    if out.len() < need {
+    let whole = heading_length(d, head, stamp, control) + header_length(d, header);
+    if out.len() < whole {
         return Answer::Refused {
             number: 11,
-            detail: need,
+            detail: whole,
         };
     }
     let at = put_heading(out, 0, d, head, stamp, control, b'R');

@@ -13,7 +13,8 @@ use Rattle.hl7.specs.Bytes.{all}
 use Rattle.hl7.specs.Cut.{cut}
 use Rattle.hl7.proofs.Comparing.{all-last}
 use Rattle.hl7.proofs.Cutting.{cut-delimiter, cut-other, cut-last}
-use Rattle.relay.specs.Line.{lineFeed, space, lineOf, has, beforeLast, afterLast, stampOf, lastItem, isDigit, valueAfter, valueOf, largestControl, isControl, badLine, goodLine, said}
+use Rattle.grade.specs.Digits.{isDigit}
+use Rattle.relay.specs.Line.{lineFeed, space, lineOf, has, beforeLast, afterLast, stampOf, lastItem, valueAfter, valueOf, largestControl, isControl, badLine, goodLine, said}
 use Rattle.relay.specs.Fed.{headLength, tooLarge, Heads, Items, Fed, shortened}
 use Rattle.relay.specs.declared.line.Head.{Head}
 use Rattle.relay.specs.declared.line.Item.{Item}

@@ -50,3 +50,7 @@ replies-once input message book out {printed} {printed′} once r r′ = by-line
         let q = r′ .good stamp control e in
         let same = once stamp control (p .0) (q .0) (p .1) (q .1) (p .2) (q .2) in
         p .3 ∙ ap₂ shown (same .0) (same .1) ∙ sym (q .3)
+
+pub printed-once : (input message book out : List ℕ) {printed printed′ : List ℕ} → Replies input message book out printed → Replies input message book out printed′ → printed ≡ printed′
+printed-once input message book out r r′ =
+    replies-once input message book out (λ stamp control a a′ after after′ p q. (p .toldIs ∙ sym (q .toldIs), p .outputIs ∙ sym (q .outputIs))) r r′

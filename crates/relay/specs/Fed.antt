@@ -6,7 +6,8 @@ use mathlib.Core.List.{List}
 use lib.Dec.{eqb, ltb}
 use lib.ListN.{length, take}
 use Rattle.hl7.specs.Bytes.{all}
-use Rattle.relay.specs.Line.{lineOf, space, has, stampOf, lastItem, isDigit, valueOf, largestControl, Said, badLine, goodLine, said}
+use Rattle.grade.specs.Digits.{isDigit}
+use Rattle.relay.specs.Line.{lineOf, space, has, stampOf, lastItem, valueOf, largestControl, Said, badLine, goodLine, said}
 use Rattle.relay.specs.declared.line.Head.{Head}
 use Rattle.relay.specs.declared.line.Item.{Item}
 use Rattle.relay.specs.declared.line.State.{State}

@@ -4,8 +4,9 @@ use mathlib.Core.Bool.{Bool, false, cond, not, _&&_, _||_}
 use mathlib.Core.List.{List, [], _∷_}
 use lib.Dec.{eqb, leb}
 use lib.ListN.{length}
-use Rattle.hl7.specs.Bytes.{within, all}
+use Rattle.hl7.specs.Bytes.{all}
 use Rattle.hl7.specs.Cut.{cut, partAt}
+use Rattle.grade.specs.Digits.{isDigit}
 
 abbrev pub lineFeed : ℕ
 lineFeed = 10
@@ -39,9 +40,6 @@ stampOf line = beforeLast space line
 -- and what stands after it is the last item
 abbrev pub lastItem : List ℕ → List ℕ
 lastItem line = afterLast space line
-
-abbrev pub isDigit : ℕ → Bool
-isDigit x = within 48 57 x
 
 -- the value of digits that follow a number n, leading zeros allowed
 unfoldable pub valueAfter : ℕ → List ℕ → ℕ

@@ -3,9 +3,9 @@ use crate::line::Line;
 use crate::line::State;
 use crate::line::line_says;
 use ack::answer::answer;
+use ack::output::put;
 use hl7::bytes::front;
 use show::text::put_answer;
-use show::text::put_text;
 ghost use mathlib.Core.List.{List};
 ghost use Prim.Native.Nat.{ℕ, _≤_};
 ghost use lib.ListN.{length, take};
@@ -18,7 +18,7 @@ pub fn reply(state: State, message: &[u8], book: &[u8], out: &mut [u8]) -> usize
     ensures { λ r. ⌜ ((input : List ℕ) → Fed input state → refusalRoom ≤ length (now (out .entry)) → Replies input (now (message .entry)) (now (book .entry)) (now (out .entry)) (take r (now (out .exit)))) ⌝ }
 {
     match line_says(state) {
-        Line::Bad => put_text(out, b"bad line\n"),
+        Line::Bad => put(out, 0, b"bad line\n"),
         Line::Good { control, stamp } => {
             let head = state.head;
             let bytes = head.bytes;

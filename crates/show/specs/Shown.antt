@@ -6,7 +6,7 @@ use lib.Dec.{eqb}
 use lib.ListN.{take}
 use Rattle.hl7.specs.Text.{bytes}
 use Rattle.hl7.specs.Refusals.{Told}
-use Rattle.show.specs.Decimal.{decimal}
+use Rattle.ack.specs.Decimal.{decimal}
 
 -- a line feed for each CR
 abbrev pub lineFeed : ℕ → ℕ

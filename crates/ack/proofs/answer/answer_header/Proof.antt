@@ -7,8 +7,8 @@ use Rattle.ack.proofs.Answering.{need-fits, too-short, fits}
 use Rattle.ack.proofs.answer.answer_header.Statement.{statement}
 use Rattle.ack.proofs.answer.answer_header.Tie as tie
 
-add-need : tie.Need-add-need
-add-need c =
+add-whole : tie.Need-add-whole
+add-whole c =
     let at-start = c .before .before .before .before .before in
     let a = at-start .args in
     let few = header-few (a .header) in
@@ -34,4 +34,4 @@ returns-2 c =
 
 pub answer-header-spec : {M : Type 1} → statement M
 answer-header-spec =
-    tie.close (tie.spec (λ c κs. tt) (λ c κs. tt) add-need returns (λ c κs. tt) (λ c κs. tt) (λ c. search needs) returns-2)
+    tie.close (tie.spec (λ c κs. tt) (λ c κs. tt) add-whole returns (λ c κs. tt) (λ c κs. tt) (λ c. search needs) returns-2)

@@ -1,7 +1,6 @@
 -- `relay::reply::reply` meets its contract. Assumes nothing.
 use native.Mathlib.Omega.{arith}
-use Rattle.show.proofs.Putting.{puts-whole}
-use Rattle.show.proofs.Showing.{shown-fits}
+use Rattle.show.proofs.Showing.{wrote-text}
 use Rattle.relay.proofs.Replying.{replies-bad, replies-good}
 use borrow.Author.Needs.{needs}
 use Rattle.relay.proofs.reply.reply.Statement.{statement}
@@ -13,11 +12,11 @@ line-says-requires c κs = search needs
 enum-told : tie.Need-enum-told
 enum-told c = search needs
 
-slice-aggregate-put-text : tie.Need-slice-aggregate-put-text
-slice-aggregate-put-text c = search needs
+slice-aggregate-put : tie.Need-slice-aggregate-put
+slice-aggregate-put c = search needs
 
-put-text-requires : tie.Need-put-text-requires
-put-text-requires c κs = search needs
+put-requires : tie.Need-put-requires
+put-requires c κs = search needs
 
 enum-known-control : tie.Need-enum-known-control
 enum-known-control c = search needs
@@ -39,10 +38,10 @@ same-length c = search needs
 
 returns : tie.Need-returns
 returns c input f room =
-    let at-put-text = c .before .before in
-    let at-told = at-put-text .before .before .before in
+    let at-put = c .before .before in
+    let at-told = at-put .before .before .before in
     let told = rw (at-told .enum-told .given .1) at (at-told .before .before .line-says .ensures input f) in
-    replies-bad input _ _ _ told (puts-whole (at-put-text .put-text .ensures) (omega arith))
+    replies-bad input _ _ _ told (wrote-text (at-put .put .ensures) (omega arith))
 
 same-length-2 : tie.Need-same-length-2
 same-length-2 c = search needs
@@ -55,7 +54,7 @@ returns-2 c input f room =
     let at-control = at-front .before .before .before .before .before in
     let told = rw (at-control .control .given .1) at (at-control .before .before .line-says .ensures input f) in
     let kept = at-answer .answer .kept .1 .1 .1 .1 .0 in
-    replies-good input _ _ _ _ _ told (at-front .front .ensures) (at-answer .answer .ensures) (puts-whole (at-put-answer .put-answer .ensures) (shown-fits _ _ (omega arith)))
+    replies-good input _ _ _ _ _ told (at-front .front .ensures) (at-answer .answer .ensures) (at-put-answer .put-answer .ensures (omega arith))
 
 pub reply-spec : {M : Type 1} → statement M
 reply-spec =
@@ -63,8 +62,8 @@ reply-spec =
     (tie.spec
     line-says-requires
     enum-told
-    slice-aggregate-put-text
-    put-text-requires
+    slice-aggregate-put
+    put-requires
     enum-known-control
     slice-aggregate-front
     front-requires

@@ -1,7 +1,7 @@
 -- `show::text::turn_lines` meets its contract: what is passed is turned, the rest is as it was. Assumes nothing.
 use Prim.Native.Nat.{_-_}
 use native.Mathlib.Omega.{arith}
-use Rattle.show.proofs.Putting.{Turning, turning-start, turning-more, turning-done}
+use Rattle.show.proofs.Showing.{Turning, turning-start, turning-more, turning-done}
 use Rattle.show.proofs.text.turn_lines.Statement.{statement}
 use Rattle.show.proofs.text.turn_lines.Tie as tie
 
