@@ -1,7 +1,10 @@
 //! Compares the main code with the second program, through its static library or as a program.
 
+#[cfg(feature = "ours")]
 mod coverage;
+#[cfg(feature = "ours")]
 mod library;
+#[cfg(feature = "ours")]
 #[path = "../../ours.rs"]
 mod ours;
 mod program;
@@ -9,6 +12,7 @@ mod program;
 use std::env;
 use std::path::PathBuf;
 use std::process::ExitCode;
+#[cfg(feature = "ours")]
 use std::time::Duration;
 
 const USAGE: &str = "usage: compare [--seconds N] [--cases N] [--seed S] [--replay FILE] [--program PATH]";
@@ -35,11 +39,21 @@ fn main() -> ExitCode {
 
 /// Whether all is well.
 fn run(options: Options) -> Result<bool, String> {
-    if let Some(file) = &options.replay {
-        return library::replay(file);
-    }
     if let Some(path) = &options.program {
         return program::compare(path, options.seed, options.cases.unwrap_or(3_000));
+    }
+    run_library(options)
+}
+
+#[cfg(not(feature = "ours"))]
+fn run_library(_: Options) -> Result<bool, String> {
+    Err("this build links no library: it takes --program alone".into())
+}
+
+#[cfg(feature = "ours")]
+fn run_library(options: Options) -> Result<bool, String> {
+    if let Some(file) = &options.replay {
+        return library::replay(file);
     }
     // A number of cases alone is not cut short by the clock.
     let seconds = options.seconds.unwrap_or(if options.cases.is_some() { 100_000 } else { 60 });
