@@ -7,13 +7,13 @@ use native.Mathlib.Omega.{arith}
 use lib.Dec.{eqb}
 use lib.ListN.{length, take, drop, length-take, length-drop}
 use borrow.Author.Tests.{eqb-true, eqb-false}
-use Rattle.hl7.specs.Place.{delimsOf}
+use Rattle.hl7.specs.Place.{delimsOf, isMsh}
 use Rattle.hl7.specs.Refusals.{messageLimit, Told, firstRow, messageRows, readingOf, isSound}
 use Rattle.hl7.specs.Refusals as refusals
 use Rattle.hl7.specs.declared.refusal.Reading.{Reading}
 use Rattle.hl7.proofs.Comparing.{and-both}
 use Rattle.hl7.specs.declared.place.Delims.{Delims}
-use Rattle.hl7.proofs.Refusing.{paper-reading, sound-short}
+use Rattle.hl7.proofs.Refusing.{paper-reading, sound-short, sound-msh}
 use Rattle.grade.specs.Book.{opened}
 use Rattle.grade.specs.Values.{isStamp}
 use Rattle.grade.specs.Header.{mshOf, headerOf, anyWrong, headerFindings}
@@ -99,6 +99,9 @@ module _ (m b : List ℕ) {s : Section} {h : Header} (is : By s h ≡ admitted m
 
   pub admitted-short : length m ≤ messageLimit
   admitted-short = sound-short m (admitted-by m b is .sound)
+
+  pub admitted-msh : {head : List ℕ} → head ≡ mshOf m → isMsh head ≡ true
+  admitted-msh first = ap isMsh first ∙ sound-msh m (admitted-by m b is .sound)
 
   pub admitted-holds : Holds b s
   admitted-holds = opened-under b (keyOf (delimsOf m) (mshOf m)) s (admitted-by m b is .opens) .holds

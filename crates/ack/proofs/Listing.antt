@@ -1,41 +1,40 @@
--- The turns of the two loops over the findings, the one that measures and the one that writes. Assumes nothing.
-use mathlib.Core.Path.{_≡_, refl, sym, ap, _∙_}
+-- The ERRs of lists of findings, one after the other, and the loops that write them. Assumes nothing.
+use mathlib.Core.Path.{_≡_, refl, sym, ap, subst, subst⁻¹, _∙_}
 use mathlib.Core.Bool.{Bool, true, false, _||_, true≢false}
 use mathlib.Core.List.{List, [], _∷_, _++_, flatMap, append-nil, append-assoc}
 use Prim.Native.Nat.{ℕ, _+_, _^_, _≤_, _<_, min}
 use native.Mathlib.Omega.{arith}
 use native.Mathlib.Nat.{add-zero}
-use lib.ListN.{length, length-append}
+use lib.ListN.{length, take, drop, length-append}
+use lib.Seq.{take-append-seam}
 use Prim.Native.Char.{code}
-use lib.Dec.{lit≤}
+use lib.Dec.{eqb, lit≤}
+use Rattle.hl7.specs.Bytes.{within}
 use Rattle.hl7.specs.Place.{standardDelims}
 use Rattle.hl7.specs.declared.place.Delims.{Delims}
 use Rattle.grade.specs.Header.{headerFinding, onlyIf, headerFindings, anyWrong}
 use Rattle.grade.specs.declared.header.Header.{Header}
+use Rattle.grade.specs.Broken.{severityLetter}
+use Rattle.grade.specs.Rest.{brokenFrom, NextValue, valueFinding}
+use Rattle.grade.specs.Rule.{errorCode}
+use Rattle.grade.specs.declared.rule.Kind.{Kind}
+use Rattle.grade.specs.declared.rule.Kind.the-variants.{Required, Length, Number, Date, Time, Code}
+use Rattle.grade.specs.declared.rule.Rule.{Rule}
+use Rattle.grade.specs.declared.rule.Severity.{Severity}
+use Rattle.grade.specs.declared.rule.Severity.the-variants.{Error, Warning, Informational}
 use Rattle.grade.specs.declared.finding.Finding.{Finding}
+use Rattle.grade.specs.declared.within.Value.{Value}
+use Rattle.grade.specs.declared.within.Value.the-variants.{Broken, Fine}
 use Rattle.ack.specs.Splice.{Wrote, limit}
-use Rattle.ack.specs.Layout.{has, isHeader, isFault, verdict, errLine, ended}
-use Rattle.ack.specs.Pieces.{findingLimit, errs, Measures}
+use Rattle.ack.specs.Layout.{has, isHeader, isFault, letter, verdict, errLine, ended}
+use Rattle.ack.specs.Pieces.{findingLimit, errs, isSevere, Puts}
+use Rattle.ack.specs.declared.errs.Put.{Put}
 use Rattle.ack.proofs.Sizes.{errs-short}
-use Rattle.ack.proofs.Writing.{_then_, wrote-none}
+use Rattle.ack.proofs.Writing.{_then_, wrote-none, wrote-as, wrote-length, wrote-at-start}
 
 -- ---- what is still to come gets shorter
-pub shorter : {l rest : List Finding} {f : Finding} → l ≡ f ∷ rest → length rest < length l
+pub shorter : {A : Type 0} {l rest : List A} {x : A} → l ≡ x ∷ rest → length rest < length l
 shorter e = omega (arith, ap length e)
-
-errs-more : (d : Delims) (f : Finding) (rest : List Finding) → errs d (f ∷ rest) ≡ ended (errLine d f) ++ errs d rest
-unfolding errs flatMap
-errs-more d f rest = refl
-
--- ---- measuring: what was counted and what is still to come is the whole
-pub record Counts (whole left : List Finding) (count : ℕ) (header fault : Bool) : Type 0 where
-  pub few : length whole ≤ findingLimit
-  pub long : (d : Delims) → count + length (errs d left) ≡ length (errs d whole)
-  pub headed : (header || has isHeader left) ≡ has isHeader whole
-  pub faulty : (fault || has isFault left) ≡ has isFault whole
-
-pub counts-start : {l : List Finding} → length l ≤ findingLimit → Counts l l 0 false false
-counts-start few = record { few = few; long = λ d. omega arith; headed = refl; faulty = refl }
 
 or-assoc : (a b c : Bool) → ((a || b) || c) ≡ (a || (b || c))
 or-assoc true b c = refl
@@ -45,48 +44,96 @@ or-none : (a : Bool) → (a || false) ≡ a
 or-none true = refl
 or-none false = refl
 
-has-more : (test : Finding → Bool) (f : Finding) (rest : List Finding) → has test (f ∷ rest) ≡ (test f || has test rest)
+has-append : (test : Finding → Bool) (l k : List Finding) → has test (l ++ k) ≡ (has test l || has test k)
 unfolding has
-has-more test f rest = refl
+has-append test [] k = refl
+has-append test (f ∷ l) k = ap (λ (b : Bool). test f || b) (has-append test l k) ∙ sym (or-assoc (test f) (has test l) (has test k))
 
--- a turn: f is the first of what was still to come
-module _ {whole left rest : List Finding} {count size : ℕ} {header fault : Bool} {f : Finding} (counts : Counts whole left count header fault) (found : left ≡ f ∷ rest) (measured : (d : Delims) → size ≡ length (ended (errLine d f))) where
-  longer : (d : Delims) → count + size + length (errs d rest) ≡ length (errs d whole)
-  longer d =
-      let here = ap (λ (l : List Finding). length (errs d l)) found ∙ ap length (errs-more d f rest) in
-      omega (arith, counts .long d, here, length-append (ended (errLine d f)) (errs d rest), measured d)
+errs-append : (d : Delims) (l k : List Finding) → errs d l ++ errs d k ≡ errs d (l ++ k)
+unfolding errs flatMap
+errs-append d [] k = refl
+errs-append d (f ∷ l) k = append-assoc (ended (errLine d f)) (errs d l) (errs d k) ∙ ap (λ (t : List ℕ). ended (errLine d f) ++ t) (errs-append d l k)
 
-  pub counts-fits : count + size < 2 ^ 63
-  counts-fits = omega (arith, longer standardDelims, errs-short standardDelims whole, counts .few)
-
-  pub counts-more : {isHead isBad : Bool} → isHead ≡ isHeader f → isBad ≡ isFault f → Counts whole rest (count + size) (header || isHead) (fault || isBad)
-  counts-more e g = record {
-    few = counts .few;
-    long = longer;
-    headed = rw (or-assoc, e, ← has-more isHeader f rest, ← found) (counts .headed);
-    faulty = rw (or-assoc, g, ← has-more isFault f rest, ← found) (counts .faulty);
-  }
-
-pub counts-end : {whole left : List Finding} {count : ℕ} {header fault : Bool} → Counts whole left count header fault → left ≡ [] → Measures whole (record { length = count; header = header; fault = fault })
+-- ---- ERRs written, one list of findings after the other
+pub puts-none : (d : Delims) {o : List ℕ} {at : ℕ} → length o < limit → at ≤ limit → Puts d [] o at o (record { at = at; fault = false })
 unfolding errs flatMap has
-counts-end {header = header} {fault} counts e = record {
-  long = λ d. omega (arith, counts .long d, ap (λ (l : List Finding). length (errs d l)) e);
-  headed = sym (or-none header) ∙ rw e at (counts .headed);
-  faulty = sym (or-none fault) ∙ rw e at (counts .faulty);
+puts-none d {o} {at} room near =
+    let kept : min at limit ≡ at = omega arith in
+    record { wrote = rw kept at (wrote-none o at room); faulty = refl; graded = refl }
+
+pub puts-one : {d : Delims} {f : Finding} {o p : List ℕ} {at next : ℕ} {fault : Bool} → Wrote o at (ended (errLine d f)) p next → fault ≡ isFault f → isHeader f ≡ false → Puts d (f ∷ []) o at p (record { at = next; fault = fault })
+unfolding errs flatMap has
+puts-one {d} {f} w e g = record {
+  wrote = wrote-as w (sym (append-nil (ended (errLine d f))));
+  faulty = e ∙ sym (or-none (isFault f));
+  graded = rw g;
 }
 
--- ---- writing
-pub wrote-found : {o p q : List ℕ} {a b c : ℕ} (d : Delims) {l rest : List Finding} {f : Finding} → l ≡ f ∷ rest → Wrote o a (ended (errLine d f)) p b → Wrote p b (errs d rest) q c → Wrote o a (errs d l) q c
-wrote-found d found one others = rw (found, errs-more) (one then others)
+pub puts-then : {d : Delims} {l k : List Finding} {o p q : List ℕ} {at : ℕ} {r s : Put} → Puts d l o at p r → Puts d k p (r .at) q s → Puts d (l ++ k) o at q (record { at = s .at; fault = r .fault || s .fault })
+puts-then {d} {l} {k} f g = record {
+  wrote = wrote-as (f .wrote then g .wrote) (errs-append d l k);
+  faulty = rw (has-append, f .faulty, g .faulty);
+  graded = rw (has-append, f .graded, g .graded);
+}
 
-pub wrote-over : {o : List ℕ} {a : ℕ} (d : Delims) {l : List Finding} → l ≡ [] → length o < limit → a ≤ limit → Wrote o a (errs d l) o a
-unfolding errs flatMap
-wrote-over {o} {a} d e room near =
-    let kept : min a limit ≡ a = omega arith in
-    rw e (rw kept at (wrote-none o a room))
+pub puts-as : {d : Delims} {l k : List Finding} {o p : List ℕ} {at : ℕ} {r : Put} → l ≡ k → Puts d k o at p r → Puts d l o at p r
+puts-as {d} {o = o} {p} {at} {r} e w = subst⁻¹ (λ (x : List Finding). Puts d x o at p r) e w
 
-pub wrote-counted : {o q xs : List ℕ} {at b c : ℕ} → length o < limit → b ≡ min (at + 0) limit → Wrote o b xs q c → Wrote o at xs q c
-wrote-counted {o} {at = at} room e w = wrote-none o at room then rw (e, add-zero) at w
+-- ERRs put into a buffer of their own: where they fit, they can be taken from there
+module _ {d : Delims} {findings : List Finding} {o p : List ℕ} {r : Put} (w : Puts d findings o 0 p r) (few : length findings ≤ findingLimit) where
+  pub whole-is : r .at ≡ length (errs d findings)
+  whole-is = omega (arith, w .wrote .ends, errs-short d findings)
+
+  pub kept-is : r .at ≤ length p → take (r .at) p ≡ errs d findings
+  kept-is h =
+      rw (whole-is, wrote-at-start (w .wrote) (omega (arith, whole-is, wrote-length (w .wrote))))
+      (take-append-seam (errs d findings) (drop (length (errs d findings)) o))
+
+  pub verdict-is : letter false (r .fault) ≡ verdict findings
+  verdict-is = rw (w .graded, w .faulty)
+
+-- ---- a finding of the grader is not about the header
+pub value-graded : (name number : ℕ) (rule : Rule) (i k : ℕ) → isHeader (valueFinding name number rule i k) ≡ false
+value-graded name number rule i k = by (rule .kind)
+  where
+    by : (kind : Kind) → within 200 203 (errorCode kind) ≡ false
+    by Required = refl
+    by (Length low high) = refl
+    by Number = refl
+    by Date = refl
+    by (Time digits) = refl
+    by (Code set) = refl
+
+pub value-fault : (name number : ℕ) (rule : Rule) (i k : ℕ) → isSevere (rule .severity) ≡ isFault (valueFinding name number rule i k)
+value-fault name number rule i k = by (rule .severity)
+  where
+    by : (severity : Severity) → isSevere severity ≡ (eqb (severityLetter severity) (code "E") || eqb (severityLetter severity) (code "W"))
+    by Error = refl
+    by Warning = refl
+    by Informational = refl
+
+-- what the next broken repetition tells of those that are still to come
+module _ (d : Delims) (fld b : List ℕ) (rule : Rule) (codes from passed : ℕ) where
+  abbrev left : List ℕ
+  left = brokenFrom d fld b rule codes from passed
+
+  pub value-found : {r : Value} {k next : ℕ} → r ≡ Broken k next → NextValue d fld b rule codes left r → (left ≡ k ∷ brokenFrom d fld b rule codes next k) × (k ≤ next)
+  value-found e told = subst (NextValue d fld b rule codes left) e told
+
+  pub values-over : {r : Value} → r ≡ Fine → NextValue d fld b rule codes left r → left ≡ []
+  values-over e told = subst (NextValue d fld b rule codes left) e told
+
+-- ---- a loop over lists of findings: whatever puts what is still to come completes the whole
+abbrev pub Completes : Delims → (whole left : List Finding) → (o : List ℕ) → ℕ → (now : List ℕ) → ℕ → Bool → Type 0
+Completes d whole left o at now to fault = (after : List ℕ) (r : Put) → Puts d left now to after r → Puts d whole o at after (record { at = r .at; fault = fault || r .fault })
+
+pub completes-more : {d : Delims} {whole left one rest : List Finding} {o now next : List ℕ} {at to : ℕ} (fault : Bool) {put : Put}
+    → Completes d whole left o at now to fault → left ≡ one ++ rest → Puts d one now to next put → Completes d whole rest o at next (put .at) (fault || put .fault)
+completes-more fault {put} inv split w after r others =
+    rw (or-assoc fault (put .fault) (r .fault)) (inv after _ (puts-as split (puts-then w others)))
+
+pub completes-over : {d : Delims} {whole left : List Finding} {o now : List ℕ} {at to : ℕ} (fault : Bool) → Completes d whole left o at now to fault → left ≡ [] → length now < limit → to ≤ limit → Puts d whole o at now (record { at = to; fault = fault })
+completes-over {d} fault inv e room near = rw (or-none fault) at (inv _ _ (puts-as e (puts-none d room near)))
 
 -- ---- the header's findings
 pub errs-if : (d : Delims) (f : Finding) → ended (errLine d f) ≡ errs d (onlyIf true f)
@@ -96,11 +143,6 @@ errs-if d f = sym (append-nil (ended (errLine d f)))
 pub errs-none : (d : Delims) → [] ≡ errs d []
 unfolding errs flatMap
 errs-none d = refl
-
-errs-append : (d : Delims) (l k : List Finding) → errs d l ++ errs d k ≡ errs d (l ++ k)
-unfolding errs flatMap
-errs-append d [] k = refl
-errs-append d (f ∷ l) k = append-assoc (ended (errLine d f)) (errs d l) (errs d k) ∙ ap (λ (t : List ℕ). ended (errLine d f) ++ t) (errs-append d l k)
 
 -- the four one after the other, as the code writes them
 pub header-errs : (d : Delims) (h : Header) {a b c e : Finding} → a ≡ headerFinding 200 9 1 → b ≡ headerFinding 201 9 2 → c ≡ headerFinding 202 11 1 → e ≡ headerFinding 203 12 1

@@ -89,6 +89,10 @@ pub wrote-none : (out : List ℕ) (at : ℕ) → length out < limit → Wrote ou
 unfolding splice
 wrote-none out at h = record { room = h; holds = refl; ends = rw add-zero }
 
+-- past the end it is counted alone
+pub wrote-past : {o xs : List ℕ} {at next : ℕ} → length o < limit → length o ≤ at → next ≡ min (at + length xs) limit → Wrote o at xs o next
+wrote-past {o} {xs} {at} room past e = record { room = room; holds = sym (splice-past o at xs past); ends = e }
+
 -- the same bytes under another name
 pub wrote-as : {o p xs ys : List ℕ} {a b : ℕ} → Wrote o a xs p b → xs ≡ ys → Wrote o a ys p b
 wrote-as {o} {p} {a = a} {b} w e = subst (λ (l : List ℕ). Wrote o a l p b) e w

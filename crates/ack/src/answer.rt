@@ -1,11 +1,11 @@
 // The one call that answers: refusals in their order, then the length, then the bytes.
 use crate::errs::header_length;
-use crate::errs::measure;
 use crate::errs::put_errs;
 use crate::errs::put_header;
 use crate::layout::letter_of;
 use crate::layout::put_heading;
 use crate::measure::heading_length;
+use crate::output::put;
 use crate::refusal::Answer;
 use crate::refusal::refused;
 use crate::refusal::unreadable;
@@ -14,27 +14,39 @@ use grade::admit::admit;
 use grade::date::is_stamp;
 use grade::header::Header;
 use grade::header::any_wrong;
+use grade::limits::FIELD_PLACES;
+use grade::limits::LINKS;
+use grade::limits::SET_PLACES;
+use grade::lookup::links_of;
 use grade::lookup::sets_of;
-use grade::step::start;
 use grade::walk::Section;
+use hl7::bytes::front;
 use hl7::place::Delims;
+use hl7::place::MSH_PLACES;
 use hl7::place::delims_of;
+use hl7::place::note_fields;
 use hl7::place::segment;
 ghost use mathlib.Core.Path.{_≡_};
 ghost use mathlib.Core.Bool.{true, false};
 ghost use mathlib.Core.List.{[]};
 ghost use Prim.Native.Nat.{_≤_};
-ghost use lib.ListN.{length};
+ghost use lib.ListN.{length, take};
+ghost use Rattle.hl7.specs.Place.{delimsOf, isMsh};
 ghost use Rattle.hl7.specs.Refusals.{messageLimit};
 ghost use Rattle.grade.specs.Header.{headerFindings, anyWrong};
 ghost use Rattle.grade.specs.Admission.{admitted};
 ghost use Rattle.grade.specs.declared.admit.Admitted.the-variants as Admitted;
-ghost use Rattle.grade.specs.Standing.{Holds, rulesIn, setsIn};
+ghost use Rattle.grade.specs.Standing.{Holds, Placed, rulesIn, setsIn};
+ghost use Rattle.grade.specs.Linked.{Linked};
 ghost use Rattle.grade.specs.Order.{mayFollow};
 ghost use Rattle.grade.specs.Findings.{findings};
 ghost use Rattle.ack.specs.Layout.{ackBytes};
-ghost use Rattle.ack.specs.Pieces.{findingLimit};
+ghost use Rattle.ack.specs.Pieces.{findingLimit, errs};
+ghost use Rattle.ack.specs.Splice.{limit, Wrote};
 ghost use Rattle.ack.specs.Answers.{Answered, Answers};
+
+// So many bytes of ERRs are kept from the first run: a message is graded twice only where it has more.
+const KEPT: usize = 2048;
 
 // The ACK of a message whose header is wrong, where it fits.
 fn answer_header(
@@ -45,22 +57,49 @@ fn answer_header(
     control: u32,
     header: Header,
 ) -> Answer
-    requires { ⌜ (length (now head) ≤ messageLimit) × (length (now stamp) ≤ 19) × (anyWrong header ≡ true) ⌝ }
+    requires { ⌜ (length (now head) ≤ messageLimit) × (length (now stamp) ≤ 19) × (anyWrong header ≡ true) × (isMsh (now head) ≡ true) ⌝ }
     ensures { λ r. ⌜ Answered [] false (ackBytes d (now (head .entry)) (now (stamp .entry)) control (headerFindings header)) (now (out .entry)) r (now (out .exit)) ⌝ }
 {
-    let whole = heading_length(d, head, stamp, control) + header_length(d, header);
+    let mut starts = [0usize; MSH_PLACES];
+    let count = note_fields(d, head, &mut starts);
+    let whole = heading_length(d, head, &starts, count, stamp, control) + header_length(d, header);
     if out.len() < whole {
         return Answer::Refused {
             number: 11,
             detail: whole,
         };
     }
-    let at = put_heading(out, 0, d, head, stamp, control, b'R');
+    let at = put_heading(out, 0, d, head, &starts, count, stamp, control, b'R');
     let end = put_header(out, at, d, header);
     Answer::Written(end)
 }
 
-// The ACK of a message that is graded by a section, where it fits: the findings are gone through once to measure, and once more to write.
+// The ERRs of all findings: those that were kept, if they are all, or else of a second run.
+fn put_graded(
+    out: &mut [u8],
+    at: usize,
+    kept: &[u8],
+    whole: usize,
+    d: Delims,
+    m: &[u8],
+    book: &[u8],
+    section: Section,
+    sets: &[usize; SET_PLACES],
+    links: &[u16; LINKS],
+    starts: &mut [usize],
+) -> usize
+    requires { ⌜ (at ≤ limit) × (length (now m) ≤ messageLimit) × Holds (now book) section × Placed (now book) section (now sets) × Linked (rulesIn (now book) section) (now links) × (101 ≤ length (now starts)) × (d ≡ delimsOf (now m)) × (whole ≤ length (now kept) → take whole (now kept) ≡ errs d (findings mayFollow (rulesIn (now book) section) (setsIn (now book) section) (now m))) ⌝ }
+    ensures { λ r. ⌜ Wrote (now (out .entry)) at (errs d (findings mayFollow (rulesIn (now (book .entry)) section) (setsIn (now (book .entry)) section) (now (m .entry)))) (now (out .exit)) r ⌝ }
+{
+    if whole <= kept.len() {
+        return put(out, at, front(kept, whole));
+    }
+    let again = put_errs(out, at, d, m, book, section, sets, links, starts);
+    again.at
+}
+
+// The ACK of a message that is graded by a section, where it fits: the findings are gone through once to measure, and once more to write where there
+// are more than could be kept.
 fn answer_graded(
     out: &mut [u8],
     d: Delims,
@@ -71,22 +110,48 @@ fn answer_graded(
     stamp: &[u8],
     control: u32,
 ) -> Answer
-    requires { ⌜ (length (now m) ≤ messageLimit) × Holds (now book) section × (length (now head) ≤ messageLimit) × (length (now stamp) ≤ 19) × (length (findings mayFollow (rulesIn (now book) section) (setsIn (now book) section) (now m)) ≤ findingLimit) ⌝ }
+    requires { ⌜ (length (now m) ≤ messageLimit) × Holds (now book) section × (length (now head) ≤ messageLimit) × (length (now stamp) ≤ 19) × (length (findings mayFollow (rulesIn (now book) section) (setsIn (now book) section) (now m)) ≤ findingLimit) × (d ≡ delimsOf (now m)) × (isMsh (now head) ≡ true) ⌝ }
     ensures { λ r. ⌜ Answered [] false (ackBytes d (now (head .entry)) (now (stamp .entry)) control (findings mayFollow (rulesIn (now (book .entry)) section) (setsIn (now (book .entry)) section) (now (m .entry)))) (now (out .entry)) r (now (out .exit)) ⌝ }
 {
     let sets = sets_of(book, section);
-    let cursor = start(m, book, section);
-    let measured = measure(m, book, section, &sets, cursor);
-    let need = heading_length(d, head, stamp, control) + measured.length;
+    let links = links_of(book, section);
+    let mut starts = [0usize; FIELD_PLACES];
+    let mut kept = [0u8; KEPT];
+    let first = put_errs(
+        &mut kept,
+        0,
+        d,
+        m,
+        book,
+        section,
+        &sets,
+        &links,
+        &mut starts,
+    );
+    let whole = first.at;
+    let count = note_fields(d, head, &mut starts);
+    let need = heading_length(d, head, &starts, count, stamp, control) + whole;
     if out.len() < need {
         return Answer::Refused {
             number: 11,
             detail: need,
         };
     }
-    let second = letter_of(measured.header, measured.fault);
-    let at = put_heading(out, 0, d, head, stamp, control, second);
-    let end = put_errs(out, at, d, m, book, section, &sets, cursor);
+    let second = letter_of(false, first.fault);
+    let at = put_heading(out, 0, d, head, &starts, count, stamp, control, second);
+    let end = put_graded(
+        out,
+        at,
+        &kept,
+        whole,
+        d,
+        m,
+        book,
+        section,
+        &sets,
+        &links,
+        &mut starts,
+    );
     Answer::Written(end)
 }
 

@@ -10,10 +10,12 @@ use hl7::bytes::after;
 use hl7::bytes::front;
 use hl7::bytes::wide;
 use hl7::place::Delims;
-use hl7::place::field;
+use hl7::place::noted_part;
 ghost use mathlib.Core.Path.{_≡_};
 ghost use mathlib.Core.Bool.{cond};
 ghost use mathlib.Core.List.{_∷_};
+ghost use Prim.Native.Nat.{_<_, _≤_};
+ghost use Rattle.hl7.specs.Place.{MshNoted};
 ghost use Rattle.hl7.specs.declared.place.Delims.{Delims};
 ghost use Rattle.grade.specs.Rule.{nameBytes};
 ghost use Rattle.ack.specs.Splice.{Wrote};
@@ -141,45 +143,66 @@ pub fn put_err(out: &mut [u8], at: usize, d: Delims, finding: Finding) -> usize
 }
 
 // A bar, and a field of the message's own MSH.
-fn put_copy(out: &mut [u8], at: usize, d: Delims, head: &[u8], k: usize) -> usize
+fn put_copy(
+    out: &mut [u8],
+    at: usize,
+    d: Delims,
+    head: &[u8],
+    starts: &[usize],
+    count: usize,
+    k: usize,
+) -> usize
+    requires { ⌜ MshNoted d (now head) (now starts) count × (2 < k) × (k ≤ 12) ⌝ }
     ensures { λ r. ⌜ Wrote (now (out .entry)) at (d .bar ∷ copied d (now (head .entry)) k) (now (out .exit)) r ⌝ }
 {
-    let span = field(d, head, k);
+    let span = noted_part(d, head, starts, count, k - 1);
     let start = span.start;
     let end = span.end;
     put_field(out, at, d.bar, &head[start..end])
 }
 
-// The MSH segment; head is the MSH of the message that is answered.
+// The MSH segment; head is the MSH of the message that is answered, its fields noted.
 pub fn put_msh(
     out: &mut [u8],
     at: usize,
     d: Delims,
     head: &[u8],
+    starts: &[usize],
+    count: usize,
     stamp: &[u8],
     control: u32,
 ) -> usize
+    requires { ⌜ MshNoted d (now head) (now starts) count ⌝ }
     ensures { λ r. ⌜ Wrote (now (out .entry)) at (ended (mshLine d (now (head .entry)) (now (stamp .entry)) control)) (now (out .exit)) r ⌝ }
 {
     let a = put_own(out, at, d, b"MSH|^~\\&");
-    let b = put_copy(out, a, d, head, 5);
-    let c = put_copy(out, b, d, head, 6);
-    let e = put_copy(out, c, d, head, 3);
-    let f = put_copy(out, e, d, head, 4);
+    let b = put_copy(out, a, d, head, starts, count, 5);
+    let c = put_copy(out, b, d, head, starts, count, 6);
+    let e = put_copy(out, c, d, head, starts, count, 3);
+    let f = put_copy(out, e, d, head, starts, count, 4);
     let g = put_field(out, f, d.bar, stamp);
     let h = put_own(out, g, d, b"||ACK^V04^ACK");
     let i = put_number(out, h, d.bar, wide32(control));
-    let j = put_copy(out, i, d, head, 11);
+    let j = put_copy(out, i, d, head, starts, count, 11);
     put_own(out, j, d, b"|2.5.1|||NE|NE|||||Z23^CDCPHINVS\r")
 }
 
 // The MSA segment; second is the second letter of MSA-1.
-pub fn put_msa(out: &mut [u8], at: usize, d: Delims, head: &[u8], second: u8) -> usize
+pub fn put_msa(
+    out: &mut [u8],
+    at: usize,
+    d: Delims,
+    head: &[u8],
+    starts: &[usize],
+    count: usize,
+    second: u8,
+) -> usize
+    requires { ⌜ MshNoted d (now head) (now starts) count ⌝ }
     ensures { λ r. ⌜ Wrote (now (out .entry)) at (ended (msaLine d (now (head .entry)) second)) (now (out .exit)) r ⌝ }
 {
     let a = put_own(out, at, d, b"MSA|A");
     let b = put_byte(out, a, second);
-    let c = put_copy(out, b, d, head, 10);
+    let c = put_copy(out, b, d, head, starts, count, 10);
     put_byte(out, c, b'\r')
 }
 
@@ -189,14 +212,17 @@ pub fn put_heading(
     at: usize,
     d: Delims,
     head: &[u8],
+    starts: &[usize],
+    count: usize,
     stamp: &[u8],
     control: u32,
     second: u8,
 ) -> usize
+    requires { ⌜ MshNoted d (now head) (now starts) count ⌝ }
     ensures { λ r. ⌜ Wrote (now (out .entry)) at (heading d (now (head .entry)) (now (stamp .entry)) control second) (now (out .exit)) r ⌝ }
 {
-    let next = put_msh(out, at, d, head, stamp, control);
-    put_msa(out, next, d, head, second)
+    let next = put_msh(out, at, d, head, starts, count, stamp, control);
+    put_msa(out, next, d, head, starts, count, second)
 }
 
 // The second letter of MSA-1.

@@ -4,23 +4,44 @@ use crate::layout::wide16;
 use crate::layout::wide32;
 use crate::output::decimal_length;
 use grade::finding::Finding;
+use grade::rule::Rule;
+use grade::rule::error_code;
 use hl7::bytes::wide;
 use hl7::place::Delims;
 ghost use mathlib.Core.Path.{_≡_};
 ghost use Prim.Native.Nat.{ℕ, _≤_, min};
 ghost use lib.ListN.{length};
+ghost use Rattle.hl7.specs.Place.{MshNoted};
 ghost use Rattle.hl7.specs.declared.place.Delims.{Delims};
 ghost use Rattle.grade.specs.Rule.{nameBytes};
 ghost use Rattle.ack.specs.Splice.{limit};
 ghost use Rattle.ack.specs.Layout.{marked, joined, componentParts, valueParts, placeParts, codeText, errLine, ended};
-ghost use Rattle.ack.specs.Pieces.{heading};
+ghost use Rattle.ack.specs.Pieces.{heading, baseLength};
 
 // How long the first two segments are, whatever MSA-1 is: where they would end in an output that holds nothing.
-pub fn heading_length(d: Delims, head: &[u8], stamp: &[u8], control: u32) -> usize
+pub fn heading_length(
+    d: Delims,
+    head: &[u8],
+    starts: &[usize],
+    count: usize,
+    stamp: &[u8],
+    control: u32,
+) -> usize
+    requires { ⌜ MshNoted d (now head) (now starts) count ⌝ }
     ensures { λ r. ⌜ ((second : ℕ) → r ≡ min (length (heading d (now (head .entry)) (now (stamp .entry)) control second)) limit) ⌝ }
 {
     let mut nothing = [0u8; 0];
-    put_heading(&mut nothing, 0, d, head, stamp, control, b'A')
+    put_heading(
+        &mut nothing,
+        0,
+        d,
+        head,
+        starts,
+        count,
+        stamp,
+        control,
+        b'A',
+    )
 }
 
 // How long ERR-2's component is, with its caret.
@@ -85,4 +106,21 @@ pub fn err_length(finding: Finding) -> usize
     ensures { λ r. ⌜ ((d : Delims) → r ≡ length (ended (errLine d finding))) × (r ≤ 160) ⌝ }
 {
     13 + place_length(finding) + code_length(finding.code) + decimal_length(wide16(finding.rule))
+}
+
+// How long the ERR of a rule's finding is but for the digits of its repetition: what was counted before, or 0.
+pub fn base_length(counted: usize, segment: u32, rule: Rule, number: usize) -> usize
+    requires { ⌜ (1 ≤ counted → counted ≡ baseLength segment rule number) ⌝ }
+    ensures { λ r. ⌜ r ≡ baseLength segment rule number ⌝ }
+{
+    if 0 < counted {
+        return counted;
+    }
+    let kind = rule.kind;
+    19
+        + decimal_length(wide32(segment))
+        + decimal_length(wide(rule.place.field))
+        + component_length(rule.place.component)
+        + code_length(error_code(kind))
+        + decimal_length(number)
 }

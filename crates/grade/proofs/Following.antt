@@ -1,4 +1,4 @@
--- The follow table says what the order says. Assumes nothing.
+-- The code's tables: the follow table says what the order says, and the table of plain bytes tells which are plain. Assumes nothing.
 use Prim.Native.Nat.{ℕ, zero, suc, _+_, _≤_, _<_}
 use mathlib.Core.Path.{_≡_, refl, ap, _∙_}
 use mathlib.Core.Bool.{Bool, true, false, not, _&&_}
@@ -9,6 +9,8 @@ use lib.ListN.{getD}
 use lib.Dec.{leb}
 use Rattle.grade.specs.Strict.{countFrom}
 use Rattle.grade.specs.Order.{counted, atEnd, outOfOrder, tableOf, tableSays}
+use Rattle.grade.specs.Book.{plain}
+use Rattle.grade.specs.Standing.{TellsPlain}
 
 -- a function's values at the k numbers from n, by place
 at-count : {A : Type 0} (f : ℕ → A) (none : A) (n k i : ℕ) → i < k → getD (map f (countFrom n k)) i none ≡ f (n + i)
@@ -31,3 +33,9 @@ by-table table follows right = ap (λ (t : List (List Bool)). outOfOrder (tableS
     at before name true p true q = ap (λ (t : Bool). counted before && (leb name atEnd && not t)) (says-so follows before name (ltb-true before 10 p) (leb-true name 10 q))
     at before name true p false q = rw (p, q)
     at before name false p q d = rw p
+
+-- the table of plain bytes has one entry for each
+pub tells-plain : (table : List Bool) → table ≡ map plain (countFrom 0 256) → TellsPlain table
+tells-plain table right x h =
+    let e : 0 + x ≡ x = omega arith in
+    ap (λ (t : List Bool). getD t x false) right ∙ at-count plain false 0 256 x h ∙ ap plain e

@@ -1,14 +1,12 @@
 -- What a section that `Holds` has: its rules by number, within their limits, and its sets. Assumes nothing.
 use Prim.Native.Nat.{ℕ, _+_, _*_, _<_, _≤_}
-use native.Mathlib.Nat.{add-zero}
-use native.Mathlib.Omega.{arith}
 use mathlib.Core.Path.{_≡_, sym, ap, _∙_}
 use mathlib.Core.Bool.{Bool, true, false, _&&_, _||_}
 use mathlib.Core.List.{List}
 use borrow.Author.Tests.{leb-true, ltb-true, eqb-true}
-use lib.Dec.{eqb, leb, ltb, lit<, lit≤}
-use lib.ListN.{length, getD, take}
-use lib.Seq.{slice, getD-drop, getD-take}
+use lib.Dec.{eqb, leb, ltb, lit≤}
+use lib.ListN.{length, getD}
+use lib.Seq.{slice}
 use Rattle.hl7.specs.Bytes.{within}
 use Rattle.hl7.proofs.Comparing.{and-both}
 use Rattle.grade.specs.declared.walk.Section.{Section}
@@ -22,10 +20,7 @@ use Rattle.grade.specs.Rule.{segmentOf, firstField, placeFits, kindFits,
 use Rattle.grade.specs.Book.{ruleIn, codeSet}
 use Rattle.grade.specs.Standing.{rulesIn, setsIn, noRule, Holds}
 use Rattle.grade.proofs.Readings.{ended, row-at, row-length}
-use Rattle.grade.proofs.Parts.{rule-made, rule-found, read-fits}
-
-slice-at : (b : List ℕ) (at n k : ℕ) → k < n → getD (slice at (at + n) b) k 0 ≡ getD b (at + k) 0
-slice-at b at n k h = getD-drop at (take (at + n) b) k 0 ∙ getD-take (at + n) b (at + k) 0 (omega arith)
+use Rattle.grade.proofs.Parts.{made-there, rule-found, read-fits}
 
 module _ (b : List ℕ) (s : Section) (h : Holds b s) where
   rules-read : times (s .«rule_count») (ruleIn (s .«set_count»)) b (s .«rules_at») ≡ found (rulesIn b s) (s .«sets_at»)
@@ -64,21 +59,7 @@ module _ (b : List ℕ) (s : Section) (h : Holds b s) where
         ≡ getD (rulesIn b s) i noRule .place .segment
     its-name =
         let at = s .«rules_at» + ruleSize * i in
-        let m = rule-made (s .«set_count») (slice at (at + ruleSize) b) (getD (rulesIn b s) i noRule) (its-bytes .1) in
-        named b at (getD (rulesIn b s) i noRule .place) (m .place)
-      where
-        named : (b : List ℕ) (at : ℕ) (p : Place) →
-            _≡_ {A = Place}
-            (record {
-              segment = segmentOf (getD (slice at (at + ruleSize) b) 0 0) (getD (slice at (at + ruleSize) b) 1 0) (getD (slice at (at + ruleSize) b) 2 0);
-              field = getD (slice at (at + ruleSize) b) 3 0;
-              component = getD (slice at (at + ruleSize) b) 4 0;
-            })
-            p →
-            segmentOf (getD b at 0) (getD b (at + 1) 0) (getD b (at + 2) 0) ≡ p .segment
-        named b at p e =
-            let first : getD b at 0 ≡ getD (slice at (at + ruleSize) b) 0 0 = ap (λ (k : ℕ). getD b k 0) (sym (add-zero at)) ∙ sym (slice-at b at ruleSize 0 (lit< tt)) in
-            rw (first, ← slice-at b at ruleSize 1 (lit< tt), ← slice-at b at ruleSize 2 (lit< tt)) (ap (λ (x : Place). x .segment) e)
+        ap (λ (p : Place). p .segment) (made-there (s .«set_count») b at (getD (rulesIn b s) i noRule) (its-bytes .1) .0)
 
     -- a rule of the section is within its limits
     pub rule-fits : ruleFits (s .«set_count») (getD (rulesIn b s) i noRule) ≡ true

@@ -83,7 +83,23 @@ always-cut sets rule seg fits named = by (isMsh seg) refl
     by true e = cut-later seg (subst (λ (n : ℕ). firstField n ≤ rule .place .field) (named e) (place-limits sets rule fits .first))
     by false e = rw e (and-false (leb (rule .place .field) 2))
 
--- ---- one rule at a segment of its name
+-- ---- one rule at a segment of its name, whose field there is fld
+module _ (d : Delims) (b : List ℕ) (s : Section) (name number : ℕ) (seg : List ℕ) (rule : Rule) (i : ℕ)
+    (counts : name < segmentCount) (fits : ruleFits (s .«set_count») rule ≡ true) (about : rule .place .segment ≡ name) (named : isMsh seg ≡ true → name ≡ msh)
+    (fld : List ℕ) (is-field : fieldOf d seg (rule .place .field) .bytes ≡ fld) (codes : ℕ) (are : CodesAre b (setsIn b s) (rule .kind) codes) where
+  values-cut : valuesOf d rule seg ≡ map (valueIn d false rule) (partsFrom (d .tilde) fld 0)
+  unfolding repetitionsOf cutUnless
+  values-cut =
+      let never = always-cut (s .«set_count») rule seg fits (λ e. about ∙ named e) in
+      ap (λ (n : Bool). map (valueIn d n rule) (cutUnless n (d .tilde) (fieldOf d seg (rule .place .field) .bytes))) never
+      ∙ ap (λ (l : List ℕ). map (valueIn d false rule) (cut (d .tilde) l)) is-field
+      ∙ ap (map (valueIn d false rule)) (sym (parts-start (d .tilde) fld))
+
+  pub rule-gives : ofRule d (setsIn b s) name number seg i rule ≡ map (valueFinding name number rule i) (brokenFrom d fld b rule codes 0 0)
+  rule-gives =
+      rw (lt-ltb name segmentCount counts, eq-eqb (rule .place .segment) name about)
+      (ap₂ (λ (test : ℕ → List ℕ → Bool) (vs : List (List ℕ)). map (valueFinding name number rule i) (brokenValues test 0 vs)) (sym (breaks-same b (setsIn b s) codes rule are)) values-cut)
+
 -- what `field` found in the segment, as a part of the message
 module _ (d : Delims) (m b : List ℕ) (s : Section) (here : Here) (rule : Rule) (number : ℕ)
     (ready : Ready m b s here) (fits : ruleFits (s .«set_count») rule ≡ true) (about : rule .place .segment ≡ here .name)
@@ -106,14 +122,6 @@ module _ (d : Delims) (m b : List ℕ) (s : Section) (here : Here) (rule : Rule)
       ap (λ (n : ℕ). fieldOf d (bytesOf m here) n .bytes) (sym wide) ∙ sym (found .bytes)
       ∙ between-inside m (here .start) (here .end) (span .start) (span .end) field-inside
 
-  values-cut : valuesOf d rule (bytesOf m here) ≡ map (valueIn d false rule) (partsFrom (d .tilde) fld 0)
-  unfolding repetitionsOf cutUnless
-  values-cut =
-      let never = always-cut (s .«set_count») rule (bytesOf m here) fits (λ e. about ∙ ready .stands .named e) in
-      ap (λ (n : Bool). map (valueIn d n rule) (cutUnless n (d .tilde) (fieldOf d (bytesOf m here) (rule .place .field) .bytes))) never
-      ∙ ap (λ (l : List ℕ). map (valueIn d false rule) (cut (d .tilde) l)) field-bytes
-      ∙ ap (map (valueIn d false rule)) (sym (parts-start (d .tilde) fld))
-
   abbrev first : Pending
   first = record { rule = rule; number = number; codes = codes; start = start; end = end; at = 0; passed = 0 }
 
@@ -127,9 +135,7 @@ module _ (d : Delims) (m b : List ℕ) (s : Section) (here : Here) (rule : Rule)
   }
 
   of-rule : ofRule d (setsIn b s) (here .name) (here .number) (bytesOf m here) number rule ≡ pendingRest d m b here first
-  of-rule =
-      rw (lt-ltb (here .name) segmentCount (ready .stands .counts), eq-eqb (rule .place .segment) (here .name) about)
-      (ap₂ (λ (test : ℕ → List ℕ → Bool) (vs : List (List ℕ)). map (valueFinding (here .name) (here .number) rule number) (brokenValues test 0 vs)) (sym (breaks-same b (setsIn b s) codes rule are)) values-cut)
+  of-rule = rule-gives d b s (here .name) (here .number) (bytesOf m here) rule number (ready .stands .counts) fits about (ready .stands .named) fld field-bytes codes are
 
   pub rule-first : (r : Within) → NextOfRule d m b here number (pendingRest d m b here first) r → NextOfRule d m b here number (ofRule d (setsIn b s) (here .name) (here .number) (bytesOf m here) number rule) r
   rule-first r h = subst⁻¹ (λ (l : List Finding). NextOfRule d m b here number l r) of-rule h
@@ -162,25 +168,42 @@ module _ (d : Delims) (m b : List ℕ) (here : Here) where
 pub none-stands : (m b : List ℕ) (number : ℕ) → number ≤ ruleLimit → PendingStands m b (noPending number)
 none-stands m b number h = record { forward = omega arith; inside = omega arith; passed = omega arith; few = h; codes = tt }
 
+-- ---- the rules at a segment's bytes
+module _ (d : Delims) (b : List ℕ) (s : Section) (name number : ℕ) (seg : List ℕ) where
+  abbrev pub ruleHere : ℕ → Rule → List Finding
+  ruleHere i rule = ofRule d (setsIn b s) name number seg i rule
+
+  abbrev pub rulesHere : ℕ → List Finding
+  rulesHere i = ofRules d (setsIn b s) name number seg i (drop i (rulesIn b s))
+
+  -- a rule of another segment gives nothing
+  pub other-rule : (i : ℕ) (rule : Rule) → eqb (rule .place .segment) name ≡ false → ruleHere i rule ≡ []
+  other-rule i rule e = rw (e, and-false (counted name))
+
+  pub rules-next : (i : ℕ) → i < length (rulesIn b s) → rulesHere i ≡ ruleHere (i + 1) (getD (rulesIn b s) i noRule) ++ rulesHere (i + 1)
+  unfolding ofRules
+  rules-next i h = rw (add-one i) (ap (ofRules d (setsIn b s) name number seg i) (drop-cons (rulesIn b s) i noRule h))
+
+  pub rules-end : (i : ℕ) → length (rulesIn b s) ≤ i → rulesHere i ≡ []
+  unfolding ofRules
+  rules-end i h = ap (ofRules d (setsIn b s) name number seg i) (drop-of-length-le (rulesIn b s) h)
+
 module _ (d : Delims) (m b : List ℕ) (s : Section) (here : Here) where
   abbrev thisRule : ℕ → Rule → List Finding
   thisRule number rule = ofRule d (setsIn b s) (here .name) (here .number) (bytesOf m here) number rule
 
-  -- ---- a rule of another segment gives nothing
   pub not-about : (number : ℕ) (rule : Rule) → eqb (rule .place .segment) (here .name) ≡ false → thisRule number rule ≡ []
-  not-about number rule e = rw (e, and-false (counted (here .name)))
+  not-about = other-rule d b s (here .name) (here .number) (bytesOf m here)
 
   pub same-rule : (number : ℕ) (r : Within) {rule rule′ : Rule} → rule ≡ rule′ → NextOfRule d m b here number (thisRule number rule) r → NextOfRule d m b here number (thisRule number rule′) r
   same-rule number r e h = subst (λ (q : Rule). NextOfRule d m b here number (thisRule number q) r) e h
 
   -- ---- the rules from i on
   pub rules-step : (i : ℕ) → i < length (rulesIn b s) → rulesFrom d m b s here i ≡ thisRule (i + 1) (getD (rulesIn b s) i noRule) ++ rulesFrom d m b s here (i + 1)
-  unfolding ofRules
-  rules-step i h = rw (add-one i) (ap (ofRules d (setsIn b s) (here .name) (here .number) (bytesOf m here) i) (drop-cons (rulesIn b s) i noRule h))
+  rules-step = rules-next d b s (here .name) (here .number) (bytesOf m here)
 
   pub rules-over : (i : ℕ) → length (rulesIn b s) ≤ i → rulesFrom d m b s here i ≡ []
-  unfolding ofRules
-  rules-over i h = ap (ofRules d (setsIn b s) (here .name) (here .number) (bytesOf m here) i) (drop-of-length-le (rulesIn b s) h)
+  rules-over = rules-end d b s (here .name) (here .number) (bytesOf m here)
 
   -- the list may be replaced by an equal one
   pub same-list : {l k : List Finding} (r : Within) → l ≡ k → NextWithin d m b s here k r → NextWithin d m b s here l r

@@ -13,6 +13,7 @@ pub mod Demand3
 pub mod ByPlace
 pub mod Repetitions
 pub mod Judging
+pub mod Linking
 pub mod Segments
 pub mod Stepping
 pub mod Few

@@ -1,13 +1,14 @@
 -- What a text, a set, a rule and a section that were read are made of. Assumes nothing.
 use Prim.Native.Nat.{ℕ, _+_, _-_, _*_, _<_, _≤_}
+use native.Mathlib.Nat.{add-zero}
 use native.Mathlib.Omega.{arith}
 use mathlib.Core.Path.{_≡_, refl, sym, ap, ap₂, subst, subst₂, _∙_}
 use mathlib.Core.Bool.{Bool, true, false, _&&_, false≢true}
 use mathlib.Core.List.{List, [], _∷_, map}
 use borrow.Author.Tests.{eqb-true}
-use lib.Dec.{eqb, leb}
-use lib.ListN.{length, getD}
-use lib.Seq.{slice}
+use lib.Dec.{eqb, leb, lit<}
+use lib.ListN.{length, getD, take}
+use lib.Seq.{slice, getD-drop, getD-take}
 use Rattle.hl7.specs.Bytes.{within, all}
 use Rattle.hl7.proofs.Comparing.{and-both}
 use Rattle.grade.specs.declared.walk.Section.{Section}
@@ -20,7 +21,7 @@ use Rattle.grade.specs.declared.rule.Rule.{Rule}
 use Rattle.grade.specs.declared.rule.RuleRead.{RuleRead}
 use Rattle.grade.specs.Limits.{headSize, sectionLimit, keyLimit, ruleLimit, ruleSize, setLimit, codeLimit, codeCountLimit}
 use Rattle.grade.specs.Reader.{Reading, fault, found, isFound, itemsOf, check, times, byte, run, pair, twoBytes}
-use Rattle.grade.specs.Rule.{unused, timeDigits, kindIf, kindOf, kindFits, severityOf, placeFits, placeOf, ruleWith, ruleOf, ruleFits}
+use Rattle.grade.specs.Rule.{segmentOf, unused, timeDigits, kindIf, kindOf, isKind, kindFits, severityOf, isSeverity, placeFits, placeOf, ruleWith, ruleOf, isRule, ruleFits}
 use Rattle.grade.specs.Book.{plain, keys, text, section, ruleIn, codeSet, Sited, ruleRead, distinct, atEnd, sections}
 use Rattle.grade.specs.Standing.{endOf, textAt, TextFits, standsAt, sitedOf, sitedAt, noRule, SetStands}
 use Rattle.grade.proofs.Readings.{then-found, found-same, check-found, byte-found, run-found, two-found, ended, is-found, row-end, row-inside, row-found, cond-gave}
@@ -103,20 +104,75 @@ pub record RuleMade (sets : ℕ) (ten : List ℕ) (r : Rule) : Type 0 where
   pub severity : severityOf (getD ten 6 0) ≡ SeverityRead.Is (r .severity)
   pub kind : kindOf (getD ten 5 0) sets (getD ten 7 0) (getD ten 8 0) (getD ten 9 0) ≡ KindRead.Is (r .kind)
 
+with-made : (t : Bool) (p : Place) (v : SeverityRead) (k : KindRead) (r : Rule) → ruleWith t p v k ≡ RuleRead.Is r →
+    (t ≡ true) × (p ≡ r .place) × (v ≡ SeverityRead.Is (r .severity)) × (k ≡ KindRead.Is (r .kind))
+with-made true p (SeverityRead.Is severity) (KindRead.Is kind) r e =
+    let q : _≡_ {A = Rule} (record { place = p; severity = severity; kind = kind }) r = cc in
+    (refl, ap (λ (x : Rule). x .place) q, ap (λ (x : Rule). SeverityRead.Is (x .severity)) q, ap (λ (x : Rule). KindRead.Is (x .kind)) q)
+with-made true p (SeverityRead.Is severity) KindRead.Fault r e = let z : _≡_ {A = ℕ} 0 1 = cc in absurd (omega arith)
+with-made true p SeverityRead.Fault k r e = let z : _≡_ {A = ℕ} 0 1 = cc in absurd (omega arith)
+with-made false p v k r e = let z : _≡_ {A = ℕ} 0 1 = cc in absurd (omega arith)
+
 pub rule-made : (sets : ℕ) (ten : List ℕ) (r : Rule) → ruleOf sets ten ≡ RuleRead.Is r → RuleMade sets ten r
 unfolding ruleOf
 rule-made sets ten r h =
-    let w = go (placeFits (placeOf ten)) (placeOf ten) (severityOf (getD ten 6 0)) (kindOf (getD ten 5 0) sets (getD ten 7 0) (getD ten 8 0) (getD ten 9 0)) h in
+    let w = with-made (placeFits (placeOf ten)) (placeOf ten) (severityOf (getD ten 6 0)) (kindOf (getD ten 5 0) sets (getD ten 7 0) (getD ten 8 0) (getD ten 9 0)) r h in
     record { fits = w .0; place = w .1; severity = w .2; kind = w .3 }
-  where
-    go : (t : Bool) (p : Place) (v : SeverityRead) (k : KindRead) → ruleWith t p v k ≡ RuleRead.Is r →
-        (t ≡ true) × (p ≡ r .place) × (v ≡ SeverityRead.Is (r .severity)) × (k ≡ KindRead.Is (r .kind))
-    go true p (SeverityRead.Is severity) (KindRead.Is kind) e =
-        let q : _≡_ {A = Rule} (record { place = p; severity = severity; kind = kind }) r = cc in
-        (refl, ap (λ (x : Rule). x .place) q, ap (λ (x : Rule). SeverityRead.Is (x .severity)) q, ap (λ (x : Rule). KindRead.Is (x .kind)) q)
-    go true p (SeverityRead.Is severity) KindRead.Fault e = let z : _≡_ {A = ℕ} 0 1 = cc in absurd (omega arith)
-    go true p SeverityRead.Fault k e = let z : _≡_ {A = ℕ} 0 1 = cc in absurd (omega arith)
-    go false p v k e = let z : _≡_ {A = ℕ} 0 1 = cc in absurd (omega arith)
+
+-- there is a rule where its parts are
+pub with-is : (t : Bool) (p : Place) (v : SeverityRead) (k : KindRead) → isRule (ruleWith t p v k) ≡ (t && isSeverity v && isKind k)
+with-is true p (SeverityRead.Is severity) (KindRead.Is kind) = refl
+with-is true p (SeverityRead.Is severity) KindRead.Fault = refl
+with-is true p SeverityRead.Fault k = refl
+with-is false p v k = refl
+
+slice-at : (b : List ℕ) (at n k : ℕ) → k < n → getD (slice at (at + n) b) k 0 ≡ getD b (at + k) 0
+slice-at b at n k h = getD-drop at (take (at + n) b) k 0 ∙ getD-take (at + n) b (at + k) 0 (omega arith)
+
+-- the place that stands at a position
+abbrev pub placeAt : List ℕ → ℕ → Place
+placeAt b at =
+    record {
+      segment = segmentOf (getD b at 0) (getD b (at + 1) 0) (getD b (at + 2) 0);
+      field = getD b (at + 3) 0;
+      component = getD b (at + 4) 0;
+    }
+
+-- what the ten bytes at a position say, read where they stand
+pub rule-there : (sets : ℕ) (b : List ℕ) (at : ℕ) →
+    ruleOf sets (slice at (at + ruleSize) b)
+    ≡ ruleWith
+    (placeFits (placeAt b at))
+    (placeAt b at)
+    (severityOf (getD b (at + 6) 0))
+    (kindOf (getD b (at + 5) 0) sets (getD b (at + 7) 0) (getD b (at + 8) 0) (getD b (at + 9) 0))
+unfolding ruleOf
+rule-there sets b at =
+    let first : getD (slice at (at + ruleSize) b) 0 0 ≡ getD b at 0 = slice-at b at ruleSize 0 (lit< tt) ∙ ap (λ (k : ℕ). getD b k 0) (add-zero at) in
+    rw (
+      first,
+      slice-at b at ruleSize 1 (lit< tt),
+      slice-at b at ruleSize 2 (lit< tt),
+      slice-at b at ruleSize 3 (lit< tt),
+      slice-at b at ruleSize 4 (lit< tt),
+      slice-at b at ruleSize 5 (lit< tt),
+      slice-at b at ruleSize 6 (lit< tt),
+      slice-at b at ruleSize 7 (lit< tt),
+      slice-at b at ruleSize 8 (lit< tt),
+      slice-at b at ruleSize 9 (lit< tt),
+    )
+
+-- so are the parts of a rule
+pub made-there : (sets : ℕ) (b : List ℕ) (at : ℕ) (r : Rule) → ruleOf sets (slice at (at + ruleSize) b) ≡ RuleRead.Is r →
+    (placeAt b at ≡ r .place)
+    × (severityOf (getD b (at + 6) 0) ≡ SeverityRead.Is (r .severity))
+    × (kindOf (getD b (at + 5) 0) sets (getD b (at + 7) 0) (getD b (at + 8) 0) (getD b (at + 9) 0) ≡ KindRead.Is (r .kind))
+made-there sets b at r h =
+    let w =
+    with-made (placeFits (placeAt b at)) (placeAt b at) (severityOf (getD b (at + 6) 0)) (kindOf (getD b (at + 5) 0) sets (getD b (at + 7) 0) (getD b (at + 8) 0) (getD b (at + 9) 0)) r
+    (sym (rule-there sets b at) ∙ h)
+    in
+    (w .1, w .2, w .3)
 
 -- a rule that was found: its ten bytes stand in the book, and say it
 pub rule-found : (sets : ℕ) (b : List ℕ) (at : ℕ) (r : Rule) (e : ℕ) → ruleIn sets b at ≡ found r e →
@@ -132,11 +188,19 @@ rule-found sets b at r e h =
     go (RuleRead.Is rule) m k = (cc, cc)
     go RuleRead.Fault m k = let z : _≡_ {A = ℕ} 0 1 = cc in absurd (omega arith)
 
+-- a kind under a test
+pub kind-if-is : (t : Bool) (kind : Kind) → t ≡ isKind (kindIf t kind)
+kind-if-is true kind = refl
+kind-if-is false kind = refl
+
+pub kind-if-gave : (t : Bool) (made kind : Kind) → kindIf t made ≡ KindRead.Is kind → (t ≡ true) × (made ≡ kind)
+kind-if-gave true made kind h = (refl, cc)
+kind-if-gave false made kind h = let z : _≡_ {A = ℕ} 0 1 = cc in absurd (omega arith)
+
 -- a kind that was read is within its limits
 module _ (sets : ℕ) (kind : Kind) where
   branch : (t : Bool) (made : Kind) → (t ≡ true → kindFits sets made ≡ true) → kindIf t made ≡ KindRead.Is kind → kindFits sets kind ≡ true
-  branch true made f h = let e : made ≡ kind = cc in rw (← e) (f refl)
-  branch false made f h = let z : _≡_ {A = ℕ} 0 1 = cc in absurd (omega arith)
+  branch t made f h = let w = kind-if-gave t made kind h in rw (← w .1) (f (w .0))
 
   kind-fits : (number set low high : ℕ) → kindOf number sets set low high ≡ KindRead.Is kind → kindFits sets kind ≡ true
   unfolding kindOf

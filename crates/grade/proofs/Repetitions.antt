@@ -1,35 +1,62 @@
--- One repetition more of a rule's field, which hl7's cursor has found. Assumes nothing.
-use Prim.Native.Nat.{ℕ, suc, _+_, _-_}
-use mathlib.Core.Path.{_≡_, ap, _∙_}
+-- One repetition more of a rule's field, found by where it begins and ends. Assumes nothing.
+use Prim.Native.Nat.{ℕ, suc, _+_, _-_, _≤_, _<_}
+use mathlib.Core.Path.{_≡_, refl, ap, _∙_}
 use mathlib.Core.Bool.{Bool, true, false, cond}
 use mathlib.Core.List.{List, [], _∷_, map}
 use native.Mathlib.Numerals.{add-one}
-use lib.ListN.{take, drop}
-use Rattle.hl7.specs.Walk.{stepAt}
+use native.Mathlib.Omega.{arith}
+use borrow.Author.Tests.{ne-eqb}
+use lib.ListN.{length, take, drop}
+use Rattle.hl7.specs.Bytes.{all, differs}
+use Rattle.hl7.specs.Cut.{endFrom}
+use Rattle.hl7.specs.Walk.{partsFrom}
 use Rattle.hl7.specs.declared.place.Delims.{Delims}
-use Rattle.hl7.specs.declared.cut.Cursor.{Cursor}
-use Rattle.hl7.specs.declared.cut.Step.the-variants.{Done}
-use Rattle.hl7.proofs.Walking.{Took, ran-out}
+use Rattle.hl7.proofs.Comparing.{all-take, all-drop}
+use Rattle.hl7.proofs.Cutting.{end-clear, end-past}
+use Rattle.hl7.proofs.Walking.{parts-step, parts-done}
+use Rattle.grade.specs.Broken.{isRequired, judges}
 use Rattle.grade.specs.Findings.{valueIn}
 use Rattle.grade.specs.Rest.{breaksBy, brokenValues, brokenFrom}
 use Rattle.grade.specs.declared.rule.Rule.{Rule}
 
-module _ (d : Delims) (fld b : List ℕ) (rule : Rule) (codes passed : ℕ) where
-  module _ {at start end : ℕ} {next : Cursor} (t : Took (d .tilde) fld at start end next) where
+-- where no byte is the delimiter, a part runs to the end
+pub end-none : (d : ℕ) (s : List ℕ) (from : ℕ) → all (differs d) s ≡ true → from ≤ length s → endFrom d s from ≡ length s
+end-none d s from clear h =
+    let n = length s - from in
+    let whole : from + n ≡ length s = omega arith in
+    end-clear d s n from (omega arith) (all-take (differs d) (from + n - from) (drop from s) (all-drop (differs d) from s clear))
+    ∙ end-past d s (from + n) (omega arith) ∙ whole
+
+module _ (d : Delims) (fld b : List ℕ) (rule : Rule) (codes : ℕ) where
+  abbrev rest : ℕ → ℕ → List ℕ
+  rest at passed = brokenFrom d fld b rule codes at passed
+
+  -- REQUIRED is broken at the first repetition or at none
+  required-once : (passed : ℕ) (values : List (List ℕ)) → isRequired (rule .kind) ≡ true → brokenValues (breaksBy b rule codes) (suc passed) values ≡ []
+  unfolding brokenValues judges
+  required-once passed [] e = refl
+  required-once passed (v ∷ vs) e = rw (e, ne-eqb (suc passed) 0 (λ q. absurd (omega arith))) (required-once (suc passed) vs e)
+
+  module _ (passed : ℕ) {at end : ℕ} (inside : at ≤ length fld) (ends : end ≡ endFrom (d .tilde) fld at) where
     -- the test of the repetition, as the code makes it
     abbrev test : Bool
-    test = breaksBy b rule codes passed (valueIn d false rule (take (end - start) (drop start fld)))
+    test = breaksBy b rule codes passed (valueIn d false rule (take (end - at) (drop at fld)))
 
-    step : brokenFrom d fld b rule codes at passed ≡ cond test (suc passed ∷ brokenFrom d fld b rule codes (next .at) (suc passed)) (brokenFrom d fld b rule codes (next .at) (suc passed))
+    step : rest at passed ≡ cond test (suc passed ∷ rest (end + 1) (suc passed)) (rest (end + 1) (suc passed))
     unfolding brokenValues
-    step = ap (λ (reps : List (List ℕ)). brokenValues (breaksBy b rule codes) passed (map (valueIn d false rule) reps)) (t .parts)
+    step =
+        let parts : partsFrom (d .tilde) fld at ≡ take (end - at) (drop at fld) ∷ partsFrom (d .tilde) fld (end + 1) = rw ends (parts-step (d .tilde) fld at inside) in
+        ap (λ (reps : List (List ℕ)). brokenValues (breaksBy b rule codes) passed (map (valueIn d false rule) reps)) parts
 
-    pub value-broken : test ≡ true → brokenFrom d fld b rule codes at passed ≡ (passed + 1) ∷ brokenFrom d fld b rule codes (next .at) (passed + 1)
+    pub value-broken : test ≡ true → rest at passed ≡ (passed + 1) ∷ rest (end + 1) (passed + 1)
     value-broken e = step ∙ rw (e, add-one passed)
 
-    pub value-fine : test ≡ false → brokenFrom d fld b rule codes at passed ≡ brokenFrom d fld b rule codes (next .at) (passed + 1)
+    pub value-fine : test ≡ false → rest at passed ≡ rest (end + 1) (passed + 1)
     value-fine e = step ∙ rw (e, add-one passed)
 
-  pub values-over : (at : ℕ) → Done ≡ stepAt (d .tilde) fld at → brokenFrom d fld b rule codes at passed ≡ []
+    pub value-last : test ≡ false → isRequired (rule .kind) ≡ true → rest at passed ≡ []
+    value-last e once = step ∙ rw e (required-once passed (map (valueIn d false rule) (partsFrom (d .tilde) fld (end + 1))) once)
+
+  pub values-over : (passed at : ℕ) → length fld < at → rest at passed ≡ []
   unfolding brokenValues
-  values-over at e = ap (λ (reps : List (List ℕ)). brokenValues (breaksBy b rule codes) passed (map (valueIn d false rule) reps)) (ran-out (d .tilde) fld at e)
+  values-over passed at h = ap (λ (reps : List (List ℕ)). brokenValues (breaksBy b rule codes) passed (map (valueIn d false rule) reps)) (parts-done (d .tilde) fld at h)

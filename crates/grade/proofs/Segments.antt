@@ -98,11 +98,13 @@ module _ (follows : ℕ → ℕ → Bool) (d : Delims) (m b : List ℕ) (s : Sec
       by true = ap (λ (l : List Finding). orderFinding atEnd 0 ∷ l) (sym (between-list holds (length m) otherNumber counts ∙ after-end counts))
       by false = refl
 
-  pub no-segment : (at last : ℕ) (counts : List ℕ) → Holds b s → CountsStand m at counts → length m ≤ endFrom carriageReturn m at → (r : Step) → r ≡ endStep out (s .«rule_count») (length m) last counts → StepsBy out d m b s (from at last counts) r
+  pub walk-end : (at last : ℕ) (counts : List ℕ) → length m ≤ endFrom carriageReturn m at → from at last counts ≡ ofOrder out last atEnd 0
   unfolding walk
+  walk-end at last counts h = ap (walk out d (rulesIn b s) (setsIn b s) counts last) (ended-stop carriageReturn m at h)
+
+  pub no-segment : (at last : ℕ) (counts : List ℕ) → Holds b s → CountsStand m at counts → length m ≤ endFrom carriageReturn m at → (r : Step) → r ≡ endStep out (s .«rule_count») (length m) last counts → StepsBy out d m b s (from at last counts) r
   no-segment at last counts holds stands h r e =
-      let no-more : from at last counts ≡ ofOrder out last atEnd 0 = ap (walk out d (rulesIn b s) (setsIn b s) counts last) (ended-stop carriageReturn m at h) in
-      subst⁻¹ (λ (l : List Finding). StepsBy out d m b s l r) no-more
+      subst⁻¹ (λ (l : List Finding). StepsBy out d m b s l r) (walk-end at last counts h)
       (subst⁻¹ (StepsBy out d m b s (ofOrder out last atEnd 0)) e (end-steps last counts holds (counts-later (length m) stands (stands .inside) (omega arith))))
 
   -- ---- one segment more, from `at` to stop
@@ -117,9 +119,12 @@ module _ (follows : ℕ → ℕ → Bool) (d : Delims) (m b : List ℕ) (s : Sec
 
     module _ (name : ℕ) (named : name ≡ nameOf segment) where
       -- a name that does not count
-      pub turned-over : (here : Here) → 10 ≤ name → Turned out d m b s (stop + 1) (from at last counts) (record { found = Nothing; here = here; last = last; counts = counts })
+      pub other-one : 10 ≤ name → from at last counts ≡ from (stop + 1) last counts
       unfolding walk
-      turned-over here h = record { stands = counts-later (stop + 1) stands (omega arith) (omega arith); next = one-segment ∙ rw (← named, le-ltb name 10 h) }
+      other-one h = one-segment ∙ rw (← named, le-ltb name 10 h)
+
+      pub turned-over : (here : Here) → 10 ≤ name → Turned out d m b s (stop + 1) (from at last counts) (record { found = Nothing; here = here; last = last; counts = counts })
+      turned-over here h = record { stands = counts-later (stop + 1) stands (omega arith) (omega arith); next = other-one h }
 
       -- a counted one
       abbrev number : ℕ
@@ -131,13 +136,13 @@ module _ (follows : ℕ → ℕ → Bool) (d : Delims) (m b : List ℕ) (s : Sec
       pub this-stands : name < 10 → HereStands m this
       this-stands h = record { forward = omega arith; inside = omega arith; counts = h; named = λ e. named ∙ msh-named segment e }
 
-      counts-more : CountsStand m (stop + 1) (set counts name number)
+      pub counts-more : CountsStand m (stop + 1) (set counts name number)
       counts-more = record {
         inside = omega arith;
         counted = set-bound counts name number (stop + 1) (omega (arith, stands .counted name)) (λ k. omega (arith, stands .counted k));
       }
 
-      counted-one : name < 10 → from at last counts ≡ ofSegment out d m b s this last ++ from (stop + 1) name (set counts name number)
+      pub counted-one : name < 10 → from at last counts ≡ ofSegment out d m b s this last ++ from (stop + 1) name (set counts name number)
       unfolding walk
       counted-one h =
           one-segment
@@ -193,5 +198,9 @@ pub start-list : (follows : ℕ → ℕ → Bool) (m b : List ℕ) (s : Section)
 start-list follows m b s = walk-all follows (rulesIn b s) (setsIn b s) m
 
 -- ---- another order that says the same, other delimiters that are the same
+pub list-as : (m b : List ℕ) (s : Section) {out : ℕ → ℕ → Bool} {d : Delims} (follows : ℕ → ℕ → Bool) → out ≡ outOfOrder follows → d ≡ delimsOf m
+    → walkFrom out d m b s 0 otherNumber (replicate 10 0) ≡ findings follows (rulesIn b s) (setsIn b s) m
+list-as m b s follows e f = ap₂ (λ (o : ℕ → ℕ → Bool) (x : Delims). walkFrom o x m b s 0 otherNumber (replicate 10 0)) e f ∙ start-list follows m b s
+
 pub steps-as : (m b : List ℕ) (s : Section) (c : Cursor) (r : Step) {out out′ : ℕ → ℕ → Bool} {d d′ : Delims} → out ≡ out′ → d ≡ d′ → StepsBy out d m b s (restBy out d m b s c) r → StepsBy out′ d′ m b s (restBy out′ d′ m b s c) r
 steps-as m b s c r e f h = subst₂ (λ (o : ℕ → ℕ → Bool) (x : Delims). StepsBy o x m b s (restBy o x m b s c) r) e f h

@@ -14,4 +14,5 @@ pub mod Header
 pub mod Admission
 pub mod Grading
 pub mod Standing
+pub mod Linked
 pub mod Rest

@@ -46,3 +46,7 @@ codeCountLimit = 1024
 -- the longest code, in bytes
 abbrev pub codeLimit : ℕ
 codeLimit = 20
+
+-- a link for each name that counts, and for each rule
+abbrev pub linkLimit : ℕ
+linkLimit = 266

@@ -66,6 +66,11 @@ severityOf letter =
     (cond (eqb letter (code "I")) (SeverityRead.Is Severity.Informational)
     SeverityRead.Fault))
 
+-- a severity was read
+abbrev pub isSeverity : SeverityRead → Bool
+isSeverity (SeverityRead.Is severity) = true
+isSeverity SeverityRead.Fault = false
+
 abbrev pub kindIf : Bool → Kind → KindRead
 kindIf true kind = KindRead.Is kind
 kindIf false kind = KindRead.Fault
@@ -88,6 +93,11 @@ kindOf number sets set low high =
     (cond (eqb number 5) (kindIf (unused set && timeDigits low && unused high) (Kind.Time low))
     (cond (eqb number 6) (kindIf (within 1 sets set && unused low && unused high) (Kind.Code set))
     KindRead.Fault)))))
+
+-- a kind was read
+abbrev pub isKind : KindRead → Bool
+isKind (KindRead.Is kind) = true
+isKind KindRead.Fault = false
 
 -- a kind within its limits, in a section with so many sets
 abbrev pub kindFits : ℕ → Kind → Bool
@@ -129,6 +139,11 @@ ruleOf sets ten =
     (placeOf ten)
     (severityOf (getD ten 6 0))
     (kindOf (getD ten 5 0) sets (getD ten 7 0) (getD ten 8 0) (getD ten 9 0))
+
+-- a rule was read
+abbrev pub isRule : RuleRead → Bool
+isRule (RuleRead.Is rule) = true
+isRule RuleRead.Fault = false
 
 -- a rule within its limits, in a section with so many sets
 abbrev pub ruleFits : ℕ → Rule → Bool

@@ -1,14 +1,14 @@
 -- What the code's positions stand for: names that only contracts inside the crate, and those of `lookup`, are stated with.
 use Prim.Native.Nat.{ℕ, _+_, _*_, _<_, _≤_}
 use mathlib.Core.Path.{_≡_}
-use mathlib.Core.Bool.{Bool, true, cond}
+use mathlib.Core.Bool.{Bool, true, false, cond}
 use mathlib.Core.List.{List, [], _∷_, map}
 use lib.ListN.{length, getD, take}
 use lib.Seq.{slice}
 use Rattle.hl7.specs.Bytes.{all, same}
 use Rattle.grade.specs.Limits.{ruleLimit, setLimit}
 use Rattle.grade.specs.Reader.{Reading, fault, found, isFound, itemsOf, times}
-use Rattle.grade.specs.Book.{ruleIn, codeSet, Sited, section}
+use Rattle.grade.specs.Book.{plain, ruleIn, codeSet, Sited, section}
 use Rattle.grade.specs.declared.rule.Severity.{Severity}
 use Rattle.grade.specs.declared.rule.Kind.{Kind}
 use Rattle.grade.specs.declared.rule.Rule.{Rule}
@@ -26,6 +26,10 @@ endOf fault = Next.Fault
 endOf (found a after) = Next.At after
 
 -- ---- texts
+
+-- a table tells of each byte whether it is plain
+abbrev pub TellsPlain : List Bool → Type 0
+TellsPlain table = (x : ℕ) → x < 256 → getD table x false ≡ plain x
 
 -- the text whose length byte stands at a position
 abbrev pub textAt : List ℕ → ℕ → List ℕ

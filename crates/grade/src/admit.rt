@@ -3,17 +3,20 @@ use crate::book::Opened;
 use crate::book::open_book;
 use crate::header::Header;
 use crate::header::header_of;
+use crate::header::msh_part;
 use crate::walk::Section;
 use hl7::place::Delims;
+use hl7::place::MSH_PLACES;
 use hl7::place::delims_of;
-use hl7::place::field;
-use hl7::place::in_segment;
+use hl7::place::note_fields;
+use hl7::place::noted_part;
 use hl7::place::segment;
 use hl7::refusal::Reading;
 use hl7::refusal::check;
 use hl7::refusal::is_sound_reading;
 ghost use mathlib.Core.Path.{_≡_};
-ghost use Rattle.hl7.specs.Place.{delimsOf};
+ghost use mathlib.Core.Bool.{true};
+ghost use Rattle.hl7.specs.Place.{delimsOf, isMsh, MshNoted};
 ghost use Rattle.grade.specs.Header.{mshOf};
 ghost use Rattle.grade.specs.Admission.{hasControlId, bySection, admittedBy, admitted};
 
@@ -26,10 +29,11 @@ pub enum Admitted {
     By(Section, Header),
 }
 
-fn has_control_id(d: Delims, msh: &[u8]) -> bool
+fn has_control_id(d: Delims, msh: &[u8], starts: &[usize], count: usize) -> bool
+    requires { ⌜ MshNoted d (now msh) (now starts) count ⌝ }
     ensures { λ r. ⌜ r ≡ hasControlId d (now (msh .entry)) ⌝ }
 {
-    let id = field(d, msh, 10);
+    let id = noted_part(d, msh, starts, count, 9);
     let n = id.end - id.start;
     (1 <= n) & (n <= 199)
 }
@@ -45,16 +49,19 @@ fn by_section(opened: Opened, header: Header) -> Admitted
     }
 }
 
-// Rows 6 to 9, of a message whose first segment is given.
+// Rows 6 to 9, of a message whose first segment is given: it is cut once.
 fn admit_msh(d: Delims, msh: &[u8], book: &[u8]) -> Admitted
+    requires { ⌜ isMsh (now msh) ≡ true ⌝ }
     ensures { λ r. ⌜ r ≡ admittedBy d (now (msh .entry)) (now (book .entry)) ⌝ }
 {
-    if has_control_id(d, msh) {
-        let key = in_segment(d, msh, 6, 1, 1);
+    let mut starts = [0usize; MSH_PLACES];
+    let count = note_fields(d, msh, &mut starts);
+    if has_control_id(d, msh, &starts, count) {
+        let key = msh_part(d, msh, &starts, count, 6, 1);
         let start = key.start;
         let end = key.end;
         let opened = open_book(book, &msh[start..end]);
-        by_section(opened, header_of(d, msh))
+        by_section(opened, header_of(d, msh, &starts, count))
     } else {
         Admitted::NoControlId
     }

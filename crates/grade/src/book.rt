@@ -7,13 +7,14 @@ ghost use lib.ListN.{length, getD, drop};
 ghost use Rattle.hl7.specs.Bytes.{all, among};
 ghost use Rattle.grade.specs.Limits.{headSize};
 ghost use Rattle.grade.specs.Book.{distinct, headRight, sections, opened};
-ghost use Rattle.grade.specs.Standing.{textAt, TextFits, standsAt, sitedAt, Walked, withKey, chosen};
+ghost use Rattle.grade.specs.Standing.{textAt, TextFits, TellsPlain, standsAt, sitedAt, Walked, withKey, chosen};
 use crate::limits::BOOK_LIMIT;
 use crate::limits::BOOK_VERSION;
 use crate::limits::HEAD_SIZE;
 use crate::limits::RULE_SIZE;
 use crate::limits::SECTION_LIMIT;
 use crate::walk::Next;
+use crate::walk::PLAIN;
 use crate::walk::Section;
 use crate::walk::pair_at;
 use crate::walk::section_end;
@@ -30,14 +31,20 @@ pub enum Opened {
 }
 
 // Reads count sections, and notes where each starts.
-fn walk_sections(book: &[u8], at: usize, count: usize, starts: &mut [usize]) -> Next
-    requires { ⌜ count ≤ length (now starts) ⌝ }
+fn walk_sections(
+    table: &[bool; 256],
+    book: &[u8],
+    at: usize,
+    count: usize,
+    starts: &mut [usize],
+) -> Next
+    requires { ⌜ TellsPlain (now table) × (count ≤ length (now starts)) ⌝ }
     ensures { λ r. ⌜ Walked (now (book .entry)) at count (now (starts .exit)) r ⌝ }
 {
     let mut from = at;
     let mut i = 0;
     while i < count {
-        match section_end(book, from) {
+        match section_end(table, book, from) {
             Next::At(end) => {
                 starts[i] = from;
                 from = end;
@@ -128,7 +135,9 @@ fn open_sections(book: &[u8], key: &[u8]) -> Opened
         return Opened::Malformed;
     }
     let mut starts = [0usize; SECTION_LIMIT];
-    let Next::At(end) = walk_sections(book, HEAD_SIZE + 1, count, &mut starts) else {
+    // made once, and lent: a constant is made anew wherever it is named
+    let table = PLAIN;
+    let Next::At(end) = walk_sections(&table, book, HEAD_SIZE + 1, count, &mut starts) else {
         return Opened::Malformed;
     };
     if end != book.len() {

@@ -16,7 +16,7 @@ ghost use Rattle.grade.specs.Broken.{isRequired, fits, broken, judges};
 ghost use Rattle.grade.specs.Findings.{valueIn};
 ghost use Rattle.grade.specs.Rest.{CodesStand, breaksBy};
 
-fn is_required(kind: Kind) -> bool
+pub(crate) fn is_required(kind: Kind) -> bool
     ensures { λ r. ⌜ r ≡ isRequired kind ⌝ }
 {
     match kind {

@@ -1,9 +1,14 @@
 // The header: what MSH-9, MSH-11 and MSH-12 say of the message.
 use hl7::bytes::same_bytes;
+use hl7::cut::Span;
 use hl7::place::Delims;
-use hl7::place::in_segment;
+use hl7::place::in_field;
+use hl7::place::noted_part;
 ghost use mathlib.Core.Path.{_≡_};
+ghost use Prim.Native.Nat.{_<_, _≤_};
 ghost use Rattle.hl7.specs.Bytes.{same};
+ghost use Rattle.hl7.specs.Place.{MshNoted, inSegment};
+ghost use Rattle.hl7.specs.Spans.{Spans};
 ghost use Rattle.grade.specs.Header.{mshAt, isProcessingId, headerOf, anyWrong};
 
 // Which of the four header checks fail.
@@ -14,11 +19,42 @@ pub struct Header {
     pub version_wrong: bool,
 }
 
+// Where a component of MSH stands, in the first repetition of its field.
+pub fn msh_part(
+    d: Delims,
+    msh: &[u8],
+    starts: &[usize],
+    count: usize,
+    field: usize,
+    component: usize,
+) -> Span
+    requires { ⌜ MshNoted d (now msh) (now starts) count × (2 < field) × (field ≤ 12) ⌝ }
+    ensures { λ r. ⌜ Spans (now (msh .entry)) (inSegment d (now (msh .entry)) field 1 component) r ⌝ }
+{
+    let fld = noted_part(d, msh, starts, count, field - 1);
+    let start = fld.start;
+    let end = fld.end;
+    let inner = in_field(d, &msh[start..end], false, 1, component);
+    Span {
+        start: start + inner.start,
+        end: start + inner.end,
+    }
+}
+
 // Whether a component of MSH, in the first repetition of its field, is a text.
-fn msh_is(d: Delims, msh: &[u8], field: usize, component: usize, text: &[u8]) -> bool
+fn msh_is(
+    d: Delims,
+    msh: &[u8],
+    starts: &[usize],
+    count: usize,
+    field: usize,
+    component: usize,
+    text: &[u8],
+) -> bool
+    requires { ⌜ MshNoted d (now msh) (now starts) count × (2 < field) × (field ≤ 12) ⌝ }
     ensures { λ r. ⌜ r ≡ same (mshAt d (now (msh .entry)) field component) (now (text .entry)) ⌝ }
 {
-    let at = in_segment(d, msh, field, 1, component);
+    let at = msh_part(d, msh, starts, count, field, component);
     let start = at.start;
     let end = at.end;
     same_bytes(&msh[start..end], text)
@@ -30,23 +66,25 @@ fn is_processing_id(v: &[u8]) -> bool
     same_bytes(v, b"P") | same_bytes(v, b"T") | same_bytes(v, b"D")
 }
 
-fn has_processing_id(d: Delims, msh: &[u8]) -> bool
+fn has_processing_id(d: Delims, msh: &[u8], starts: &[usize], count: usize) -> bool
+    requires { ⌜ MshNoted d (now msh) (now starts) count ⌝ }
     ensures { λ r. ⌜ r ≡ isProcessingId (mshAt d (now (msh .entry)) 11 1) ⌝ }
 {
-    let at = in_segment(d, msh, 11, 1, 1);
+    let at = msh_part(d, msh, starts, count, 11, 1);
     let start = at.start;
     let end = at.end;
     is_processing_id(&msh[start..end])
 }
 
-pub fn header_of(d: Delims, msh: &[u8]) -> Header
+pub fn header_of(d: Delims, msh: &[u8], starts: &[usize], count: usize) -> Header
+    requires { ⌜ MshNoted d (now msh) (now starts) count ⌝ }
     ensures { λ r. ⌜ r ≡ headerOf d (now (msh .entry)) ⌝ }
 {
     Header {
-        type_wrong: !msh_is(d, msh, 9, 1, b"VXU"),
-        event_wrong: !msh_is(d, msh, 9, 2, b"V04"),
-        processing_wrong: !has_processing_id(d, msh),
-        version_wrong: !msh_is(d, msh, 12, 1, b"2.5.1"),
+        type_wrong: !msh_is(d, msh, starts, count, 9, 1, b"VXU"),
+        event_wrong: !msh_is(d, msh, starts, count, 9, 2, b"V04"),
+        processing_wrong: !has_processing_id(d, msh, starts, count),
+        version_wrong: !msh_is(d, msh, starts, count, 12, 1, b"2.5.1"),
     }
 }
 

@@ -16,6 +16,9 @@ pub const SET_LIMIT: u8 = 64;
 // The same, as the length of a list of places.
 pub const SET_PLACES: usize = 64;
 
+// Room for the first rule of each of the ten names, and for each rule's next one.
+pub const LINKS: usize = 266;
+
 pub const CODE_COUNT_LIMIT: usize = 1024;
 
 pub const CODE_LIMIT: usize = 20;
@@ -27,3 +30,6 @@ pub const HEAD_SIZE: usize = 5;
 pub const BOOK_VERSION: usize = 1;
 
 pub const SECTION_LIMIT: usize = 64;
+
+// Room for the starts of a segment's parts up to the last field that a rule may name, and for their end.
+pub const FIELD_PLACES: usize = 101;

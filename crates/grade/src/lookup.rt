@@ -1,29 +1,29 @@
-// What stands in a section of a sound book: a rule by its number, and the codes of a set.
+// What stands in a section of a sound book: a rule by its number, the rules of a name, and the codes of a set.
 ghost use mathlib.Core.Path.{_≡_};
 ghost use Prim.Native.Nat.{_<_, _≤_};
 ghost use mathlib.Core.Bool.{true};
 ghost use lib.Dec.{eqb};
 ghost use lib.ListN.{getD};
 ghost use Rattle.hl7.specs.Bytes.{among};
-ghost use Rattle.grade.specs.Limits.{codeLimit, segmentCount, setLimit};
+ghost use Rattle.grade.specs.Limits.{codeLimit, linkLimit, segmentCount, setLimit};
 ghost use Rattle.grade.specs.Reader.{isFound, itemsOf, times};
 ghost use Rattle.grade.specs.Book.{text, codeSet};
 ghost use Rattle.grade.specs.Standing.{endOf, rulesIn, setsIn, noRule, Holds, SetStands, codesAt, SetsAt, Placed};
+ghost use Rattle.grade.specs.Linked.{Linked};
 ghost use Rattle.grade.specs.declared.walk.Next.{Next};
+use crate::limits::LINKS;
 use crate::limits::RULE_SIZE;
 use crate::limits::SET_PLACES;
-use crate::rule::Kind;
-use crate::rule::Place;
 use crate::rule::Rule;
-use crate::rule::RuleRead;
-use crate::rule::Severity;
 use crate::rule::letters;
-use crate::rule::rule_of;
+use crate::rule::rule_from;
+use crate::rule::segment_of;
 use crate::walk::Section;
 use crate::walk::pair_at;
 use crate::walk::text_after;
 use crate::walk::text_part;
 use hl7::bytes::same_bytes;
+use hl7::bytes::wide;
 
 // The letters of the ten names.
 const NAMES: [u32; 10] = [
@@ -45,22 +45,7 @@ pub fn rule_at(book: &[u8], section: Section, i: usize) -> Rule
     ensures { λ r. ⌜ r ≡ getD (rulesIn (now (book .entry)) section) i noRule ⌝ }
 {
     let rules_at = section.rules_at;
-    let sets = section.set_count;
-    let at = rules_at + RULE_SIZE * i;
-    let end = at + RULE_SIZE;
-    match rule_of(&book[at..end], sets) {
-        RuleRead::Is(rule) => rule,
-        // never, in a section that holds
-        RuleRead::Fault => Rule {
-            place: Place {
-                segment: 0,
-                field: 0,
-                component: 0,
-            },
-            severity: Severity::Error,
-            kind: Kind::Required,
-        },
-    }
+    rule_from(book, rules_at + RULE_SIZE * i)
 }
 
 // The rule with a number is about the segment with this number: its name alone is read.
@@ -71,6 +56,47 @@ pub fn is_about(book: &[u8], section: Section, i: usize, name: usize) -> bool
     let rules_at = section.rules_at;
     let at = rules_at + RULE_SIZE * i;
     letters(book[at], book[at + 1], book[at + 2]) == NAMES[name]
+}
+
+// The number of the name that the rule with a number is about.
+fn name_of_rule(book: &[u8], section: Section, i: usize) -> usize
+    requires { ⌜ Holds (now book) section × (i < section .«rule_count») ⌝ }
+    ensures { λ r. ⌜ (r ≡ getD (rulesIn (now (book .entry)) section) i noRule .place .segment) × (r < segmentCount) ⌝ }
+{
+    let rules_at = section.rules_at;
+    let at = rules_at + RULE_SIZE * i;
+    wide(segment_of(book[at], book[at + 1], book[at + 2]))
+}
+
+// For each name the first rule about it, and behind the ten names for each rule the next one about its segment: the rules' number where there is none.
+pub fn links_of(book: &[u8], section: Section) -> [u16; LINKS]
+    requires { ⌜ Holds (now book) section ⌝ }
+    ensures { λ r. ⌜ Linked (rulesIn (now (book .entry)) section) r ⌝ }
+{
+    let n = section.rule_count;
+    let mut links = [n as u16; LINKS];
+    let mut i = n;
+    while 0 < i {
+        i -= 1;
+        let name = name_of_rule(book, section, i);
+        links[10 + i] = links[name];
+        links[name] = i as u16;
+    }
+    links
+}
+
+fn wide16(x: u16) -> usize
+    ensures { λ r. ⌜ r ≡ x ⌝ }
+{
+    x as usize
+}
+
+// The link with a number.
+pub fn link_at(links: &[u16; LINKS], k: usize) -> usize
+    requires { ⌜ k < linkLimit ⌝ }
+    ensures { λ r. ⌜ r ≡ getD (now (links .entry)) k 0 ⌝ }
+{
+    wide16(links[k])
 }
 
 // Where the codes that stand at a position end.

@@ -7,7 +7,7 @@ const Y: bool = true;
 const N: bool = false;
 
 // Which name may come next: columns MSH PID PD1 NK1 PV1 ORC RXA RXR OBX NTE and the end.
-pub(crate) const FOLLOW: [[bool; 11]; 10] = [
+pub const FOLLOW: [[bool; 11]; 10] = [
     [N, Y, N, N, N, N, N, N, N, N, N], // after MSH
     [N, N, Y, Y, Y, Y, N, N, N, N, Y], // after PID
     [N, N, N, Y, Y, Y, N, N, N, N, Y], // after PD1
@@ -21,7 +21,7 @@ pub(crate) const FOLLOW: [[bool; 11]; 10] = [
 ];
 
 // Whether a name, or the end, may not follow the counted name before it, by the table.
-pub(crate) fn out_of_order(table: &[[bool; 11]; 10], before: usize, name: usize) -> bool
+pub fn out_of_order(table: &[[bool; 11]; 10], before: usize, name: usize) -> bool
     ensures { λ r. ⌜ r ≡ outOfOrder (tableSays (now (table .entry))) before name ⌝ }
 {
     if 10 <= before {

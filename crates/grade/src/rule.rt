@@ -1,12 +1,20 @@
 // One rule: a place, a severity and one of six kinds, and the ten bytes that say it.
 ghost use mathlib.Core.Path.{_≡_};
-ghost use Prim.Native.Nat.{_≤_};
-ghost use Rattle.grade.specs.Rule.{segmentOf, firstField, placeFits, severityOf, kindIf, kindOf, errorCode, ruleWith, ruleOf};
+ghost use Prim.Native.Nat.{ℕ, _+_, _≤_};
+ghost use lib.ListN.{length};
+ghost use lib.Seq.{slice};
+ghost use Rattle.grade.specs.declared.rule.Severity.{Severity};
+ghost use Rattle.grade.specs.declared.rule.SeverityRead.{SeverityRead};
+ghost use Rattle.grade.specs.declared.rule.Kind.{Kind};
+ghost use Rattle.grade.specs.declared.rule.KindRead.{KindRead};
+ghost use Rattle.grade.specs.declared.rule.Rule.{Rule};
+ghost use Rattle.grade.specs.declared.rule.RuleRead.{RuleRead};
+ghost use Rattle.grade.specs.Limits.{ruleSize};
+ghost use Rattle.grade.specs.Rule.{segmentOf, firstField, placeFits, severityOf, isSeverity, kindOf, isKind, errorCode, ruleOf, isRule};
 ghost use Rattle.grade.specs.Standing.{nameNumber};
 use crate::limits::COMPONENT_LIMIT;
 use crate::limits::FIELD_LIMIT;
 use crate::limits::SEGMENT_COUNT;
-use hl7::bytes::byte_at;
 use hl7::bytes::is_within;
 
 pub enum Severity {
@@ -37,6 +45,7 @@ pub struct Rule {
     pub kind: Kind,
 }
 
+// What reading a severity, a kind or a rule gives: the definitions are stated with these.
 pub enum SeverityRead {
     Is(Severity),
     Fault,
@@ -94,50 +103,54 @@ fn place_fits(place: Place) -> bool
     (place.segment < SEGMENT_COUNT) & inside & (place.component <= COMPONENT_LIMIT)
 }
 
-fn severity_of(letter: u8) -> SeverityRead
-    ensures { λ r. ⌜ r ≡ severityOf letter ⌝ }
+// Whether a letter stands for a severity: E, W or I.
+fn severity_stands(letter: u8) -> bool
+    ensures { λ r. ⌜ r ≡ isSeverity (severityOf letter) ⌝ }
+{
+    (letter == b'E') | (letter == b'W') | (letter == b'I')
+}
+
+// The severity of a letter that stands for one.
+fn severity_at(letter: u8) -> Severity
+    ensures { λ r. ⌜ ((severity : Severity) → severityOf letter ≡ SeverityRead.Is severity → r ≡ severity) ⌝ }
 {
     match letter {
-        b'E' => SeverityRead::Is(Severity::Error),
-        b'W' => SeverityRead::Is(Severity::Warning),
-        b'I' => SeverityRead::Is(Severity::Informational),
-        _ => SeverityRead::Fault,
+        b'E' => Severity::Error,
+        b'W' => Severity::Warning,
+        _ => Severity::Informational,
     }
 }
 
-fn kind_if(ok: bool, kind: Kind) -> KindRead
-    ensures { λ r. ⌜ r ≡ kindIf ok kind ⌝ }
-{
-    if ok {
-        KindRead::Is(kind)
-    } else {
-        KindRead::Fault
-    }
-}
-
-// The kind, where the bytes that it does not use are 0 and those that it uses are in range.
-fn kind_of(number: u8, sets: u8, set: u8, low: u8, high: u8) -> KindRead
-    ensures { λ r. ⌜ r ≡ kindOf number sets set low high ⌝ }
+// Whether the bytes stand for a kind: those that it does not use are 0, and those that it uses are in range.
+fn kind_stands(number: u8, sets: u8, set: u8, low: u8, high: u8) -> bool
+    ensures { λ r. ⌜ r ≡ isKind (kindOf number sets set low high) ⌝ }
 {
     match number {
-        1 => kind_if((set == 0) & (low == 0) & (high == 0), Kind::Required),
-        2 => kind_if(
-            (set == 0) & ((1 <= low) & (low <= high)),
-            Kind::Length { low, high },
-        ),
-        3 => kind_if((set == 0) & (low == 0) & (high == 0), Kind::Number),
-        4 => kind_if((set == 0) & (low == 0) & (high == 0), Kind::Date),
-        5 => kind_if(
+        1 => (set == 0) & (low == 0) & (high == 0),
+        2 => (set == 0) & ((1 <= low) & (low <= high)),
+        3 => (set == 0) & (low == 0) & (high == 0),
+        4 => (set == 0) & (low == 0) & (high == 0),
+        5 => {
             (set == 0)
                 & ((low == 4) | (low == 6) | (low == 8) | (low == 10) | (low == 12) | (low == 14))
-                & (high == 0),
-            Kind::Time { digits: low },
-        ),
-        6 => kind_if(
-            (1 <= set) & (set <= sets) & (low == 0) & (high == 0),
-            Kind::Code { set },
-        ),
-        _ => KindRead::Fault,
+                & (high == 0)
+        }
+        6 => (1 <= set) & (set <= sets) & (low == 0) & (high == 0),
+        _ => false,
+    }
+}
+
+// The kind of bytes that stand for one.
+fn kind_at(number: u8, set: u8, low: u8, high: u8) -> Kind
+    ensures { λ r. ⌜ ((sets : ℕ) (kind : Kind) → kindOf number sets set low high ≡ KindRead.Is kind → r ≡ kind) ⌝ }
+{
+    match number {
+        1 => Kind::Required,
+        2 => Kind::Length { low, high },
+        3 => Kind::Number,
+        4 => Kind::Date,
+        5 => Kind::Time { digits: low },
+        _ => Kind::Code { set },
     }
 }
 
@@ -155,41 +168,32 @@ pub fn error_code(kind: Kind) -> u16
     }
 }
 
-fn rule_with(fits: bool, place: Place, severity: SeverityRead, kind: KindRead) -> RuleRead
-    ensures { λ r. ⌜ r ≡ ruleWith fits place severity kind ⌝ }
-{
-    if !fits {
-        return RuleRead::Fault;
-    }
-    match severity {
-        SeverityRead::Is(severity) => match kind {
-            KindRead::Is(kind) => RuleRead::Is(Rule {
-                place,
-                severity,
-                kind,
-            }),
-            KindRead::Fault => RuleRead::Fault,
-        },
-        SeverityRead::Fault => RuleRead::Fault,
-    }
-}
-
-// The rule that ten bytes say, in a section with so many sets.
-pub fn rule_of(ten: &[u8], sets: u8) -> RuleRead
-    ensures { λ r. ⌜ r ≡ ruleOf sets (now (ten .entry)) ⌝ }
+// Whether the ten bytes at a position say a rule, in a section with so many sets.
+pub fn rule_stands(book: &[u8], at: usize, sets: u8) -> bool
+    requires { ⌜ at + ruleSize ≤ length (now book) ⌝ }
+    ensures { λ r. ⌜ r ≡ isRule (ruleOf sets (slice at (at + ruleSize) (now (book .entry)))) ⌝ }
 {
     let place = Place {
-        segment: segment_of(byte_at(ten, 0), byte_at(ten, 1), byte_at(ten, 2)),
-        field: byte_at(ten, 3),
-        component: byte_at(ten, 4),
+        segment: segment_of(book[at], book[at + 1], book[at + 2]),
+        field: book[at + 3],
+        component: book[at + 4],
     };
-    let severity = severity_of(byte_at(ten, 6));
-    let kind = kind_of(
-        byte_at(ten, 5),
-        sets,
-        byte_at(ten, 7),
-        byte_at(ten, 8),
-        byte_at(ten, 9),
-    );
-    rule_with(place_fits(place), place, severity, kind)
+    let kind = kind_stands(book[at + 5], sets, book[at + 7], book[at + 8], book[at + 9]);
+    place_fits(place) & severity_stands(book[at + 6]) & kind
+}
+
+// The rule that they say, where they say one: nothing is checked again.
+pub fn rule_from(book: &[u8], at: usize) -> Rule
+    requires { ⌜ at + ruleSize ≤ length (now book) ⌝ }
+    ensures { λ r. ⌜ ((sets : ℕ) (rule : Rule) → ruleOf sets (slice at (at + ruleSize) (now (book .entry))) ≡ RuleRead.Is rule → r ≡ rule) ⌝ }
+{
+    Rule {
+        place: Place {
+            segment: segment_of(book[at], book[at + 1], book[at + 2]),
+            field: book[at + 3],
+            component: book[at + 4],
+        },
+        severity: severity_at(book[at + 6]),
+        kind: kind_at(book[at + 5], book[at + 7], book[at + 8], book[at + 9]),
+    }
 }

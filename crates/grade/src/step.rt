@@ -59,7 +59,7 @@ pub struct Turn {
 }
 
 // The number of a segment's name.
-fn name_of(seg: &[u8]) -> usize
+pub fn name_of(seg: &[u8]) -> usize
     ensures { λ r. ⌜ r ≡ nameOf (now (seg .entry)) ⌝ }
 {
     wide(segment_of(byte_at(seg, 0), byte_at(seg, 1), byte_at(seg, 2)))

@@ -4,7 +4,7 @@ ghost use Prim.Native.Nat.{_+_, _*_, _≤_};
 ghost use lib.ListN.{length, getD};
 ghost use Rattle.hl7.specs.Bytes.{all};
 ghost use Rattle.grade.specs.Reader.{pair, times};
-ghost use Rattle.grade.specs.Standing.{endOf, textAt, TextFits};
+ghost use Rattle.grade.specs.Standing.{endOf, textAt, TextFits, TellsPlain};
 ghost use Rattle.grade.specs.Book.{plain, text, codeSet, ruleIn, section};
 ghost use Rattle.grade.specs.Limits.{codeLimit};
 use crate::limits::CODE_COUNT_LIMIT;
@@ -13,8 +13,7 @@ use crate::limits::KEY_LIMIT;
 use crate::limits::RULE_LIMIT;
 use crate::limits::RULE_SIZE;
 use crate::limits::SET_LIMIT;
-use crate::rule::RuleRead;
-use crate::rule::rule_of;
+use crate::rule::rule_stands;
 
 pub enum Next {
     At(usize),
@@ -43,30 +42,19 @@ pub fn pair_at(book: &[u8], at: usize) -> usize
     pair_of(book[at], book[at + 1])
 }
 
-fn is_plain(x: u8) -> bool
-    ensures { λ r. ⌜ r ≡ plain x ⌝ }
-{
-    (0x21 <= x)
-        & (x <= 0x7E)
-        & !(x == b'|')
-        & !(x == b'^')
-        & !(x == b'~')
-        & !(x == b'\\')
-        & !(x == b'&')
-}
-
-fn all_plain(letters: &[u8]) -> bool
+// Whether every byte is plain by the table: no early exit, which would cost more than it saves.
+fn all_plain(table: &[bool; 256], letters: &[u8]) -> bool
+    requires { ⌜ TellsPlain (now table) ⌝ }
     ensures { λ r. ⌜ r ≡ all plain (now (letters .entry)) ⌝ }
 {
+    let mut every = true;
     let mut i = 0;
     while i < letters.len() {
-        if is_plain(letters[i]) {
-            i += 1;
-        } else {
-            return false;
-        }
+        let x = letters[i] as usize;
+        every = every & table[x];
+        i += 1;
     }
-    true
+    every
 }
 
 // The text whose length byte stands at a position.
@@ -89,7 +77,8 @@ pub fn text_after(book: &[u8], at: usize) -> usize
 }
 
 // A key or a code: a length byte, and as many plain bytes.
-fn text_end(book: &[u8], at: usize, limit: usize) -> Next
+fn text_end(table: &[bool; 256], book: &[u8], at: usize, limit: usize) -> Next
+    requires { ⌜ TellsPlain (now table) ⌝ }
     ensures { λ r. ⌜ r ≡ endOf (text limit (now (book .entry)) at) ⌝ }
 {
     if at < book.len() {
@@ -97,7 +86,7 @@ fn text_end(book: &[u8], at: usize, limit: usize) -> Next
         let from = at + 1;
         if (1 <= size) & (size <= limit) {
             if size <= book.len() - from {
-                if all_plain(text_part(book, at)) {
+                if all_plain(table, text_part(book, at)) {
                     return Next::At(from + size);
                 }
             }
@@ -106,13 +95,14 @@ fn text_end(book: &[u8], at: usize, limit: usize) -> Next
     Next::Fault
 }
 
-fn codes_end(book: &[u8], at: usize, count: usize) -> Next
+fn codes_end(table: &[bool; 256], book: &[u8], at: usize, count: usize) -> Next
+    requires { ⌜ TellsPlain (now table) ⌝ }
     ensures { λ r. ⌜ r ≡ endOf (times count (text codeLimit) (now (book .entry)) at) ⌝ }
 {
     let mut left = count;
     let mut from = at;
     while 0 < left {
-        match text_end(book, from, CODE_LIMIT) {
+        match text_end(table, book, from, CODE_LIMIT) {
             Next::At(end) => from = end,
             Next::Fault => return Next::Fault,
         }
@@ -126,11 +116,9 @@ fn rule_end(book: &[u8], at: usize, sets: u8) -> Next
 {
     if at <= book.len() {
         if RULE_SIZE <= book.len() - at {
-            let end = at + RULE_SIZE;
-            return match rule_of(&book[at..end], sets) {
-                RuleRead::Is(_) => Next::At(end),
-                RuleRead::Fault => Next::Fault,
-            };
+            if rule_stands(book, at, sets) {
+                return Next::At(at + RULE_SIZE);
+            }
         }
     }
     Next::Fault
@@ -151,27 +139,29 @@ fn rules_end(book: &[u8], at: usize, count: usize, sets: u8) -> Next
     Next::At(from)
 }
 
-fn set_end(book: &[u8], at: usize) -> Next
+fn set_end(table: &[bool; 256], book: &[u8], at: usize) -> Next
+    requires { ⌜ TellsPlain (now table) ⌝ }
     ensures { λ r. ⌜ r ≡ endOf (codeSet (now (book .entry)) at) ⌝ }
 {
     if at <= book.len() {
         if 2 <= book.len() - at {
             let count = pair_at(book, at);
             if (1 <= count) & (count <= CODE_COUNT_LIMIT) {
-                return codes_end(book, at + 2, count);
+                return codes_end(table, book, at + 2, count);
             }
         }
     }
     Next::Fault
 }
 
-fn sets_end(book: &[u8], at: usize, count: usize) -> Next
+fn sets_end(table: &[bool; 256], book: &[u8], at: usize, count: usize) -> Next
+    requires { ⌜ TellsPlain (now table) ⌝ }
     ensures { λ r. ⌜ r ≡ endOf (times count codeSet (now (book .entry)) at) ⌝ }
 {
     let mut sets = count;
     let mut from = at;
     while 0 < sets {
-        match set_end(book, from) {
+        match set_end(table, book, from) {
             Next::At(end) => from = end,
             Next::Fault => return Next::Fault,
         }
@@ -181,10 +171,11 @@ fn sets_end(book: &[u8], at: usize, count: usize) -> Next
 }
 
 // A section, checked whole.
-pub fn section_end(book: &[u8], at: usize) -> Next
+pub fn section_end(table: &[bool; 256], book: &[u8], at: usize) -> Next
+    requires { ⌜ TellsPlain (now table) ⌝ }
     ensures { λ r. ⌜ r ≡ endOf (section (now (book .entry)) at) ⌝ }
 {
-    let Next::At(counts) = text_end(book, at, KEY_LIMIT) else {
+    let Next::At(counts) = text_end(table, book, at, KEY_LIMIT) else {
         return Next::Fault;
     };
     if book.len() - counts < 3 {
@@ -198,5 +189,269 @@ pub fn section_end(book: &[u8], at: usize) -> Next
     let Next::At(sets_at) = rules_end(book, counts + 3, rule_count, set_count) else {
         return Next::Fault;
     };
-    sets_end(book, sets_at, set_count as usize)
+    sets_end(table, book, sets_at, set_count as usize)
 }
+
+const Y: bool = true;
+
+const N: bool = false;
+
+// Which bytes are plain: 0x21 to 0x7E but five.
+pub(crate) const PLAIN: [bool; 256] = [
+    N, // 0x00
+    N,
+    N,
+    N,
+    N,
+    N,
+    N,
+    N,
+    N,
+    N,
+    N,
+    N,
+    N,
+    N,
+    N,
+    N,
+    N, // 0x10
+    N,
+    N,
+    N,
+    N,
+    N,
+    N,
+    N,
+    N,
+    N,
+    N,
+    N,
+    N,
+    N,
+    N,
+    N,
+    N, // 0x20
+    Y,
+    Y,
+    Y,
+    Y,
+    Y,
+    N, // ampersand
+    Y,
+    Y,
+    Y,
+    Y,
+    Y,
+    Y,
+    Y,
+    Y,
+    Y,
+    Y, // 0x30
+    Y,
+    Y,
+    Y,
+    Y,
+    Y,
+    Y,
+    Y,
+    Y,
+    Y,
+    Y,
+    Y,
+    Y,
+    Y,
+    Y,
+    Y,
+    Y, // 0x40
+    Y,
+    Y,
+    Y,
+    Y,
+    Y,
+    Y,
+    Y,
+    Y,
+    Y,
+    Y,
+    Y,
+    Y,
+    Y,
+    Y,
+    Y,
+    Y, // 0x50
+    Y,
+    Y,
+    Y,
+    Y,
+    Y,
+    Y,
+    Y,
+    Y,
+    Y,
+    Y,
+    Y,
+    N, // backslash
+    Y,
+    N, // caret
+    Y,
+    Y, // 0x60
+    Y,
+    Y,
+    Y,
+    Y,
+    Y,
+    Y,
+    Y,
+    Y,
+    Y,
+    Y,
+    Y,
+    Y,
+    Y,
+    Y,
+    Y,
+    Y, // 0x70
+    Y,
+    Y,
+    Y,
+    Y,
+    Y,
+    Y,
+    Y,
+    Y,
+    Y,
+    Y,
+    Y,
+    N, // bar
+    Y,
+    N, // tilde
+    N,
+    N, // 0x80
+    N,
+    N,
+    N,
+    N,
+    N,
+    N,
+    N,
+    N,
+    N,
+    N,
+    N,
+    N,
+    N,
+    N,
+    N,
+    N, // 0x90
+    N,
+    N,
+    N,
+    N,
+    N,
+    N,
+    N,
+    N,
+    N,
+    N,
+    N,
+    N,
+    N,
+    N,
+    N,
+    N, // 0xA0
+    N,
+    N,
+    N,
+    N,
+    N,
+    N,
+    N,
+    N,
+    N,
+    N,
+    N,
+    N,
+    N,
+    N,
+    N,
+    N, // 0xB0
+    N,
+    N,
+    N,
+    N,
+    N,
+    N,
+    N,
+    N,
+    N,
+    N,
+    N,
+    N,
+    N,
+    N,
+    N,
+    N, // 0xC0
+    N,
+    N,
+    N,
+    N,
+    N,
+    N,
+    N,
+    N,
+    N,
+    N,
+    N,
+    N,
+    N,
+    N,
+    N,
+    N, // 0xD0
+    N,
+    N,
+    N,
+    N,
+    N,
+    N,
+    N,
+    N,
+    N,
+    N,
+    N,
+    N,
+    N,
+    N,
+    N,
+    N, // 0xE0
+    N,
+    N,
+    N,
+    N,
+    N,
+    N,
+    N,
+    N,
+    N,
+    N,
+    N,
+    N,
+    N,
+    N,
+    N,
+    N, // 0xF0
+    N,
+    N,
+    N,
+    N,
+    N,
+    N,
+    N,
+    N,
+    N,
+    N,
+    N,
+    N,
+    N,
+    N,
+    N,
+];

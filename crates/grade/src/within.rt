@@ -1,5 +1,6 @@
 // Judging one segment: its order, its rules, their repetitions.
 use crate::broken::breaks_rule;
+use crate::broken::is_required;
 use crate::finding::Finding;
 use crate::limits::SET_PLACES;
 use crate::lookup::is_about;
@@ -13,14 +14,15 @@ use crate::rule::Severity;
 use crate::rule::error_code;
 use crate::walk::Section;
 use hl7::bytes::wide;
-use hl7::cut::Cursor;
-use hl7::cut::Step;
+use hl7::cut::find;
 use hl7::place::Delims;
 use hl7::place::field;
 ghost use mathlib.Core.Path.{_≡_};
 ghost use mathlib.Core.Bool.{true};
 ghost use Prim.Native.Nat.{_+_, _≤_, _<_};
 ghost use lib.ListN.{length, getD};
+ghost use Rattle.hl7.specs.Bytes.{all, differs};
+ghost use Rattle.hl7.specs.Cut.{endFrom};
 ghost use Rattle.hl7.specs.Refusals.{messageLimit};
 ghost use Rattle.grade.specs.Limits.{ruleLimit, segmentCount};
 ghost use Rattle.grade.specs.Rule.{kindFits, ruleFits};
@@ -55,39 +57,51 @@ pub enum Value {
     Fine,
 }
 
-// The first repetition from a position of a field on that breaks a rule, so many having been passed.
-fn next_value(
+// Where the repetition that begins at a position ends: at the field's end, if it has no tilde.
+fn repetition_end(fld: &[u8], tilde: u8, single: bool, at: usize) -> usize
+    requires { ⌜ (at ≤ length (now fld)) × (single ≡ true → all (differs tilde) (now fld) ≡ true) ⌝ }
+    ensures { λ r. ⌜ r ≡ endFrom tilde (now (fld .entry)) at ⌝ }
+{
+    if single {
+        return fld.len();
+    }
+    find(fld, tilde, at)
+}
+
+// The first repetition from a position of a field on that breaks a rule, so many having been passed; single: the field is known to have no tilde.
+pub fn next_value(
     d: Delims,
     fld: &[u8],
+    single: bool,
     book: &[u8],
     rule: Rule,
     codes: usize,
     at: usize,
     passed: u32,
 ) -> Value
-    requires { ⌜ (length (now fld) ≤ messageLimit) × (passed ≤ at) × CodesStand (now book) (rule .kind) codes ⌝ }
+    requires { ⌜ (length (now fld) ≤ messageLimit) × (passed ≤ at) × CodesStand (now book) (rule .kind) codes × (single ≡ true → all (differs (d .tilde)) (now fld) ≡ true) ⌝ }
     ensures { λ r. ⌜ NextValue d (now (fld .entry)) (now (book .entry)) rule codes (brokenFrom d (now (fld .entry)) (now (book .entry)) rule codes at passed) r ⌝ }
 {
-    let mut cursor = Cursor { at };
+    let kind = rule.kind;
+    let mut from = at;
     let mut done = passed;
-    loop {
-        match cursor.next(fld, d.tilde) {
-            Step::Part { start, end, next } => {
-                let rep = &fld[start..end];
-                if breaks_rule(d, rep, book, rule, codes, done) {
-                    return Value::Broken {
-                        repetition: done + 1,
-                        next: next.at,
-                    };
-                }
-                done += 1;
-                cursor = next;
-            }
-            Step::Done => {
-                return Value::Fine;
-            }
+    while from <= fld.len() {
+        let end = repetition_end(fld, d.tilde, single, from);
+        let rep = &fld[from..end];
+        if breaks_rule(d, rep, book, rule, codes, done) {
+            return Value::Broken {
+                repetition: done + 1,
+                next: end + 1,
+            };
         }
+        // REQUIRED is about the first repetition alone
+        if is_required(kind) {
+            return Value::Fine;
+        }
+        done += 1;
+        from = end + 1;
     }
+    Value::Fine
 }
 
 // What judging a segment finds next, and where it goes on.
@@ -106,7 +120,7 @@ fn severity_letter(severity: Severity) -> u8
     }
 }
 
-fn value_finding(here: Here, rule: Rule, number: usize, repetition: u32) -> Finding
+pub fn value_finding(here: Here, rule: Rule, number: usize, repetition: u32) -> Finding
     requires { ⌜ (here .name < segmentCount) × (number ≤ ruleLimit) ⌝ }
     ensures { λ r. ⌜ r ≡ valueFinding (here .name) (here .number) rule number repetition ⌝ }
 {
@@ -125,7 +139,7 @@ fn value_finding(here: Here, rule: Rule, number: usize, repetition: u32) -> Find
 }
 
 // Where the codes of a kind's set stand, if it has one.
-fn codes_of(book: &[u8], section: Section, sets: &[usize; SET_PLACES], kind: Kind) -> usize
+pub fn codes_of(book: &[u8], section: Section, sets: &[usize; SET_PLACES], kind: Kind) -> usize
     requires { ⌜ Holds (now book) section × Placed (now book) section (now sets) × (kindFits (section .«set_count») kind ≡ true) ⌝ }
     ensures { λ r. ⌜ CodesAre (now (book .entry)) (setsIn (now (book .entry)) section) kind r ⌝ }
 {
@@ -152,6 +166,7 @@ fn next_pending(d: Delims, m: &[u8], book: &[u8], here: Here, pending: Pending) 
     match next_value(
         d,
         &m[start..end],
+        false,
         book,
         rule,
         codes,
@@ -279,7 +294,7 @@ pub(crate) fn next_within(
     }
 }
 
-pub(crate) fn order_finding(name: usize, number: u32) -> Finding
+pub fn order_finding(name: usize, number: u32) -> Finding
     requires { ⌜ name ≤ atEnd ⌝ }
     ensures { λ r. ⌜ r ≡ orderFinding name number ⌝ }
 {

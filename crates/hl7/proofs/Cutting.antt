@@ -11,13 +11,13 @@ use native.Mathlib.Numerals.{add-one, unary-clauses}
 use lib.ListN.{length, getD, take, drop, length-take, length-drop, drop-of-length-le}
 use lib.Seq.{drop-cons, drop-drop, take-all, take-take, take-nil}
 use lib.Dec.{eqb}
-use borrow.Author.Tests.{eq-eqb, ne-eqb, not-true}
+use borrow.Author.Tests.{eq-eqb, ne-eqb, eqb-true, not-true}
 use Rattle.hl7.specs.Cut.{ahead, cut, partAt, endFrom, startAt, Piece, pieceAt, missing, butLast}
 use Rattle.hl7.specs.Place.{inside}
 use Rattle.hl7.specs.Spans.{between, pieceFrom, Spans}
 use Rattle.hl7.specs.declared.cut.Span.{Span}
-use Rattle.hl7.specs.Bytes.{all, differs, occurrences}
-use Rattle.hl7.proofs.Comparing.{none-of, rest-at, and-both}
+use Rattle.hl7.specs.Bytes.{all, differs, occurrences, begins}
+use Rattle.hl7.proofs.Comparing.{none-of, rest-at, and-both, all-take, all-drop}
 
 -- ---- one byte more
 pub cut-delimiter : (d x : ℕ) (s : List ℕ) → x ≡ d → cut d (x ∷ s) ≡ [] ∷ cut d s
@@ -99,6 +99,17 @@ first-front d (x ∷ s) = front-of (eqb x d) (first-front d s)
     front-of true ih = refl
     front-of false ih = ap (λ (l : List ℕ). x ∷ l) ih
 
+-- what the whole begins with, the first part begins with too, where no delimiter is in that
+pub first-begins : (d : ℕ) (p s : List ℕ) → all (differs d) p ≡ true → begins p s ≡ true → begins p (first d s) ≡ true
+unfolding all begins
+first-begins d [] s e b = refl
+first-begins d (x ∷ p) [] e b = absurd (true≢false (sym b))
+first-begins d (x ∷ p) (y ∷ s) e b =
+    let kinds = and-both (differs d x) (all (differs d) p) e in
+    let both = and-both (eqb y x) (begins p s) b in
+    let other : y ≡ d → ⊥ = λ same. true≢false (sym (eq-eqb x d (sym (eqb-true y x (both .0)) ∙ same)) ∙ not-true _ (kinds .0)) in
+    rw (cut-other d y s other, both .0) (first-begins d p s (kinds .1) (both .1))
+
 -- ---- where the parts start
 pub start-first : (ps : List (List ℕ)) → startAt ps 0 ≡ 0
 unfolding startAt
@@ -175,6 +186,12 @@ end-clear d s (suc n) i h e =
     let past : i + 1 + n ≡ i + suc n = omega arith in
     end-later d s i (omega arith) (λ same. true≢false (sym (eq-eqb (getD s i 0) d same) ∙ not-true _ (both .0)))
     ∙ end-clear d s n (i + 1) (omega arith) (both .1) ∙ ap (endFrom d s) past
+
+-- where no byte is d, every part ends at the end
+pub end-none : (d : ℕ) (s : List ℕ) (from : ℕ) → all (differs d) s ≡ true → from ≤ length s → endFrom d s from ≡ length s
+end-none d s from e h =
+    let all-of-it : from + (length s - from) ≡ length s = omega arith in
+    end-clear d s (length s - from) from (omega arith) (all-take (differs d) (from + (length s - from) - from) (drop from s) (all-drop (differs d) from s e)) ∙ ap (endFrom d s) all-of-it ∙ end-past d s (length s) (omega arith)
 
 start-ahead : (x : ℕ) (p : List ℕ) (ps : List (List ℕ)) (k : ℕ) → startAt ((x ∷ p) ∷ ps) (suc k) ≡ 1 + startAt (p ∷ ps) (suc k)
 unfolding startAt

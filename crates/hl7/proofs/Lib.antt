@@ -1,5 +1,6 @@
 pub mod Comparing
 pub mod Cutting
+pub mod Noting
 pub mod Walking
 pub mod Placing
 pub mod Refusing

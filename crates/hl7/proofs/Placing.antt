@@ -12,7 +12,7 @@ use borrow.Author.Tests.{le-leb, lt-leb}
 use Rattle.hl7.specs.declared.place.Delims.{Delims}
 use Rattle.hl7.specs.declared.cut.Span.{Span}
 use Rattle.hl7.specs.Cut.{cut, startAt, Piece, pieceAt, missing}
-use Rattle.hl7.specs.Place.{nthOf, cutUnless, isMsh, neverCut, partOfField, componentOf}
+use Rattle.hl7.specs.Place.{nthOf, cutUnless, isMsh, neverCut, partOfField, componentOf, inside, inField, inSegment}
 use Rattle.hl7.specs.Spans.{between, Spans, Lies}
 use Rattle.hl7.specs.Text.{bytes}
 use Rattle.hl7.proofs.Comparing.{begins-long}
@@ -86,6 +86,11 @@ cut-later seg {f} h = rw (lt-leb f 2 h)
 pub cut-early : (seg : List ℕ) {f : ℕ} → f ≤ 2 → neverCut seg f ≡ isMsh seg
 unfolding neverCut
 cut-early seg {f} h = rw (le-leb f 2 h)
+
+-- a component of a field of MSH from MSH-3 on
+pub in-msh : (d : Delims) (msh : List ℕ) {f : ℕ} (r c : ℕ) → isMsh msh ≡ true → 2 < f → inSegment d msh f r c ≡ inside (pieceAt (cut (d .bar) msh) (f - 1)) (λ fld. inField d false fld r c)
+unfolding inSegment
+in-msh d msh {f} r c named h = rw (cut-later msh h, field-msh (d .bar) msh {f = f} named (omega arith) (omega arith))
 
 -- ---- a part of the lent slice itself
 pub lies-spanned : (s : RefT (List ℕ)) {r : RefT (List ℕ)} {p : Piece} {x : Span} → Spans (s .now) p x → r .now ≡ between (s .now) (x .start) (x .end) → r .ptr .0 ≡ s .ptr .0 → r .ptr .1 ≡ s .ptr .1 + x .start → Lies s r p

@@ -16,13 +16,14 @@ use Rattle.hl7.specs.declared.refusal.Found.{Found}
 use Rattle.hl7.specs.declared.refusal.Found.the-variants.{At, Nothing}
 use Rattle.hl7.specs.declared.refusal.Reading.{Reading}
 use Rattle.hl7.specs.declared.refusal.Reading.the-variants.{Sound, Empty, TooLong, WrongByte, NoHeader, WrongSegment}
+use Rattle.hl7.specs.Text.{bytes}
 use Rattle.hl7.specs.Bytes.{all, begins}
 use Rattle.hl7.specs.Cut.{cut, partAt, endFrom, butLast}
-use Rattle.hl7.specs.Place.{delimsOf, carriageReturn, segmentsOf, segmentOf, nthOf, cutUnless, place}
+use Rattle.hl7.specs.Place.{delimsOf, carriageReturn, segmentsOf, segmentOf, isMsh, nthOf, cutUnless, place}
 use Rattle.hl7.specs.Spans.{between}
 use Rattle.hl7.specs.Refusals.{Told, told, Row, row, rowAt, firstRow, holdsAt, First, messageLimit, allowed, wrongBytes, header, hasForm, wrongSegments, formRows, messageRows, firstOf, isSome, paper, readsSound, readingOf, isSound, located}
-use Rattle.hl7.proofs.Comparing.{rest-at, none-of, and-both}
-use Rattle.hl7.proofs.Cutting.{first, first-at, cut-some, parts-more, parts-last}
+use Rattle.hl7.proofs.Comparing.{rest-at, none-of, and-both, begins-less}
+use Rattle.hl7.proofs.Cutting.{first, first-at, first-begins, cut-some, parts-more, parts-last}
 use Rattle.hl7.proofs.Walking.{ended-same}
 
 -- ---- tables of rows
@@ -271,6 +272,11 @@ sound-short m e = ltb-false messageLimit (length m) (sound-none m e 1)
 pub sound-begins : (m : List ℕ) → isSound m ≡ true → begins header m ≡ true
 unfolding messageRows formRows
 sound-begins m e = not-false _ (sound-none m e 3)
+
+-- so its first segment is MSH
+pub sound-msh : (m : List ℕ) → isSound m ≡ true → isMsh (segmentOf m 1 .bytes) ≡ true
+unfolding nthOf cutUnless all
+sound-msh m e = begins-less (bytes "MSH") (bytes "|^~\\&|") _ (first-begins carriageReturn header m refl (sound-begins m e))
 
 -- every byte is allowed, and every segment has its form and its CR
 none-at : (positions : List ℕ) → isSome positions ≡ false → positions ≡ []

@@ -1,13 +1,15 @@
 -- Segments, fields, repetitions and components of a message (HL7 2.5.1 chapter 2): what each holds, and where it stands. Assumes nothing.
-use Prim.Native.Nat.{ℕ, zero, suc, _+_}
+use Prim.Native.Nat.{ℕ, zero, suc, _+_, _<_}
 use Prim.Native.Char.{code}
+use mathlib.Core.Path.{_≡_}
 use mathlib.Core.Bool.{Bool, true, false, _&&_}
 use mathlib.Core.List.{List, [], _∷_}
-use lib.ListN.{take, drop}
+use lib.ListN.{length, take, drop}
 use lib.Dec.{leb}
 use Rattle.hl7.specs.declared.place.Delims.{Delims}
 use Rattle.hl7.specs.Bytes.{begins}
 use Rattle.hl7.specs.Cut.{cut, Piece, pieceAt, missing, butLast}
+use Rattle.hl7.specs.Spans.{Noted}
 use Rattle.hl7.specs.Text.{bytes}
 
 -- ---- the delimiters
@@ -59,6 +61,12 @@ fieldOf d seg f = partOfField (isMsh seg) (d .bar) seg f
 -- MSH-1 and MSH-2 are never cut further
 unfoldable pub neverCut : List ℕ → ℕ → Bool
 neverCut seg f = leb f 2 && isMsh seg
+
+-- the fields of MSH up to MSH-12 are noted
+pub record MshNoted (d : Delims) (msh starts : List ℕ) (count : ℕ) : Type 0 where
+  pub named : isMsh msh ≡ true
+  pub noted : Noted (d .bar) msh starts count
+  pub room : 12 < length starts
 
 -- ---- repetitions and components
 -- tildes cut a field into repetitions

@@ -12,6 +12,9 @@ ghost use Rattle.hl7.specs.Walk.{stepAt};
 // Bytes that are looked at together.
 const BLOCK: usize = 16;
 
+// Bytes in which delimiters are counted together.
+const COUNTED: usize = 64;
+
 // A part of a slice, by where it starts and ends there.
 pub struct Span {
     pub start: usize,
@@ -33,7 +36,7 @@ pub fn find(s: &[u8], d: u8, from: usize) -> usize
 }
 
 // Whether no byte of v is d: no early exit, so that many bytes are looked at together.
-fn none_is(v: &[u8], d: u8) -> bool
+pub fn none_is(v: &[u8], d: u8) -> bool
     ensures { λ r. ⌜ r ≡ all (differs d) (now (v .entry)) ⌝ }
 {
     let mut none = true;
@@ -106,10 +109,10 @@ fn pass_parts(s: &[u8], d: u8, k: usize) -> Left
     let mut at = 0;
     let mut left = k;
     while at < s.len() {
-        if s.len() - at < BLOCK {
+        if s.len() - at < COUNTED {
             return Left { at, parts: left };
         }
-        let end = at + BLOCK;
+        let end = at + COUNTED;
         let n = wide(count_in(&s[at..end], d));
         if left <= n {
             return Left { at, parts: left };

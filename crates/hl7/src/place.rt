@@ -1,10 +1,18 @@
 // Segments, fields, repetitions and components, each by where it stands in the bytes that hold it.
 use crate::bytes::begins_with;
 use crate::cut::Span;
+use crate::cut::find;
+use crate::cut::find_far;
 use crate::cut::part;
 ghost use mathlib.Core.Path.{_≡_};
-ghost use Rattle.hl7.specs.Spans.{Spans};
+ghost use Prim.Native.Nat.{_+_, _≤_, _<_};
+ghost use lib.ListN.{length};
+ghost use Rattle.hl7.specs.Cut.{cut, pieceAt};
+ghost use Rattle.hl7.specs.Spans.{Spans, Noted};
 ghost use Rattle.hl7.specs.Place.{delimsOf, nthOf, cutUnless, isMsh, neverCut, segmentOf, fieldOf, repetitionsIn, componentOf, inField, inSegment, place};
+
+// Room for the starts of MSH's parts up to field 12, and for their end.
+pub const MSH_PLACES: usize = 13;
 
 // The five bytes that a message is cut by.
 pub struct Delims {
@@ -41,6 +49,12 @@ fn nth(s: &[u8], d: u8, whole: bool, k: usize) -> Span
             return Span { start: 0, end: n };
         }
         return Span { start: n, end: n };
+    }
+    if k == 1 {
+        return Span {
+            start: 0,
+            end: find_far(s, d, 0),
+        };
     }
     part(s, d, k - 1)
 }
@@ -87,6 +101,42 @@ pub fn field(d: Delims, seg: &[u8], f: usize) -> Span
         return part(seg, d.bar, f - 1);
     }
     part(seg, d.bar, f)
+}
+
+// Notes where the parts of a segment cut at the bar begin, each part's start after the one before and one more for its end, as many as there is room for; answers how many parts.
+pub fn note_fields(d: Delims, seg: &[u8], starts: &mut [usize]) -> usize
+    requires { ⌜ 1 ≤ length (now starts) ⌝ }
+    ensures { λ r. ⌜ Noted (d .bar) (now (seg .entry)) (now (starts .exit)) r ⌝ }
+{
+    let n = seg.len();
+    let room = starts.len() - 1;
+    let mut at = 0;
+    let mut k = 0;
+    while k < room {
+        starts[k] = at;
+        if n < at {
+            return k;
+        }
+        at = find(seg, d.bar, at) + 1;
+        k += 1;
+    }
+    starts[k] = at;
+    k
+}
+
+// Part k of a segment whose fields are noted; what is missing stands at the segment's end.
+pub fn noted_part(d: Delims, seg: &[u8], starts: &[usize], count: usize, k: usize) -> Span
+    requires { ⌜ Noted (d .bar) (now seg) (now starts) count × (k + 1 < length (now starts)) ⌝ }
+    ensures { λ r. ⌜ Spans (now (seg .entry)) (pieceAt (cut (d .bar) (now (seg .entry))) k) r ⌝ }
+{
+    let n = seg.len();
+    if k < count {
+        return Span {
+            start: starts[k],
+            end: starts[k + 1] - 1,
+        };
+    }
+    Span { start: n, end: n }
 }
 
 // Component c of a repetition; 0 is the repetition.

@@ -6,6 +6,7 @@ mod ours;
 
 use second::samples::{self, STAMP};
 use second::{books, limits};
+use std::env;
 use std::hint::black_box;
 use std::io::Write;
 use std::process::{Command, ExitCode, Stdio};
@@ -219,12 +220,15 @@ for _ in range(9):
         hl7.parse(text)
     samples.append((time.perf_counter() - start) / 50 * 1e6)
 print('%.3f' % statistics.median(samples))";
-    let mut command = Command::new("python3");
-    command.args(["-c", SCRIPT]).stdin(Stdio::piped()).stdout(Stdio::piped()).stderr(Stdio::null());
-    let mut child = command.spawn().ok()?;
-    // Without the module it ends before it reads; then it prints nothing either.
-    let _ = child.stdin.take()?.write_all(message);
-    let output = child.wait_with_output().ok()?;
-    let text = String::from_utf8(output.stdout).ok()?;
-    output.status.success().then(|| text.trim().to_string())
+    // The module belongs to one interpreter, which need not be the first of its name.
+    env::split_paths(&env::var_os("PATH")?).find_map(|folder| {
+        let mut command = Command::new(folder.join("python3"));
+        command.args(["-c", SCRIPT]).stdin(Stdio::piped()).stdout(Stdio::piped()).stderr(Stdio::null());
+        let mut child = command.spawn().ok()?;
+        // Without the module it ends before it reads; then it prints nothing either.
+        let _ = child.stdin.take()?.write_all(message);
+        let output = child.wait_with_output().ok()?;
+        let text = String::from_utf8(output.stdout).ok()?;
+        output.status.success().then(|| text.trim().to_string())
+    })
 }

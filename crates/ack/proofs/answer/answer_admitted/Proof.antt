@@ -3,7 +3,7 @@ use mathlib.Core.Path.{sym, _∙_}
 use Prim.Native.Nat.{_-_}
 use native.Mathlib.Omega.{arith}
 use borrow.Author.Needs.{needs}
-use Rattle.ack.proofs.Admitting.{admitted-short, admitted-holds, admitted-few, stamp-length, part-within, answer-stamp, answer-by-header, answer-by-grading}
+use Rattle.ack.proofs.Admitting.{admitted-short, admitted-msh, admitted-holds, admitted-few, stamp-length, part-within, answer-stamp, answer-by-header, answer-by-grading}
 use Rattle.ack.proofs.answer.answer_admitted.Statement.{statement}
 use Rattle.ack.proofs.answer.answer_admitted.Tie as tie
 
@@ -14,7 +14,7 @@ answer-header-requires c κs =
     let at-then = at-segment .before .before in
     let begin = at-then .before .before .before .before .before .before in
     let stamp = stamp-length (begin .args .stamp .now) (sym (at-then .before .is-stamp .ensures) ∙ at-then .if1 .taken) in
-    (part-within (begin .args .m .now) (at-segment .segment .result .end - at-segment .segment .result .start) (at-segment .segment .result .start) (admitted-short (begin .args .m .now) (begin .args .book .now) (begin .pre)), omega arith, sym (at-wrong .any-wrong .ensures) ∙ c .before .before .if2 .taken)
+    (part-within (begin .args .m .now) (at-segment .segment .result .end - at-segment .segment .result .start) (at-segment .segment .result .start) (admitted-short (begin .args .m .now) (begin .args .book .now) (begin .pre)), omega arith, sym (at-wrong .any-wrong .ensures) ∙ c .before .before .if2 .taken, admitted-msh (begin .args .m .now) (begin .args .book .now) (begin .pre) (at-segment .segment .ensures .bytes))
 
 answer-graded-requires : tie.Need-answer-graded-requires
 answer-graded-requires c κs =
@@ -29,6 +29,8 @@ answer-graded-requires c κs =
       part-within (begin .args .m .now) (at-segment .segment .result .end - at-segment .segment .result .start) (at-segment .segment .result .start) short,
       omega arith,
       admitted-few (begin .args .m .now) (begin .args .book .now) (begin .pre),
+      at-segment .before .delims-of .ensures,
+      admitted-msh (begin .args .m .now) (begin .args .book .now) (begin .pre) (at-segment .segment .ensures .bytes),
     )
 
 returns : tie.Need-returns

@@ -1,71 +1,80 @@
--- `ack::answer::answer_graded` meets its contract. Assumes nothing.
-use mathlib.Core.Path.{_≡_, sym, ap}
+-- `ack::answer::answer_graded` meets its contract: the first run tells the length and the letter, and what was kept of it, or a second run, the bytes.
+-- Assumes nothing.
+use mathlib.Core.Path.{_≡_, _∙_}
 use native.Mathlib.Omega.{arith}
 use borrow.Author.Needs.{needs}
-use lib.ListN.{length}
 use Rattle.ack.proofs.Answering.{need-fits, too-short, fits}
+use Rattle.ack.proofs.Listing.{whole-is, kept-is, verdict-is}
 use Rattle.ack.proofs.answer.answer_graded.Statement.{statement}
 use Rattle.ack.proofs.answer.answer_graded.Tie as tie
 
-measure-requires : tie.Need-measure-requires
-measure-requires c κs =
-    let at-start = c .before in
-    let pre = at-start .before .before .before .before .before .before .before .pre in
-    (pre .0, pre .1, at-start .start .ensures .1, rw (at-start .start .ensures .0) (pre .4), at-start .before .sets-of .ensures)
+heading-length-requires : tie.Need-heading-length-requires
+heading-length-requires c κs =
+    let at-note = c .before .before in
+    let at-errs = at-note .before .before .before .before in
+    record { named = at-errs .before .before .before .before .before .before .before .before .before .before .before .before .pre .6; noted = at-note .note-fields .ensures; room = omega (arith, at-note .note-fields .kept .1 .1 .0, at-errs .put-errs .kept .1 .1 .1 .1 .1 .1 .1 .1 .0) }
 
 add-need : tie.Need-add-need
 add-need c =
-    let at-heading = c .before in
-    let at-measure = at-heading .before in
-    let at-start = at-measure .before .before in
-    let begin = at-start .before .before .before .before .before .before .before in
+    let at-errs = c .before .before .before .before .before .before .before in
+    let begin = at-errs .before .before .before .before .before .before .before .before .before .before .before .before in
     let a = begin .args in
-    let few = rw (← at-start .start .ensures .0) at (begin .pre .4) in
-    record { fits = omega (arith, need-fits (a .d) (a .head .now) (a .stamp .now) (a .control) _ (a .out .now) (begin .pre .2) (begin .pre .3) few (at-heading .heading-length .ensures) (at-measure .measure .ensures .long (a .d))) }
+    record { fits = omega (arith, need-fits (a .d) (a .head .now) (a .stamp .now) (a .control) _ (a .out .now) (begin .pre .2) (begin .pre .3) (begin .pre .4) (c .heading-length .ensures) (whole-is (at-errs .put-errs .ensures) (begin .pre .4))) }
 
 returns : tie.Need-returns
 returns c =
-    let at-heading = c .before .before in
-    let at-measure = at-heading .before in
-    let at-start = at-measure .before .before in
-    let begin = at-start .before .before .before .before .before .before .before in
-    let few = rw (← at-start .start .ensures .0) at (begin .pre .4) in
-    rw (← at-start .start .ensures .0)
-    (too-short _ _ _ _ _ _ (begin .pre .2) (begin .pre .3) few (at-heading .heading-length .ensures) (at-measure .measure .ensures .long _) (c .if1 .taken))
+    let at-errs = c .before .before .before .before .before .before .before .before in
+    let begin = at-errs .before .before .before .before .before .before .before .before .before .before .before .before in
+    too-short _ _ _ _ _ _ (begin .pre .2) (begin .pre .3) (begin .pre .4) (c .before .heading-length .ensures) (whole-is (at-errs .put-errs .ensures) (begin .pre .4)) (c .if1 .taken)
 
-put-errs-requires : tie.Need-put-errs-requires
-put-errs-requires c κs =
-    let at-start = c .before .before .before .before .before .before .before .before .before .before .before .before in
-    let pre = at-start .before .before .before .before .before .before .before .pre in
-    (pre .0, pre .1, at-start .start .ensures .1, at-start .before .sets-of .ensures)
+put-heading-requires : tie.Need-put-heading-requires
+put-heading-requires c κs =
+    let at-note = c .before .before .before .before .before .before .before in
+    let at-errs = at-note .before .before .before .before in
+    record { named = at-errs .before .before .before .before .before .before .before .before .before .before .before .before .pre .6; noted = at-note .note-fields .ensures; room = omega (arith, at-note .note-fields .kept .1 .1 .0, at-errs .put-errs .kept .1 .1 .1 .1 .1 .1 .1 .1 .0) }
+
+put-graded-requires : tie.Need-put-graded-requires
+put-graded-requires c κs =
+    let at-heading = c .before .before .before .before .before .before .before in
+    let at-note = at-heading .before .before .before .before .before .before .before .before in
+    let at-errs = at-note .before .before .before .before in
+    let at-links = at-errs .before .before .before .before .before in
+    let begin = at-errs .before .before .before .before .before .before .before .before .before .before .before .before in
+    (omega (arith, at-heading .put-heading .ensures .ends), begin .pre .0, begin .pre .1, at-links .before .sets-of .ensures, at-links .links-of .ensures, omega (arith, at-note .note-fields .kept .1 .1 .0, at-errs .put-errs .kept .1 .1 .1 .1 .1 .1 .1 .1 .0), begin .pre .5, λ h. kept-is (at-errs .put-errs .ensures) (begin .pre .4) h)
 
 returns-2 : tie.Need-returns-2
 returns-2 c =
-    let at-errs = c .before .before in
-    let at-put = at-errs .before .before .before .before .before in
-    let at-letter = at-put .before .before in
-    let at-else = at-letter .before in
-    let at-heading = at-else .before .before in
-    let at-measure = at-heading .before in
-    let at-start = at-measure .before .before in
-    let begin = at-start .before .before .before .before .before .before .before in
-    let few = rw (← at-start .start .ensures .0) at (begin .pre .4) in
-    rw (← at-start .start .ensures .0)
-    (fits _ _ _ _ _ _ (begin .pre .2) (begin .pre .3) few (at-heading .heading-length .ensures) (at-measure .measure .ensures .long _)
-    (at-else .if1 .left) (rw (at-letter .letter-of .ensures, at-measure .measure .ensures .headed, at-measure .measure .ensures .faulty)) (at-put .put-heading .ensures) (at-errs .put-errs .ensures))
+    let at-put = c .before .before .before in
+    let at-heading = at-put .before .before .before .before .before .before .before .before in
+    let at-letter = at-heading .before .before .before in
+    let at-if = at-letter .before in
+    let at-length = at-if .before in
+    let at-errs = at-length .before .before .before .before .before .before .before in
+    let begin = at-errs .before .before .before .before .before .before .before .before .before .before .before .before in
+    let few = begin .pre .4 in
+    fits _ _ _ _ _ _ (begin .pre .2) (begin .pre .3) few (at-length .heading-length .ensures) (whole-is (at-errs .put-errs .ensures) few) (at-if .if1 .left)
+    (at-letter .letter-of .ensures ∙ verdict-is (at-errs .put-errs .ensures) few) (at-heading .put-heading .ensures) (at-put .put-graded .ensures)
 
 pub answer-graded-spec : {M : Type 1} → statement M
 answer-graded-spec =
     tie.close
     (tie.spec
-    (λ c κs. c .before .before .before .before .before .pre .1)
-    (λ c κs. c .before .before .before .before .before .before .pre .1)
-    measure-requires
-    (λ c κs. tt)
+    (λ c κs. search needs)
+    (λ c κs. search needs)
+    (λ c. search needs)
+    (λ c. search needs)
+    (λ c κs. search needs)
+    (λ c. search needs)
+    (λ c κs. search needs)
+    (λ c. search needs)
+    heading-length-requires
     add-need
     returns
     (λ c κs. tt)
-    (λ c κs. tt)
-    put-errs-requires
+    (λ c. search needs)
+    put-heading-requires
+    (λ c. search needs)
+    (λ c. search needs)
+    put-graded-requires
     (λ c. search needs)
     returns-2)

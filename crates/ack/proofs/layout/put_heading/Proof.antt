@@ -10,4 +10,4 @@ unfolding heading
 returns c = search _then_
 
 pub put-heading-spec : {M : Type 1} → statement M
-put-heading-spec = tie.close (tie.spec (λ c κs. tt) (λ c κs. tt) (λ c. search needs) returns)
+put-heading-spec = tie.close (tie.spec (λ c κs. search needs) (λ c κs. search needs) (λ c. search needs) returns)

@@ -30,7 +30,7 @@ put-msa-spec =
     (λ c. search needs)
     (λ c κs. tt)
     (λ c κs. tt)
-    (λ c κs. tt)
+    (λ c κs. search needs)
     (λ c κs. tt)
     same-length
     returns)

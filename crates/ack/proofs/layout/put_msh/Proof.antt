@@ -1,9 +1,20 @@
 -- `ack::layout::put_msh` meets its contract. Assumes nothing.
+use native.Mathlib.Omega.{arith}
 use borrow.Author.Needs.{needs}
 use Rattle.ack.proofs.Lines.{msh-pieces}
 use Rattle.ack.proofs.Writing.{_then_, wrote-as, wrote-length}
 use Rattle.ack.proofs.layout.put_msh.Statement.{statement}
 use Rattle.ack.proofs.layout.put_msh.Tie as tie
+
+put-copy-requires-5 : tie.Need-put-copy-requires-5
+put-copy-requires-5 c κs =
+    let at-put-number = c .before .before .before in
+    let at-put-own2 = at-put-number .before .before .before .before .before in
+    let at-put-field = at-put-own2 .before .before .before .before .before in
+    let at-put-copy4 = at-put-field .before .before .before .before in
+    let at-put-copy = at-put-copy4 .before .before .before .before .before .before .before .before .before .before .before .before in
+    let begin = at-put-copy .before .before .before .before .before .before .before .before .before .before .before in
+    (begin .pre, omega arith, omega arith)
 
 returns : tie.Need-returns
 returns c =
@@ -39,16 +50,16 @@ put-msh-spec =
     (tie.spec
     (λ c. search needs)
     (λ c κs. tt)
-    (λ c κs. tt)
-    (λ c κs. tt)
-    (λ c κs. tt)
-    (λ c κs. tt)
+    (λ c κs. search needs)
+    (λ c κs. search needs)
+    (λ c κs. search needs)
+    (λ c κs. search needs)
     (λ c κs. tt)
     (λ c. search needs)
     (λ c κs. tt)
     (λ c κs. tt)
     (λ c κs. tt)
-    (λ c κs. tt)
+    put-copy-requires-5
     (λ c. search needs)
     (λ c κs. tt)
     same-length

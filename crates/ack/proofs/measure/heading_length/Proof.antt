@@ -10,4 +10,4 @@ returns : tie.Need-returns
 returns c = λ second. rw (heading-same _ _ _ _ second (code "A")) (omega (arith, c .before .put-heading .ensures .ends))
 
 pub heading-length-spec : {M : Type 1} → statement M
-heading-length-spec = tie.close (tie.spec (λ c. search needs) (λ c κs. tt) returns)
+heading-length-spec = tie.close (tie.spec (λ c. search needs) (λ c κs. search needs) returns)

@@ -1,6 +1,7 @@
 -- `grade::admit::admit` meets its contract: rows 1 to 5, and then those of the book. Assumes nothing.
-use mathlib.Core.Path.{sym, _∙_}
-use Rattle.hl7.proofs.Refusing.{sound-is}
+use mathlib.Core.Path.{sym, ap, _∙_}
+use Rattle.hl7.specs.Place.{isMsh}
+use Rattle.hl7.proofs.Refusing.{sound-is, sound-msh}
 use Rattle.grade.proofs.Admitting.{admit-sound, admit-refused}
 use borrow.Author.Needs.{needs}
 use Rattle.grade.proofs.admit.admit.Statement.{statement}
@@ -28,7 +29,10 @@ part-admit-msh-end : tie.Need-part-admit-msh-end
 part-admit-msh-end c = search needs
 
 admit-msh-requires : tie.Need-admit-msh-requires
-admit-msh-requires c κs = search needs
+admit-msh-requires c κs =
+    let cut = c .before .before in
+    let checked = cut .before .before .before in
+    ap isMsh (cut .segment .ensures .bytes) ∙ sound-msh _ (sym (sound-is _ (checked .check .result) (checked .check .ensures)) ∙ sym (cut .before .before .is-sound-reading .ensures) ∙ cut .before .if1 .taken)
 
 returns : tie.Need-returns
 returns c =

@@ -1,15 +1,28 @@
 -- `grade::admit::admit_msh` meets its contract: rows 6 to 9. Assumes nothing.
+use mathlib.Core.Path.{sym, _∙_}
 use Rattle.grade.specs.Header.{mshAt}
 use Rattle.grade.proofs.Admitting.{admit-none, admit-some}
 use borrow.Author.Needs.{needs}
 use Rattle.grade.proofs.admit.admit_msh.Statement.{statement}
 use Rattle.grade.proofs.admit.admit_msh.Tie as tie
 
+slice-aggregate-note-fields : tie.Need-slice-aggregate-note-fields
+slice-aggregate-note-fields c = search needs
+
+note-fields-requires : tie.Need-note-fields-requires
+note-fields-requires c κs = search needs
+
+slice-aggregate-has-control-id : tie.Need-slice-aggregate-has-control-id
+slice-aggregate-has-control-id c = search needs
+
 has-control-id-requires : tie.Need-has-control-id-requires
 has-control-id-requires c κs = search needs
 
-in-segment-requires : tie.Need-in-segment-requires
-in-segment-requires c κs = search needs
+slice-aggregate-msh-part : tie.Need-slice-aggregate-msh-part
+slice-aggregate-msh-part c = search needs
+
+msh-part-requires : tie.Need-msh-part-requires
+msh-part-requires c κs = search needs
 
 sub-open-book : tie.Need-sub-open-book
 sub-open-book c = search needs
@@ -23,6 +36,9 @@ part-open-book-end c = search needs
 open-book-requires : tie.Need-open-book-requires
 open-book-requires c κs = search needs
 
+slice-aggregate-header-of : tie.Need-slice-aggregate-header-of
+slice-aggregate-header-of c = search needs
+
 header-of-requires : tie.Need-header-of-requires
 header-of-requires c κs = search needs
 
@@ -32,22 +48,29 @@ by-section-requires c κs = search needs
 returns : tie.Need-returns
 unfolding mshAt
 returns c =
-    let opened = c .before .before in
-    admit-some _ _ _ (cc) (opened .before .before .in-segment .ensures .bytes) (opened .open-book .ensures) (c .before .header-of .ensures) (c .by-section .ensures)
+    let opened = c .before .before .before in
+    let key = opened .before .before in
+    let chosen = key .before .before in
+    admit-some _ _ _ (sym (chosen .before .has-control-id .ensures) ∙ chosen .if1 .taken) (key .msh-part .ensures .bytes) (opened .open-book .ensures) (c .before .header-of .ensures) (c .by-section .ensures)
 
 returns-2 : tie.Need-returns-2
-returns-2 c = admit-none _ _ _ (cc)
+returns-2 c = admit-none _ _ _ (sym (c .before .has-control-id .ensures) ∙ c .if1 .left)
 
 pub admit-msh-spec : {M : Type 1} → statement M
 admit-msh-spec =
     tie.close
     (tie.spec
+    slice-aggregate-note-fields
+    note-fields-requires
+    slice-aggregate-has-control-id
     has-control-id-requires
-    in-segment-requires
+    slice-aggregate-msh-part
+    msh-part-requires
     sub-open-book
     part-open-book-start
     part-open-book-end
     open-book-requires
+    slice-aggregate-header-of
     header-of-requires
     by-section-requires
     returns

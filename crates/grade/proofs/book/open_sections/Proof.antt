@@ -1,6 +1,6 @@
 -- `grade::book::open_sections` meets its contract: at each exit the tests and the calls' answers say what the readers of `sections` did. Assumes nothing.
 use Prim.Native.Nat.{ℕ, _≤_, _<_}
-use mathlib.Core.Path.{_≡_, sym, _∙_}
+use mathlib.Core.Path.{_≡_, refl, sym, _∙_}
 use mathlib.Core.Bool.{true, false, _&&_}
 use mathlib.Core.List.{List, map}
 use native.Mathlib.Omega.{arith}
@@ -15,7 +15,9 @@ use Rattle.grade.specs.Limits.{headSize, sectionLimit}
 use Rattle.grade.specs.Reader.{times}
 use Rattle.grade.specs.Standing.{endOf, textAt, TextFits, standsAt, sitedAt, Walked, withKey, chosen}
 use Rattle.grade.specs.Book.{distinct, section, sections}
+use Rattle.grade.specs.Strict.{countFrom}
 use Rattle.hl7.proofs.Comparing.{and-both, all-at}
+use Rattle.grade.proofs.Following.{tells-plain}
 use Rattle.grade.proofs.Readings.{faulted}
 use Rattle.grade.proofs.Parts.{stands-key, keys-texts}
 use borrow.Author.Needs.{needs}
@@ -89,12 +91,14 @@ add-walk-sections c = search needs
 slice-aggregate-walk-sections : tie.Need-slice-aggregate-walk-sections
 slice-aggregate-walk-sections c = search needs
 
+-- the table has an entry for each byte: `refl` is the test of all of them
 walk-sections-requires : tie.Need-walk-sections-requires
+unfolding countFrom
 walk-sections-requires c κs =
-    let a = c .before .before .before .before .before .before .args in
+    let a = c .before .before .before .before .before .before .before .args in
     let b = now (a .book) in
     let key = now (a .key) in
-    few b key (omega arith) (not-false _ (c .before .if2 .left))
+    (tells-plain _ refl, few b key (omega arith) (not-false _ (c .before .before .if2 .left)))
 
 enum-known-end : tie.Need-enum-known-end
 enum-known-end c = search needs
@@ -104,62 +108,62 @@ enum-told c = search needs
 
 returns-3 : tie.Need-returns-3
 returns-3 c =
-    let a = c .before .before .before .before .before .before .before .before .before .before .args in
+    let a = c .before .before .before .before .before .before .before .before .before .before .before .args in
     let b = now (a .book) in
     let key = now (a .key) in
-    sym (bad-section b key (omega arith) (not-false _ (c .before .before .before .before .before .if2 .left)) (sym (c .before .before .before .walk-sections .ensures .ends) ∙ c .enum-told .given .1))
+    sym (bad-section b key (omega arith) (not-false _ (c .before .before .before .before .before .before .if2 .left)) (sym (c .before .before .before .walk-sections .ensures .ends) ∙ c .enum-told .given .1))
 
 returns-4 : tie.Need-returns-4
 returns-4 c =
-    let a = c .before .before .before .before .before .before .before .before .before .before .before .before .args in
+    let a = c .before .before .before .before .before .before .before .before .before .before .before .before .before .args in
     let b = now (a .book) in
     let key = now (a .key) in
-    sym (trailing b key (omega arith) (not-false _ (c .before .before .before .before .before .before .before .if2 .left)) (c .before .before .before .before .before .walk-sections .last .1 .1 .1 .0) _ _ (c .before .before .before .before .before .walk-sections .ensures) (c .before .before .end .given .1) (c .if3 .taken))
+    sym (trailing b key (omega arith) (not-false _ (c .before .before .before .before .before .before .before .before .if2 .left)) (c .before .before .before .before .before .walk-sections .last .1 .1 .1 .1 .0) _ _ (c .before .before .before .before .before .walk-sections .ensures) (c .before .before .end .given .1) (c .if3 .taken))
 
 array-share-prefix-starts : tie.Need-array-share-prefix-starts
 array-share-prefix-starts c =
-    let a = c .before .before .before .before .before .before .before .before .before .before .before .before .args in
-    let b = now (a .book) in
-    let key = now (a .key) in
-    let n = few b key (omega arith) (not-false _ (c .before .before .before .before .before .before .before .if2 .left)) in
-    omega (arith, c .before .before .before .before .before .walk-sections .kept .1 .1 .1 .0)
-
-slice-aggregate-used : tie.Need-slice-aggregate-used
-slice-aggregate-used c =
     let a = c .before .before .before .before .before .before .before .before .before .before .before .before .before .args in
     let b = now (a .book) in
     let key = now (a .key) in
     let n = few b key (omega arith) (not-false _ (c .before .before .before .before .before .before .before .before .if2 .left)) in
-    sym (length-take-le _ _ (omega (arith, c .before .before .before .before .before .before .walk-sections .kept .1 .1 .1 .0)))
+    omega (arith, c .before .before .before .before .before .walk-sections .kept .1 .1 .1 .1 .0)
+
+slice-aggregate-used : tie.Need-slice-aggregate-used
+slice-aggregate-used c =
+    let a = c .before .before .before .before .before .before .before .before .before .before .before .before .before .before .args in
+    let b = now (a .book) in
+    let key = now (a .key) in
+    let n = few b key (omega arith) (not-false _ (c .before .before .before .before .before .before .before .before .before .if2 .left)) in
+    sym (length-take-le _ _ (omega (arith, c .before .before .before .before .before .before .walk-sections .kept .1 .1 .1 .1 .0)))
 
 keys-distinct-requires : tie.Need-keys-distinct-requires
 keys-distinct-requires c κs =
-    let a = c .before .before .before .before .before .before .before .before .before .before .before .before .before .args in
+    let a = c .before .before .before .before .before .before .before .before .before .before .before .before .before .before .args in
     let b = now (a .book) in
     let key = now (a .key) in
-    texts b key (omega arith) (not-false _ (c .before .before .before .before .before .before .before .before .if2 .left)) (c .before .before .before .before .before .before .walk-sections .last .1 .1 .1 .0) _ _ (c .before .before .before .before .before .before .walk-sections .ensures) (c .before .before .before .end .given .1)
+    texts b key (omega arith) (not-false _ (c .before .before .before .before .before .before .before .before .before .if2 .left)) (c .before .before .before .before .before .before .walk-sections .last .1 .1 .1 .1 .0) _ _ (c .before .before .before .before .before .before .walk-sections .ensures) (c .before .before .before .end .given .1)
 
 find-section-requires : tie.Need-find-section-requires
 find-section-requires c κs =
-    let a = c .before .before .before .before .before .before .before .before .before .before .before .before .before .before .before .args in
+    let a = c .before .before .before .before .before .before .before .before .before .before .before .before .before .before .before .before .args in
     let b = now (a .book) in
     let key = now (a .key) in
     c .before .before .before .before .before .before .before .before .walk-sections .ensures .stands _ (c .before .before .before .before .before .end .given .1)
 
 returns-5 : tie.Need-returns-5
 returns-5 c =
-    let a = c .before .before .before .before .before .before .before .before .before .before .before .before .before .before .before .before .args in
+    let a = c .before .before .before .before .before .before .before .before .before .before .before .before .before .before .before .before .before .args in
     let b = now (a .book) in
     let key = now (a .key) in
     c .find-section .ensures
-    ∙ sym (whole b key (omega arith) (not-false _ (c .before .before .before .before .before .before .before .before .before .before .before .if2 .left)) (c .before .before .before .before .before .before .before .before .before .walk-sections .last .1 .1 .1 .0) _ _ (c .before .before .before .before .before .before .before .before .before .walk-sections .ensures) (c .before .before .before .before .before .before .end .given .1) (c .before .before .before .before .if3 .left) (sym (c .before .before .keys-distinct .ensures) ∙ c .before .if4 .taken))
+    ∙ sym (whole b key (omega arith) (not-false _ (c .before .before .before .before .before .before .before .before .before .before .before .before .if2 .left)) (c .before .before .before .before .before .before .before .before .before .walk-sections .last .1 .1 .1 .1 .0) _ _ (c .before .before .before .before .before .before .before .before .before .walk-sections .ensures) (c .before .before .before .before .before .before .end .given .1) (c .before .before .before .before .if3 .left) (sym (c .before .before .keys-distinct .ensures) ∙ c .before .if4 .taken))
 
 returns-6 : tie.Need-returns-6
 returns-6 c =
-    let a = c .before .before .before .before .before .before .before .before .before .before .before .before .before .before .before .args in
+    let a = c .before .before .before .before .before .before .before .before .before .before .before .before .before .before .before .before .args in
     let b = now (a .book) in
     let key = now (a .key) in
-    sym (repeated b key (omega arith) (not-false _ (c .before .before .before .before .before .before .before .before .before .before .if2 .left)) (c .before .before .before .before .before .before .before .before .walk-sections .last .1 .1 .1 .0) _ _ (c .before .before .before .before .before .before .before .before .walk-sections .ensures) (c .before .before .before .before .before .end .given .1) (c .before .before .before .if3 .left) (sym (c .before .keys-distinct .ensures) ∙ c .if4 .left))
+    sym (repeated b key (omega arith) (not-false _ (c .before .before .before .before .before .before .before .before .before .before .before .if2 .left)) (c .before .before .before .before .before .before .before .before .walk-sections .last .1 .1 .1 .1 .0) _ _ (c .before .before .before .before .before .before .before .before .walk-sections .ensures) (c .before .before .before .before .before .end .given .1) (c .before .before .before .if3 .left) (sym (c .before .keys-distinct .ensures) ∙ c .if4 .left))
 
 pub open-sections-spec : {M : Type 1} → statement M
 open-sections-spec =

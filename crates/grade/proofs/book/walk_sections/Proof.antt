@@ -22,12 +22,12 @@ use Rattle.grade.proofs.book.walk_sections.Statement.{statement}
 use Rattle.grade.proofs.book.walk_sections.Tie as tie
 
 abbrev Inv-loop : tie.InvT-loop
-Inv-loop book at count starts₀ from₀ i₀ starts from i =
+Inv-loop table book at count starts₀ from₀ i₀ starts from i =
     (i ≤ count) × (length starts ≡ length starts₀) × (all (standsAt book) (take i starts) ≡ true)
     × (times count section book at ≡ after (map (sitedAt book) (take i starts)) (times (count - i) section book from))
 
 abbrev μ-loop : tie.MeasureT-loop
-μ-loop book at count starts₀ from₀ i₀ starts from i = count - i
+μ-loop table book at count starts₀ from₀ i₀ starts from i = count - i
 
 -- one section more, over plain variables
 step : (b : List ℕ) (count i from : ℕ) (starts : List ℕ) (end : ℕ) (whole : Reading (List Sited)) →

@@ -5,8 +5,8 @@ use borrow.Author.Needs.{needs}
 use Rattle.grade.proofs.header.has_processing_id.Statement.{statement}
 use Rattle.grade.proofs.header.has_processing_id.Tie as tie
 
-in-segment-requires : tie.Need-in-segment-requires
-in-segment-requires c κs = search needs
+msh-part-requires : tie.Need-msh-part-requires
+msh-part-requires c κs = search needs
 
 sub-is-processing-id : tie.Need-sub-is-processing-id
 sub-is-processing-id c = search needs
@@ -22,13 +22,13 @@ is-processing-id-requires c κs = search needs
 
 returns : tie.Need-returns
 unfolding mshAt
-returns c = c .is-processing-id .ensures ∙ ap isProcessingId (c .before .before .in-segment .ensures .bytes)
+returns c = c .is-processing-id .ensures ∙ ap isProcessingId (c .before .before .msh-part .ensures .bytes)
 
 pub has-processing-id-spec : {M : Type 1} → statement M
 has-processing-id-spec =
     tie.close
     (tie.spec
-    in-segment-requires
+    msh-part-requires
     sub-is-processing-id
     part-is-processing-id-start
     part-is-processing-id-end

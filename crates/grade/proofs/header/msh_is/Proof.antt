@@ -4,8 +4,8 @@ use borrow.Author.Needs.{needs}
 use Rattle.grade.proofs.header.msh_is.Statement.{statement}
 use Rattle.grade.proofs.header.msh_is.Tie as tie
 
-in-segment-requires : tie.Need-in-segment-requires
-in-segment-requires c κs = search needs
+msh-part-requires : tie.Need-msh-part-requires
+msh-part-requires c κs = search needs
 
 sub-same-bytes : tie.Need-sub-same-bytes
 sub-same-bytes c = search needs
@@ -21,13 +21,13 @@ same-bytes-requires c κs = search needs
 
 returns : tie.Need-returns
 unfolding mshAt
-returns c = rw (← c .before .before .in-segment .ensures .bytes) (c .same-bytes .ensures)
+returns c = rw (← c .before .before .msh-part .ensures .bytes) (c .same-bytes .ensures)
 
 pub msh-is-spec : {M : Type 1} → statement M
 msh-is-spec =
     tie.close
     (tie.spec
-    in-segment-requires
+    msh-part-requires
     sub-same-bytes
     part-same-bytes-start
     part-same-bytes-end

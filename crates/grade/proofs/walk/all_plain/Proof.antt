@@ -1,53 +1,53 @@
--- `grade::walk::all_plain` meets its contract: what is left is plain as all is. Assumes nothing.
-use Prim.Native.Nat.{_≤_, _-_}
-use mathlib.Core.Path.{_≡_, refl, sym, _∙_}
+-- `grade::walk::all_plain` meets its contract. The invariant of its loop: all bytes are plain if those passed are and those left are.
+-- Assumes nothing.
+use mathlib.Core.Path.{_≡_, refl, sym, ap, _∙_}
+use mathlib.Core.Bool.{Bool, _&&_}
+use Prim.Native.Nat.{_+_, _-_}
 use native.Mathlib.Omega.{arith}
-use denote.Ref.{now}
-use lib.ListN.{length, drop}
-use Rattle.hl7.specs.Bytes.{all}
-use Rattle.hl7.proofs.Comparing.{all-more, all-stop, all-none}
-use Rattle.grade.specs.Book.{plain}
 use borrow.Author.Needs.{needs}
+use lib.ListN.{length, getD, drop}
+use Rattle.hl7.specs.Bytes.{all}
+use Rattle.hl7.proofs.Comparing.{all-gathered, all-over}
+use Rattle.grade.specs.Book.{plain}
 use Rattle.grade.proofs.walk.all_plain.Statement.{statement}
 use Rattle.grade.proofs.walk.all_plain.Tie as tie
 
 abbrev Inv-loop : tie.InvT-loop
-Inv-loop letters i₀ i = (i ≤ length letters) × (all plain letters ≡ all plain (drop i letters))
+Inv-loop table letters every₀ i₀ every i = all plain letters ≡ every && all plain (drop i letters)
 
 abbrev μ-loop : tie.MeasureT-loop
-μ-loop letters i₀ i = length letters - i
+μ-loop table letters every₀ i₀ every i = length letters - i
 
 loop-holds : tie.Need-loop-holds Inv-loop μ-loop
-loop-holds c = (omega arith, refl)
+loop-holds c = refl
 
-shared-slice-read-is-plain : tie.Need-shared-slice-read-is-plain Inv-loop μ-loop
-shared-slice-read-is-plain c = omega arith
+shared-slice-read-x : tie.Need-shared-slice-read-x Inv-loop μ-loop
+shared-slice-read-x c = search needs
 
-is-plain-requires : tie.Need-is-plain-requires Inv-loop μ-loop
-is-plain-requires c κs = search needs
+cast-x : tie.Need-cast-x Inv-loop μ-loop
+cast-x c = omega (arith, c .shared-slice-known .given (c .before .before .loop .i))
+
+element-copy-out-every : tie.Need-element-copy-out-every Inv-loop μ-loop
+element-copy-out-every c = omega (arith, c .shared-slice-known .given (c .before .before .loop .i))
 
 add-i : tie.Need-add-i Inv-loop μ-loop
-add-i c = omega arith
+add-i c = search needs
 
 loop-less : tie.Need-loop-less Inv-loop μ-loop
-loop-less c = omega arith
+loop-less c = search needs
 
 loop-again : tie.Need-loop-again Inv-loop μ-loop
 loop-again c =
-    let v = now (c .before .before .before .before .before .before .args .letters) in
-    let l = c .before .before .before .before .loop in
-    (omega arith, l .inv .1 ∙ all-more plain v (l .i) (omega arith) (sym (c .before .is-plain .ensures) ∙ c .if1 .taken))
+    let s = c .before .before .before .before in
+    let v = s .args .letters .now in
+    let l = c .before .before .before .loop in
+    let told = s .pre (getD v (l .i) 0) (omega (arith, c .before .shared-slice-known .given (l .i))) in
+    l .inv ∙ all-gathered plain v (l .i) (l .every) (omega arith) ∙ ap (λ (t : Bool). (l .every && t) && all plain (drop (l .i + 1) v)) (sym told)
 
 returns : tie.Need-returns Inv-loop μ-loop
 returns c =
-    let v = now (c .before .before .before .before .before .before .args .letters) in
-    let l = c .before .before .before .before .loop in
-    sym (l .inv .1 ∙ all-stop plain v (l .i) (omega arith) (sym (c .before .is-plain .ensures) ∙ c .if1 .left))
-
-returns-2 : tie.Need-returns-2 Inv-loop μ-loop
-returns-2 c =
-    let l = c .before .loop in
-    sym (l .inv .1 ∙ all-none plain (now (c .before .before .before .args .letters)) (l .i) (omega arith))
+    let v = c .before .before .args .letters .now in
+    sym (c .before .loop .inv ∙ all-over plain v (c .before .loop .i) (c .before .loop .every) (c .loop-test .left))
 
 pub all-plain-spec : {M : Type 1} → statement M
 all-plain-spec =
@@ -56,10 +56,10 @@ all-plain-spec =
     Inv-loop
     μ-loop
     loop-holds
-    shared-slice-read-is-plain
-    is-plain-requires
+    shared-slice-read-x
+    cast-x
+    element-copy-out-every
     add-i
     loop-less
     loop-again
-    returns
-    returns-2)
+    returns)

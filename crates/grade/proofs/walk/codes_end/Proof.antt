@@ -12,10 +12,10 @@ use Rattle.grade.proofs.walk.codes_end.Statement.{statement}
 use Rattle.grade.proofs.walk.codes_end.Tie as tie
 
 abbrev Inv-loop : tie.InvT-loop
-Inv-loop book at count left₀ from₀ left from = endOf (times left (text codeLimit) book from) ≡ endOf (times count (text codeLimit) book at)
+Inv-loop table book at count left₀ from₀ left from = endOf (times left (text codeLimit) book from) ≡ endOf (times count (text codeLimit) book at)
 
 abbrev μ-loop : tie.MeasureT-loop
-μ-loop book at count left₀ from₀ left from = left
+μ-loop table book at count left₀ from₀ left from = left
 
 loop-holds : tie.Need-loop-holds Inv-loop μ-loop
 loop-holds c = search needs

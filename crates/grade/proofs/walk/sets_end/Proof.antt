@@ -11,10 +11,10 @@ use Rattle.grade.proofs.walk.sets_end.Statement.{statement}
 use Rattle.grade.proofs.walk.sets_end.Tie as tie
 
 abbrev Inv-loop : tie.InvT-loop
-Inv-loop book at count sets₀ from₀ sets from = endOf (times sets codeSet book from) ≡ endOf (times count codeSet book at)
+Inv-loop table book at count sets₀ from₀ sets from = endOf (times sets codeSet book from) ≡ endOf (times count codeSet book at)
 
 abbrev μ-loop : tie.MeasureT-loop
-μ-loop book at count sets₀ from₀ sets from = sets
+μ-loop table book at count sets₀ from₀ sets from = sets
 
 loop-holds : tie.Need-loop-holds Inv-loop μ-loop
 loop-holds c = search needs

@@ -28,8 +28,8 @@ text-part-requires c κs = search needs
 all-plain-requires : tie.Need-all-plain-requires
 all-plain-requires c κs = search needs
 
-add-t18 : tie.Need-add-t18
-add-t18 c = search needs
+add-t19 : tie.Need-add-t19
+add-t19 c = search needs
 
 returns : tie.Need-returns
 unfolding text
@@ -78,7 +78,7 @@ text-end-spec =
     sub-if3
     text-part-requires
     all-plain-requires
-    add-t18
+    add-t19
     returns
     returns-2
     returns-3

@@ -1,4 +1,6 @@
 -- `grade::within::next_pending` meets its contract: the first repetition left that breaks the rule is its next finding. Assumes nothing.
+use mathlib.Core.Path.{sym}
+use mathlib.Core.Bool.{true≢false}
 use Rattle.grade.proofs.Judging.{pending-found, pending-fine}
 use borrow.Author.Needs.{needs}
 use Rattle.grade.proofs.within.next_pending.Statement.{statement}
@@ -14,7 +16,7 @@ part-next-value-end : tie.Need-part-next-value-end
 part-next-value-end c = search needs
 
 next-value-requires : tie.Need-next-value-requires
-next-value-requires c κs = search needs
+next-value-requires c κs = (search needs, search needs, search needs, λ e. absurd (true≢false (sym e)))
 
 enum-known-repetition : tie.Need-enum-known-repetition
 enum-known-repetition c = search needs

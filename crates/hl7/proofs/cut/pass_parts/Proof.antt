@@ -54,7 +54,7 @@ loop-again : tie.Need-loop-again Inv-loop μ-loop
 loop-again c =
     let at-loop = c .before .before .before .before .before .before in
     let args = at-loop .before .before .args in
-    (omega arith, at-loop .loop .inv .1 ∙ piece-past (args .d) (args .s .now) 16 (at-loop .loop .at) (at-loop .loop .left) _ (omega arith) (c .before .wide .ensures .0 ∙ c .before .before .count-in .ensures) (c .if2 .left))
+    (omega arith, at-loop .loop .inv .1 ∙ piece-past (args .d) (args .s .now) 64 (at-loop .loop .at) (at-loop .loop .left) _ (omega arith) (c .before .wide .ensures .0 ∙ c .before .before .count-in .ensures) (c .if2 .left))
 
 returns-3 : tie.Need-returns-3 Inv-loop μ-loop
 returns-3 c = c .before .loop .inv

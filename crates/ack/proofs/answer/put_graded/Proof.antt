@@ -1,0 +1,26 @@
+-- `ack::answer::put_graded` meets its contract. Assumes nothing.
+use mathlib.Core.Path.{_∙_}
+use native.Mathlib.Omega.{arith}
+use borrow.Author.Needs.{needs}
+use Rattle.ack.proofs.Writing.{wrote-as}
+use Rattle.ack.proofs.answer.put_graded.Statement.{statement}
+use Rattle.ack.proofs.answer.put_graded.Tie as tie
+
+returns : tie.Need-returns
+returns c =
+    let at-put = c .before .before in
+    let begin = at-put .before .before .before .before .before .before .before .before .before in
+    wrote-as (at-put .put .ensures) (at-put .before .front .ensures ∙ begin .pre .7 (omega arith))
+
+pub put-graded-spec : {M : Type 1} → statement M
+put-graded-spec =
+    tie.close
+    (tie.spec
+    (λ c κs. tt)
+    (λ c κs. tt)
+    (λ c. search needs)
+    returns
+    (λ c κs. search needs)
+    (λ c. search needs)
+    (λ c. search needs)
+    (λ c. search needs))
