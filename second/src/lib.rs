@@ -15,6 +15,19 @@ pub mod packing;
 pub mod samples;
 pub mod values;
 
+use std::process::ExitCode;
+
 pub use ack::answer;
 pub use cutting::check;
 pub use locating::locate;
+
+/// How a program ends: a problem is told in one line.
+pub fn ending(program: &str, result: Result<(), String>) -> ExitCode {
+    match result {
+        Ok(()) => ExitCode::SUCCESS,
+        Err(problem) => {
+            eprintln!("{program}: {problem}");
+            ExitCode::FAILURE
+        }
+    }
+}

@@ -1,46 +1,27 @@
 -- What the functions that write the ERRs of a segment know of its rules and of its fields. Assumes nothing.
-use Prim.Native.Nat.{ℕ, zero, suc, _+_, _-_, _≤_, _<_}
-use mathlib.Core.Path.{_≡_, refl, sym, ap, subst, _∙_}
+use Prim.Native.Nat.{ℕ, _+_, _-_, _≤_, _<_}
+use mathlib.Core.Path.{_≡_, sym, ap, subst, _∙_}
 use mathlib.Core.Bool.{Bool, true, false, cond}
-use mathlib.Core.List.{List, [], _∷_, map}
+use mathlib.Core.List.{List, map}
 use native.Mathlib.Omega.{arith}
-use borrow.Author.Tests.{lt-ltb}
 use lib.Dec.{eqb}
-use lib.ListN.{length, getD, take, drop}
-use Rattle.hl7.specs.Bytes.{all}
+use lib.ListN.{getD}
 use Rattle.hl7.specs.Cut.{cut, pieceAt}
 use Rattle.hl7.specs.Spans.{between, Spans}
 use Rattle.hl7.specs.Place.{isMsh, fieldOf}
 use Rattle.hl7.specs.declared.cut.Span.{Span}
 use Rattle.hl7.specs.declared.place.Delims.{Delims}
-use Rattle.hl7.proofs.Comparing.{and-both}
 use Rattle.hl7.proofs.Placing.{field-msh, field-other}
 use Rattle.grade.specs.Limits.{fieldLimit}
 use Rattle.grade.specs.Rule.{firstField, ruleFits, kindFits}
 use Rattle.grade.specs.Standing.{rulesIn, setsIn, noRule}
 use Rattle.grade.specs.Rest.{CodesAre, brokenFrom, valueFinding, ofRule}
-use Rattle.grade.specs.declared.finding.Finding.{Finding}
 use Rattle.grade.specs.declared.rule.Rule.{Rule}
 use Rattle.grade.specs.declared.walk.Section.{Section}
 use Rattle.grade.specs.declared.within.Here.{Here}
 use Rattle.grade.proofs.Holding.{rule-fits, place-limits, kind-limits}
 use Rattle.grade.proofs.Judging.{rule-gives}
 use Rattle.ack.specs.Pieces.{Judged}
-
--- what holds of every byte holds of those of a part
-pub all-between : (test : ℕ → Bool) (v : List ℕ) (start end : ℕ) → all test v ≡ true → all test (between v start end) ≡ true
-unfolding all
-all-between test v start end h = front (end - start) (drop start v) (tail start v h)
-  where
-    front : (n : ℕ) (v : List ℕ) → all test v ≡ true → all test (take n v) ≡ true
-    front zero v h = refl
-    front (suc n) [] h = refl
-    front (suc n) (x ∷ v) h = let both = and-both (test x) (all test v) h in rw (both .0, front n v (both .1))
-
-    tail : (n : ℕ) (v : List ℕ) → all test v ≡ true → all test (drop n v) ≡ true
-    tail zero v h = h
-    tail (suc n) [] h = refl
-    tail (suc n) (x ∷ v) h = tail n v (and-both (test x) (all test v) h .1)
 
 -- a rule about a segment that is judged
 module _ (d : Delims) (seg b : List ℕ) (s : Section) (sets : List ℕ) (here : Here) (judged : Judged d seg b s sets here) (i : ℕ) (few : i < s .«rule_count»)

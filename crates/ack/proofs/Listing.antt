@@ -2,15 +2,13 @@
 use mathlib.Core.Path.{_≡_, refl, sym, ap, subst, subst⁻¹, _∙_}
 use mathlib.Core.Bool.{Bool, true, false, _||_, true≢false}
 use mathlib.Core.List.{List, [], _∷_, _++_, flatMap, append-nil, append-assoc}
-use Prim.Native.Nat.{ℕ, _+_, _^_, _≤_, _<_, min}
+use Prim.Native.Nat.{ℕ, _+_, _≤_, _<_, min}
 use native.Mathlib.Omega.{arith}
-use native.Mathlib.Nat.{add-zero}
 use lib.ListN.{length, take, drop, length-append}
 use lib.Seq.{take-append-seam}
 use Prim.Native.Char.{code}
 use lib.Dec.{eqb, lit≤}
 use Rattle.hl7.specs.Bytes.{within}
-use Rattle.hl7.specs.Place.{standardDelims}
 use Rattle.hl7.specs.declared.place.Delims.{Delims}
 use Rattle.grade.specs.Header.{headerFinding, onlyIf, headerFindings, anyWrong}
 use Rattle.grade.specs.declared.header.Header.{Header}

@@ -1,10 +1,10 @@
 -- What the promise of `answer` says of the bytes that were written: read by the definitions for any message, they are MSH, MSA and one ERR for each finding
 -- that the section has, in order, and MSA-1 is AA exactly when no finding is E or W. Assumes nothing.
-use mathlib.Core.Path.{_≡_, refl, sym, ap, subst, subst⁻¹, _∙_}
+use mathlib.Core.Path.{_≡_, refl, sym, ap, ap₂, subst, subst⁻¹, _∙_}
 use mathlib.Core.Bool.{Bool, true, false, cond, not, _||_, true≢false}
 use mathlib.Core.Logic.{_↔_}
 use mathlib.Core.List.{List, [], _∷_, _++_, map}
-use Prim.Native.Nat.{ℕ, zero, suc, _+_}
+use Prim.Native.Nat.{ℕ, zero, suc, _+_, _*_, _^_, min}
 use Prim.Native.Char.{code}
 use native.Mathlib.Omega.{arith}
 use native.Mathlib.Numerals.{one-add}
@@ -14,9 +14,11 @@ use lib.Seq.{split-at, take-at, drop-at, take-all}
 use borrow.Author.Tests.{eq-eqb, ne-eqb, eqb-true, leb-true, not-false}
 use Rattle.hl7.specs.Text.{bytes}
 use Rattle.hl7.specs.Bytes.{all}
+use Rattle.hl7.specs.Cut.{Piece}
 use Rattle.hl7.specs.Place.{carriageReturn, delimsOf, nthOf, cutUnless, segmentsOf, place}
 use Rattle.hl7.specs.Refusals.{Told, Row, firstRow, holdsAt, First, messageRows, formRows}
 use Rattle.hl7.proofs.Comparing.{and-both, all-append}
+use Rattle.hl7.proofs.Cutting.{spans-one}
 use Rattle.grade.specs.Digits.{isDigit, isSign, digitRun}
 use Rattle.grade.specs.Values.{isStamp}
 use Rattle.grade.specs.Rule.{errorCode}
@@ -36,6 +38,7 @@ use Rattle.grade.proofs.Admitting.{admit-numbered}
 use Rattle.grade.proofs.Demand3.{findings-meet}
 use Rattle.ack.specs.Layout.{has, isHeader, isFault, ackLines}
 use Rattle.ack.specs.Answers.{paper, answerRows, ackFor, Answers}
+use Rattle.ack.specs.Exports.{packedSpan, Exported, PackedPlace}
 use Rattle.ack.specs.declared.refusal.Answer.{Answer}
 use Rattle.ack.specs.declared.refusal.Answer.the-variants.{Written}
 use Rattle.ack.proofs.Answering.{number-is, answered-once, refused-exactly, written-exactly}
@@ -261,3 +264,12 @@ demand-3 m b stamp control out w accepted =
       segments = written-segments m b stamp control out w;
       demand = subst⁻¹ (Demand3 mayFollow (sectionFor m b .rules) (sectionFor m b .sets) m) graded (findings-meet mayFollow (sectionFor m b .rules) (sectionFor m b .sets) m);
     }
+
+-- ---- the calls for other languages: one answer each
+pub exported-once : (m b stamp : List ℕ) (control : ℕ) (out : List ℕ) {after after′ : List ℕ} {c c′ : ℕ} → Exported m b stamp control out c after → Exported m b stamp control out c′ after′ → (c ≡ c′) × (after ≡ after′)
+exported-once m b stamp control out p q =
+    let same = answers-once m b stamp control out (p .answers) (q .answers) in
+    (p .packs ∙ ap₂ (λ (number detail : ℕ). min detail (2 ^ 55) * 256 + number) (same .0) (same .1) ∙ sym (q .packs), same .2)
+
+pub place-once : {m : List ℕ} {p : Piece} {c c′ : ℕ} → PackedPlace m p c → PackedPlace m p c′ → c ≡ c′
+place-once p q = p .packs ∙ ap packedSpan (spans-one (p .stands) (q .stands)) ∙ sym (q .packs)

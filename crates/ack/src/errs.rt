@@ -1,6 +1,5 @@
 // The ERR segments of all findings, by what each rule gives at each segment. What does not fit is counted all the same, so that a first run also measures.
 use crate::layout::put_err;
-use crate::layout::wide32;
 use crate::measure::base_length;
 use crate::measure::err_length;
 use crate::output::counted;
@@ -25,6 +24,7 @@ use grade::within::next_value;
 use grade::within::order_finding;
 use grade::within::value_finding;
 use hl7::bytes::wide;
+use hl7::bytes::wide32;
 use hl7::cut::find_far;
 use hl7::cut::none_is;
 use hl7::place::Delims;

@@ -9,6 +9,8 @@ use grade::finding::Finding;
 use hl7::bytes::after;
 use hl7::bytes::front;
 use hl7::bytes::wide;
+use hl7::bytes::wide16;
+use hl7::bytes::wide32;
 use hl7::place::Delims;
 use hl7::place::noted_part;
 ghost use mathlib.Core.Path.{_≡_};
@@ -41,18 +43,6 @@ fn own_byte(d: Delims, x: u8) -> u8
     let third = choose(x == b'~', d.tilde, fourth);
     let second = choose(x == b'^', d.caret, third);
     choose(x == b'|', d.bar, second)
-}
-
-pub fn wide16(x: u16) -> usize
-    ensures { λ r. ⌜ r ≡ x ⌝ }
-{
-    x as usize
-}
-
-pub fn wide32(x: u32) -> usize
-    ensures { λ r. ⌜ r ≡ x ⌝ }
-{
-    x as usize
 }
 
 // A text, written with the message's own delimiters.

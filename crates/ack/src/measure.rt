@@ -1,12 +1,12 @@
 // How long an ACK's segments are, by their numbers alone: the worst message has millions of findings.
 use crate::layout::put_heading;
-use crate::layout::wide16;
-use crate::layout::wide32;
 use crate::output::decimal_length;
 use grade::finding::Finding;
 use grade::rule::Rule;
 use grade::rule::error_code;
 use hl7::bytes::wide;
+use hl7::bytes::wide16;
+use hl7::bytes::wide32;
 use hl7::place::Delims;
 ghost use mathlib.Core.Path.{_≡_};
 ghost use Prim.Native.Nat.{ℕ, _≤_, min};

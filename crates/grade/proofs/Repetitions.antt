@@ -7,25 +7,14 @@ use native.Mathlib.Numerals.{add-one}
 use native.Mathlib.Omega.{arith}
 use borrow.Author.Tests.{ne-eqb}
 use lib.ListN.{length, take, drop}
-use Rattle.hl7.specs.Bytes.{all, differs}
 use Rattle.hl7.specs.Cut.{endFrom}
 use Rattle.hl7.specs.Walk.{partsFrom}
 use Rattle.hl7.specs.declared.place.Delims.{Delims}
-use Rattle.hl7.proofs.Comparing.{all-take, all-drop}
-use Rattle.hl7.proofs.Cutting.{end-clear, end-past}
 use Rattle.hl7.proofs.Walking.{parts-step, parts-done}
 use Rattle.grade.specs.Broken.{isRequired, judges}
 use Rattle.grade.specs.Findings.{valueIn}
 use Rattle.grade.specs.Rest.{breaksBy, brokenValues, brokenFrom}
 use Rattle.grade.specs.declared.rule.Rule.{Rule}
-
--- where no byte is the delimiter, a part runs to the end
-pub end-none : (d : ℕ) (s : List ℕ) (from : ℕ) → all (differs d) s ≡ true → from ≤ length s → endFrom d s from ≡ length s
-end-none d s from clear h =
-    let n = length s - from in
-    let whole : from + n ≡ length s = omega arith in
-    end-clear d s n from (omega arith) (all-take (differs d) (from + n - from) (drop from s) (all-drop (differs d) from s clear))
-    ∙ end-past d s (from + n) (omega arith) ∙ whole
 
 module _ (d : Delims) (fld b : List ℕ) (rule : Rule) (codes : ℕ) where
   abbrev rest : ℕ → ℕ → List ℕ

@@ -16,8 +16,7 @@ use hl7::refusal::check;
 use hl7::refusal::is_sound_reading;
 ghost use mathlib.Core.Path.{_≡_};
 ghost use mathlib.Core.Bool.{true};
-ghost use Rattle.hl7.specs.Place.{delimsOf, isMsh, MshNoted};
-ghost use Rattle.grade.specs.Header.{mshOf};
+ghost use Rattle.hl7.specs.Place.{isMsh, MshNoted};
 ghost use Rattle.grade.specs.Admission.{hasControlId, bySection, admittedBy, admitted};
 
 pub enum Admitted {

@@ -8,7 +8,7 @@ ghost use Rattle.hl7.specs.Bytes.{among};
 ghost use Rattle.grade.specs.Limits.{codeLimit, linkLimit, segmentCount, setLimit};
 ghost use Rattle.grade.specs.Reader.{isFound, itemsOf, times};
 ghost use Rattle.grade.specs.Book.{text, codeSet};
-ghost use Rattle.grade.specs.Standing.{endOf, rulesIn, setsIn, noRule, Holds, SetStands, codesAt, SetsAt, Placed};
+ghost use Rattle.grade.specs.Standing.{endOf, rulesIn, noRule, Holds, SetStands, codesAt, SetsAt, Placed};
 ghost use Rattle.grade.specs.Linked.{Linked};
 ghost use Rattle.grade.specs.declared.walk.Next.{Next};
 use crate::limits::LINKS;
@@ -24,6 +24,7 @@ use crate::walk::text_after;
 use crate::walk::text_part;
 use hl7::bytes::same_bytes;
 use hl7::bytes::wide;
+use hl7::bytes::wide16;
 
 // The letters of the ten names.
 const NAMES: [u32; 10] = [
@@ -83,12 +84,6 @@ pub fn links_of(book: &[u8], section: Section) -> [u16; LINKS]
         links[name] = i as u16;
     }
     links
-}
-
-fn wide16(x: u16) -> usize
-    ensures { λ r. ⌜ r ≡ x ⌝ }
-{
-    x as usize
 }
 
 // The link with a number.

@@ -67,18 +67,6 @@ upto-at test (suc k) n h l =
     go false e t f = let d = eqb-false n k e in f (omega (arith, d))
 
 -- ---- every byte passes a test
-pub all-more : (test : ℕ → Bool) (v : List ℕ) (i : ℕ) → i < length v → test (getD v i 0) ≡ true → all test (drop i v) ≡ all test (drop (i + 1) v)
-unfolding all
-all-more test v i h t = ap (all test) (rest-at v i h) ∙ rw t
-
-pub all-stop : (test : ℕ → Bool) (v : List ℕ) (i : ℕ) → i < length v → test (getD v i 0) ≡ false → all test (drop i v) ≡ false
-unfolding all
-all-stop test v i h t = ap (all test) (rest-at v i h) ∙ rw t
-
-pub all-none : (test : ℕ → Bool) (v : List ℕ) (i : ℕ) → length v ≤ i → all test (drop i v) ≡ true
-unfolding all
-all-none test v i h = ap (all test) (drop-of-length-le v h)
-
 -- a test that all pass is passed by each, and by one more
 pub all-at : (test : ℕ → Bool) (v : List ℕ) (i : ℕ) → all test v ≡ true → i < length v → test (getD v i 0) ≡ true
 unfolding all

@@ -12,7 +12,7 @@ use lib.ListN.{length, getD, take, drop, length-take, length-drop, drop-of-lengt
 use lib.Seq.{drop-cons, drop-drop, take-all, take-take, take-nil}
 use lib.Dec.{eqb}
 use borrow.Author.Tests.{eq-eqb, ne-eqb, eqb-true, not-true}
-use Rattle.hl7.specs.Cut.{ahead, cut, partAt, endFrom, startAt, Piece, pieceAt, missing, butLast}
+use Rattle.hl7.specs.Cut.{ahead, cut, partAt, endFrom, startAt, Piece, pieceAt, missing}
 use Rattle.hl7.specs.Place.{inside}
 use Rattle.hl7.specs.Spans.{between, pieceFrom, Spans}
 use Rattle.hl7.specs.declared.cut.Span.{Span}

@@ -1,11 +1,10 @@
 -- Laws of `specs/Place.antt`, each in the words of the code that cites it: the tests that it made. Assumes nothing.
-use mathlib.Core.Path.{_≡_, refl, sym, ap, _∙_}
+use mathlib.Core.Path.{_≡_, sym, ap, _∙_}
 use mathlib.Core.Bool.{Bool, true, false}
 use mathlib.Core.List.{List, [], _∷_}
 use Prim.Native.Nat.{ℕ, suc, _+_, _-_, _≤_, _<_}
 use native.Mathlib.Omega.{arith}
 use lib.ListN.{length, take, drop, drop-of-length-le}
-use lib.Dec.{leb}
 use denote.Ref.{RefT}
 use denote.Slice.{sliceVal, slice-vals}
 use borrow.Author.Tests.{le-leb, lt-leb}

@@ -12,7 +12,6 @@ use lib.Dec.{eqb, ltb}
 use lib.ListN.{length, getD, drop, length-drop, drop-of-length-le}
 use borrow.Author.Tests.{eq-eqb, ne-eqb, lt-ltb, le-ltb, eqb-true, ltb-false, not-false}
 use Rattle.hl7.specs.declared.place.Delims.{Delims}
-use Rattle.hl7.specs.declared.refusal.Found.{Found}
 use Rattle.hl7.specs.declared.refusal.Found.the-variants.{At, Nothing}
 use Rattle.hl7.specs.declared.refusal.Reading.{Reading}
 use Rattle.hl7.specs.declared.refusal.Reading.the-variants.{Sound, Empty, TooLong, WrongByte, NoHeader, WrongSegment}

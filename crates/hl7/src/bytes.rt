@@ -5,11 +5,23 @@ ghost use Prim.Native.Nat.{_≤_, max};
 ghost use lib.ListN.{getD, take, drop};
 ghost use Rattle.hl7.specs.Bytes.{within, same, begins};
 
-// A byte as a number to count with.
+// A byte, or a wider number, as a number to count with.
 pub fn wide(b: u8) -> usize
     ensures { λ r. ⌜ (r ≡ b) × (r ≤ 255) ⌝ }
 {
     b as usize
+}
+
+pub fn wide16(x: u16) -> usize
+    ensures { λ r. ⌜ r ≡ x ⌝ }
+{
+    x as usize
+}
+
+pub fn wide32(x: u32) -> usize
+    ensures { λ r. ⌜ r ≡ x ⌝ }
+{
+    x as usize
 }
 
 // One number or the other, without a branch.

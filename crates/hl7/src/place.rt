@@ -9,7 +9,7 @@ ghost use Prim.Native.Nat.{_+_, _≤_, _<_};
 ghost use lib.ListN.{length};
 ghost use Rattle.hl7.specs.Cut.{cut, pieceAt};
 ghost use Rattle.hl7.specs.Spans.{Spans, Noted};
-ghost use Rattle.hl7.specs.Place.{delimsOf, nthOf, cutUnless, isMsh, neverCut, segmentOf, fieldOf, repetitionsIn, componentOf, inField, inSegment, place};
+ghost use Rattle.hl7.specs.Place.{delimsOf, nthOf, cutUnless, isMsh, neverCut, segmentOf, fieldOf, componentOf, inField, inSegment, place};
 
 // Room for the starts of MSH's parts up to field 12, and for their end.
 pub const MSH_PLACES: usize = 13;

@@ -39,13 +39,7 @@ struct Times {
 }
 
 fn main() -> ExitCode {
-    match run() {
-        Ok(()) => ExitCode::SUCCESS,
-        Err(problem) => {
-            eprintln!("bench: {problem}");
-            ExitCode::FAILURE
-        }
-    }
+    second::ending("bench", run())
 }
 
 fn run() -> Result<(), String> {

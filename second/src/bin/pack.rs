@@ -7,13 +7,7 @@ use std::process::ExitCode;
 use std::{env, fs};
 
 fn main() -> ExitCode {
-    match run() {
-        Ok(()) => ExitCode::SUCCESS,
-        Err(problem) => {
-            eprintln!("pack: {problem}");
-            ExitCode::FAILURE
-        }
-    }
+    second::ending("pack", run())
 }
 
 fn run() -> Result<(), String> {

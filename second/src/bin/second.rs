@@ -6,13 +6,7 @@ use std::io::{self, BufRead, ErrorKind, Read, Write};
 use std::process::ExitCode;
 
 fn main() -> ExitCode {
-    match run() {
-        Ok(()) => ExitCode::SUCCESS,
-        Err(problem) => {
-            eprintln!("second: {problem}");
-            ExitCode::FAILURE
-        }
-    }
+    second::ending("second", run())
 }
 
 fn run() -> Result<(), String> {

@@ -1,6 +1,6 @@
 -- `ack::answer::answer_graded` meets its contract: the first run tells the length and the letter, and what was kept of it, or a second run, the bytes.
 -- Assumes nothing.
-use mathlib.Core.Path.{_≡_, _∙_}
+use mathlib.Core.Path.{_∙_}
 use native.Mathlib.Omega.{arith}
 use borrow.Author.Needs.{needs}
 use Rattle.ack.proofs.Answering.{need-fits, too-short, fits}

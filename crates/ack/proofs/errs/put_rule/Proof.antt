@@ -2,10 +2,11 @@
 use Prim.Native.Nat.{_-_}
 use native.Mathlib.Omega.{arith}
 use borrow.Author.Needs.{needs}
-use lib.ListN.{length, drop, length-take, length-drop}
+use lib.ListN.{drop, length-take, length-drop}
+use Rattle.hl7.proofs.Comparing.{all-take, all-drop}
 use Rattle.grade.proofs.Judging.{codes-stand}
 use Rattle.grade.specs.Standing.{setsIn}
-use Rattle.ack.proofs.Judging.{all-between, kind-in-range, field-some, part-few, gives}
+use Rattle.ack.proofs.Judging.{kind-in-range, field-some, part-few, gives}
 use Rattle.ack.proofs.Listing.{puts-as}
 use Rattle.ack.proofs.errs.put_rule.Statement.{statement}
 use Rattle.ack.proofs.errs.put_rule.Tie as tie
@@ -46,7 +47,7 @@ put-values-requires c κs =
       p .0,
       omega (arith, p .1 .short, length-take (end - start) (drop start (a .seg .now)), length-drop start (a .seg .now)),
       codes-stand (a .book .now) (setsIn (a .book .now) (a .section)) (at-codes .codes-of .result) (at-rule .rule-at .result .kind) (at-codes .codes-of .ensures),
-      λ e. all-between _ (a .seg .now) start end (p .5 e),
+      λ e. all-take _ (end - start) (drop start (a .seg .now)) (all-drop _ start (a .seg .now) (p .5 e)),
       p .1 .counts,
       omega (arith, p .6, p .1 .holds .fewRules),
       field-some (a .d) (a .seg .now) (a .book .now) (a .section) (a .sets .now) (a .here) (p .1) (a .i) (p .6) (p .7) (at-rule .rule-at .result) (at-rule .rule-at .ensures),

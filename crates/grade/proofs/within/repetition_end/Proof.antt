@@ -2,7 +2,7 @@
 use mathlib.Core.Path.{sym}
 use denote.Ref.{now}
 use borrow.Author.Needs.{needs}
-use Rattle.grade.proofs.Repetitions.{end-none}
+use Rattle.hl7.proofs.Cutting.{end-none}
 use Rattle.grade.proofs.within.repetition_end.Statement.{statement}
 use Rattle.grade.proofs.within.repetition_end.Tie as tie
 

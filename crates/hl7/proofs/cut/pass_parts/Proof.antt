@@ -1,6 +1,6 @@
 -- `hl7::cut::pass_parts` meets its contract. The invariant of its loop: the piece asked for is piece `left` of what begins at `at`.
 -- Assumes nothing.
-use mathlib.Core.Path.{_≡_, sym, _∙_}
+use mathlib.Core.Path.{_≡_, _∙_}
 use Prim.Native.Nat.{_-_, _≤_}
 use native.Mathlib.Omega.{arith}
 use borrow.Author.Needs.{needs}
