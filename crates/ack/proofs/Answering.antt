@@ -4,7 +4,7 @@ use mathlib.Core.Path.{_≡_, refl, sym, ap, _∙_}
 use mathlib.Core.Bool.{Bool, true, false, cond}
 use mathlib.Core.Logic.{_↔_}
 use mathlib.Core.List.{List, [], _∷_, _++_}
-use Prim.Native.Nat.{ℕ, suc, _+_, _^_, _≤_, _<_, min}
+use Prim.Native.Nat.{ℕ, suc, _+_, _^_, _≤_, _<_}
 use native.Mathlib.Omega.{arith}
 use lib.Dec.{eqb, ltb}
 use lib.ListN.{length, drop, length-append}
@@ -15,7 +15,7 @@ use Rattle.hl7.specs.Refusals.{messageLimit, Told, told, Row, row, firstRow, ho
 use Rattle.hl7.proofs.Refusing.{Numbered, rows-append, row-exactly, none-exactly}
 use Rattle.ack.specs.declared.refusal.Answer.{Answer}
 use Rattle.ack.specs.declared.refusal.Answer.the-variants.{Written, Refused}
-use Rattle.ack.specs.Splice.{limit, Wrote}
+use Rattle.ack.specs.Splice.{Wrote}
 use Rattle.ack.specs.Layout.{verdict, ackBytes}
 use Rattle.ack.specs.Pieces.{findingLimit, heading, errs}
 use Rattle.ack.proofs.Writing.{_then_, wrote-as, wrote-at-start}
@@ -108,7 +108,7 @@ answered-last {admission} {wrongStamp} {ack} {out} {after} {a} numbered admitted
 
 -- ---- length first, then bytes: what was measured in two parts, and written in two
 module _ (d : Delims) (head stamp : List ℕ) (control : ℕ) (findings : List Finding) (out : List ℕ) (h : length head ≤ messageLimit) (s : length stamp ≤ 19) (few : length findings ≤ findingLimit) where
-  module _ {a b : ℕ} (first : (second : ℕ) → a ≡ min (length (heading d head stamp control second)) limit) (others : b ≡ length (errs d findings)) where
+  module _ {a b : ℕ} (first : (second : ℕ) → a ≡ length (heading d head stamp control second)) (others : b ≡ length (errs d findings)) where
     need-is : a + b ≡ length (ackBytes d head stamp control findings)
     need-is =
         let whole = ap length (ack-is d head stamp control findings) ∙ length-append (heading d head stamp control (verdict findings)) (errs d findings) in

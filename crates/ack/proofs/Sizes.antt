@@ -87,14 +87,14 @@ value-whole d name number rule i k few some =
     omega (arith, err-whole d f, place-size f (λ e. omega arith) refl refl refl value (d .caret), name-size name)
 
 -- ---- MSH and MSA
--- the second letter of MSA-1 does not matter
-pub heading-same : (d : Delims) (head stamp : List ℕ) (control a b : ℕ) → length (heading d head stamp control a) ≡ length (heading d head stamp control b)
-unfolding heading msaLine joined marked
-heading-same d head stamp control a b =
-    length-append (ended (mshLine d head stamp control)) (ended (msaLine d head a)) ∙ sym (length-append (ended (mshLine d head stamp control)) (ended (msaLine d head b)))
+-- the fixed bytes, and what stands between them; the second letter of MSA-1 does not matter
+pub heading-whole : (d : Delims) (head stamp : List ℕ) (control second : ℕ) → length (heading d head stamp control second)
+    ≡ 69 + length stamp + length (decimal control) + length (copied d head 3) + length (copied d head 4) + length (copied d head 5) + length (copied d head 6) + length (copied d head 10) + length (copied d head 11)
+unfolding heading mshLine msaLine
+heading-whole d head stamp control second = simp (length-append, joined-size, marked-size) (omega (arith, marked-empty (d .bar)))
 
 -- a field is no longer than its segment
-copied-short : (d : Delims) (head : List ℕ) (k : ℕ) → length (copied d head k) ≤ length head
+pub copied-short : (d : Delims) (head : List ℕ) (k : ℕ) → length (copied d head k) ≤ length head
 unfolding copied partOfField
 copied-short d head k = of (isMsh head) k
   where
@@ -113,20 +113,18 @@ copied-short d head k = of (isMsh head) k
     of false (suc k) = piece (suc k)
 
 heading-short : (d : Delims) (head stamp : List ℕ) (control second : ℕ) → length (heading d head stamp control second) ≤ 110 + length stamp + 6 * length head
-unfolding heading mshLine msaLine
 heading-short d head stamp control second =
-    simp (length-append, joined-size, marked-size)
-    (omega (
+    omega (
       arith,
-      marked-empty (d .bar),
+      heading-whole d head stamp control second,
       decimal-short control,
-      copied-short d head 5,
-      copied-short d head 6,
       copied-short d head 3,
       copied-short d head 4,
-      copied-short d head 11,
+      copied-short d head 5,
+      copied-short d head 6,
       copied-short d head 10,
-    ))
+      copied-short d head 11,
+    )
 
 -- ---- bounds
 cond-short : (n : ℕ) (b : Bool) (s t : List ℕ) → length s ≤ n → length t ≤ n → length (cond b s t) ≤ n

@@ -1,5 +1,4 @@
 // How long an ACK's segments are, by their numbers alone: the worst message has millions of findings.
-use crate::layout::put_heading;
 use crate::output::decimal_length;
 use grade::finding::Finding;
 use grade::rule::Rule;
@@ -8,17 +7,27 @@ use hl7::bytes::wide;
 use hl7::bytes::wide16;
 use hl7::bytes::wide32;
 use hl7::place::Delims;
+use hl7::place::noted_part;
 ghost use mathlib.Core.Path.{_≡_};
-ghost use Prim.Native.Nat.{ℕ, _≤_, min};
+ghost use Prim.Native.Nat.{ℕ, _≤_, _<_};
 ghost use lib.ListN.{length};
 ghost use Rattle.hl7.specs.Place.{MshNoted};
+ghost use Rattle.hl7.specs.Refusals.{messageLimit};
 ghost use Rattle.hl7.specs.declared.place.Delims.{Delims};
 ghost use Rattle.grade.specs.Rule.{nameBytes};
-ghost use Rattle.ack.specs.Splice.{limit};
-ghost use Rattle.ack.specs.Layout.{marked, joined, componentParts, valueParts, placeParts, codeText, errLine, ended};
+ghost use Rattle.ack.specs.Layout.{copied, marked, joined, componentParts, valueParts, placeParts, codeText, errLine, ended};
 ghost use Rattle.ack.specs.Pieces.{heading, baseLength};
 
-// How long the first two segments are, whatever MSA-1 is: where they would end in an output that holds nothing.
+// How long a field of the message's own MSH is.
+fn copy_length(d: Delims, head: &[u8], starts: &[usize], count: usize, k: usize) -> usize
+    requires { ⌜ MshNoted d (now head) (now starts) count × (length (now head) ≤ messageLimit) × (2 < k) × (k ≤ 12) ⌝ }
+    ensures { λ r. ⌜ (r ≡ length (copied d (now (head .entry)) k)) × (r ≤ messageLimit) ⌝ }
+{
+    let span = noted_part(d, head, starts, count, k - 1);
+    span.end - span.start
+}
+
+// How long the first two segments are, whatever MSA-1 is: their fixed bytes, and what stands between them.
 pub fn heading_length(
     d: Delims,
     head: &[u8],
@@ -27,21 +36,18 @@ pub fn heading_length(
     stamp: &[u8],
     control: u32,
 ) -> usize
-    requires { ⌜ MshNoted d (now head) (now starts) count ⌝ }
-    ensures { λ r. ⌜ ((second : ℕ) → r ≡ min (length (heading d (now (head .entry)) (now (stamp .entry)) control second)) limit) ⌝ }
+    requires { ⌜ MshNoted d (now head) (now starts) count × (length (now head) ≤ messageLimit) × (length (now stamp) ≤ 19) ⌝ }
+    ensures { λ r. ⌜ ((second : ℕ) → r ≡ length (heading d (now (head .entry)) (now (stamp .entry)) control second)) ⌝ }
 {
-    let mut nothing = [0u8; 0];
-    put_heading(
-        &mut nothing,
-        0,
-        d,
-        head,
-        starts,
-        count,
-        stamp,
-        control,
-        b'A',
-    )
+    69
+        + stamp.len()
+        + decimal_length(wide32(control))
+        + copy_length(d, head, starts, count, 3)
+        + copy_length(d, head, starts, count, 4)
+        + copy_length(d, head, starts, count, 5)
+        + copy_length(d, head, starts, count, 6)
+        + copy_length(d, head, starts, count, 10)
+        + copy_length(d, head, starts, count, 11)
 }
 
 // How long ERR-2's component is, with its caret.

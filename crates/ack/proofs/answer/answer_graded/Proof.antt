@@ -12,7 +12,15 @@ heading-length-requires : tie.Need-heading-length-requires
 heading-length-requires c κs =
     let at-note = c .before .before in
     let at-errs = at-note .before .before .before .before in
-    record { named = at-errs .before .before .before .before .before .before .before .before .before .before .before .before .pre .6; noted = at-note .note-fields .ensures; room = omega (arith, at-note .note-fields .kept .1 .1 .0, at-errs .put-errs .kept .1 .1 .1 .1 .1 .1 .1 .1 .0) }
+    let begin = at-errs .before .before .before .before .before .before .before .before .before .before .before .before in (
+      record {
+        named = begin .pre .6;
+        noted = at-note .note-fields .ensures;
+        room = omega (arith, at-note .note-fields .kept .1 .1 .0, at-errs .put-errs .kept .1 .1 .1 .1 .1 .1 .1 .1 .0);
+      },
+      begin .pre .2,
+      begin .pre .3,
+    )
 
 add-need : tie.Need-add-need
 add-need c =
