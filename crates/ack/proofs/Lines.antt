@@ -1,18 +1,22 @@
 -- The laws of the layout. Assumes nothing.
-use mathlib.Core.Path.{_≡_, refl, sym, ap, _∙_}
+use mathlib.Core.Path.{_≡_, refl, sym, ap, ap₂, _∙_}
+use mathlib.Core.Bool.{Bool, true, false, cond, _&&_}
 use mathlib.Core.List.{List, [], _∷_, _++_, map, flatMap, append-nil, append-assoc}
 use Prim.Native.Nat.{ℕ, zero, suc, _+_, _-_, _*_, _≤_}
 use native.Mathlib.Omega.{arith}
-use borrow.Author.Tests.{eq-eqb, ne-eqb}
+use borrow.Author.Tests.{eq-eqb, ne-eqb, eqb-true}
+use Prim.Native.Char.{code}
+use lib.Dec.{eqb}
 use lib.ListN.{getD, take, drop, List·getD-map, drop-of-length-le}
 use Rattle.hl7.specs.Text.{bytes}
 use Rattle.hl7.specs.Place.{carriageReturn}
 use Rattle.hl7.specs.declared.place.Delims.{Delims}
+use Rattle.hl7.proofs.Comparing.{and-both}
 use Rattle.grade.specs.Rule.{segmentNames, nameBytes}
 use Rattle.grade.specs.declared.finding.Finding.{Finding}
 use Rattle.ack.specs.Decimal.{decimal}
 use Rattle.ack.specs.Layout.{ownByte, own, marked, joined, copied, mshLine, verdict, msaLine, componentParts, valueParts, placeParts, codeText, errLine, ended, ackBytes}
-use Rattle.ack.specs.Pieces.{heading, errs}
+use Rattle.ack.specs.Pieces.{heading, errs, isStandard}
 
 -- ---- texts
 pub own-at : (d : Delims) (text : List ℕ) (i : ℕ) → getD (own d text) i 0 ≡ ownByte d (getD text i 0)
@@ -108,3 +112,33 @@ pub ack-is : (d : Delims) (head stamp : List ℕ) (control : ℕ) (findings : Li
 unfolding ackBytes heading flatMap
 ack-is d head stamp control findings =
     rw (each-ended d findings) (sym (append-assoc (ended (mshLine d head stamp control)) (ended (msaLine d head (verdict findings))) (errs d findings)))
+
+-- ---- with the standard delimiters a text stands as it is
+kept-byte : (x c own other : ℕ) → own ≡ c → other ≡ x → cond (eqb x c) own other ≡ x
+kept-byte x c own other e f = by (eqb x c) refl
+  where
+    by : (b : Bool) → eqb x c ≡ b → cond b own other ≡ x
+    by true h = e ∙ sym (eqb-true x c h)
+    by false h = f
+
+pub own-standard : (d : Delims) → isStandard d ≡ true → (text : List ℕ) → text ≡ own d text
+unfolding ownByte
+own-standard d h [] = refl
+own-standard d h (x ∷ text) = ap₂ (λ (y : ℕ) (l : List ℕ). y ∷ l) (sym byte) (own-standard d h text)
+  where
+    byte : ownByte d x ≡ x
+    byte =
+        let bar = eqb (d .bar) (code "|") in
+        let caret = eqb (d .caret) (code "^") in
+        let tilde = eqb (d .tilde) (code "~") in
+        let backslash = eqb (d .backslash) (code "\\") in
+        let ampersand = eqb (d .ampersand) (code "&") in
+        let four = and-both (bar && caret && tilde && backslash) ampersand h in
+        let three = and-both (bar && caret && tilde) backslash (four .0) in
+        let two = and-both (bar && caret) tilde (three .0) in
+        let one = and-both bar caret (two .0) in
+        kept-byte x (code "|") (d .bar) _ (eqb-true (d .bar) (code "|") (one .0))
+        (kept-byte x (code "^") (d .caret) _ (eqb-true (d .caret) (code "^") (one .1))
+        (kept-byte x (code "~") (d .tilde) _ (eqb-true (d .tilde) (code "~") (two .1))
+        (kept-byte x (code "\\") (d .backslash) _ (eqb-true (d .backslash) (code "\\") (three .1))
+        (kept-byte x (code "&") (d .ampersand) x (eqb-true (d .ampersand) (code "&") (four .1)) refl))))

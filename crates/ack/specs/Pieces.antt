@@ -1,7 +1,9 @@
 -- The pieces in which an ACK is written: the names that only inner contracts use. Assumes nothing.
 use Prim.Native.Nat.{ℕ, _+_, _^_, _≤_, _<_}
 use mathlib.Core.Path.{_≡_}
-use mathlib.Core.Bool.{Bool, true, false}
+use Prim.Native.Char.{code}
+use mathlib.Core.Bool.{Bool, true, false, _&&_}
+use lib.Dec.{eqb}
 use lib.ListN.{length}
 use mathlib.Core.List.{List, _++_, flatMap}
 use Rattle.hl7.specs.Place.{isMsh}
@@ -21,6 +23,11 @@ use Rattle.ack.specs.Decimal.{decimal}
 use Rattle.ack.specs.Splice.{Wrote}
 use Rattle.ack.specs.Layout.{mshLine, marked, componentParts, codeText, has, isHeader, isFault, msaLine, errLine, ended}
 use Rattle.ack.specs.declared.errs.Put.{Put}
+
+-- the delimiters are the standard five
+abbrev pub isStandard : Delims → Bool
+isStandard d =
+    eqb (d .bar) (code "|") && eqb (d .caret) (code "^") && eqb (d .tilde) (code "~") && eqb (d .backslash) (code "\\") && eqb (d .ampersand) (code "&")
 
 -- the first two segments
 unfoldable pub heading : Delims → (head stamp : List ℕ) → ℕ → ℕ → List ℕ

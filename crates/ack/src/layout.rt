@@ -22,7 +22,7 @@ ghost use Rattle.hl7.specs.declared.place.Delims.{Delims};
 ghost use Rattle.grade.specs.Rule.{nameBytes};
 ghost use Rattle.ack.specs.Splice.{Wrote};
 ghost use Rattle.ack.specs.Layout.{ownByte, own, marked, joined, copied, mshLine, letter, msaLine, componentParts, valueParts, placeParts, codeText, errLine, ended};
-ghost use Rattle.ack.specs.Pieces.{heading};
+ghost use Rattle.ack.specs.Pieces.{heading, isStandard};
 
 // One byte or the other, without a branch.
 fn choose(test: bool, yes: u8, otherwise: u8) -> u8
@@ -45,8 +45,19 @@ fn own_byte(d: Delims, x: u8) -> u8
     choose(x == b'|', d.bar, second)
 }
 
-// A text, written with the message's own delimiters.
-fn put_own(out: &mut [u8], at: usize, d: Delims, text: &[u8]) -> usize
+// Whether the delimiters are the standard five.
+fn is_standard(d: Delims) -> bool
+    ensures { λ r. ⌜ r ≡ isStandard d ⌝ }
+{
+    (d.bar == b'|')
+        & (d.caret == b'^')
+        & (d.tilde == b'~')
+        & (d.backslash == b'\\')
+        & (d.ampersand == b'&')
+}
+
+// A text, byte by byte with the message's own delimiters.
+fn put_translated(out: &mut [u8], at: usize, d: Delims, text: &[u8]) -> usize
     ensures { λ r. ⌜ Wrote (now (out .entry)) at (own d (now (text .entry))) (now (out .exit)) r ⌝ }
 {
     let next = counted(at, text.len());
@@ -57,6 +68,16 @@ fn put_own(out: &mut [u8], at: usize, d: Delims, text: &[u8]) -> usize
         i += 1;
     }
     next
+}
+
+// A text, written with the message's own delimiters: as it stands, where they are the standard five.
+fn put_own(out: &mut [u8], at: usize, d: Delims, text: &[u8]) -> usize
+    ensures { λ r. ⌜ Wrote (now (out .entry)) at (own d (now (text .entry))) (now (out .exit)) r ⌝ }
+{
+    if is_standard(d) {
+        return put(out, at, text);
+    }
+    put_translated(out, at, d, text)
 }
 
 // A segment's name by its number.
