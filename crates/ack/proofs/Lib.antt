@@ -3,7 +3,6 @@ pub mod Decimals
 pub mod Lines
 pub mod Sizes
 pub mod Listing
-pub mod Judging
 pub mod Answering
 pub mod Admitting
 pub mod Reading

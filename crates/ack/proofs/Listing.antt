@@ -1,8 +1,8 @@
 -- The ERRs of lists of findings, one after the other, and the loops that write them. Assumes nothing.
 use mathlib.Core.Path.{_≡_, refl, sym, ap, subst, subst⁻¹, _∙_}
 use mathlib.Core.Bool.{Bool, true, false, _||_, true≢false}
-use mathlib.Core.List.{List, [], _∷_, _++_, flatMap, append-nil, append-assoc}
-use Prim.Native.Nat.{ℕ, _+_, _≤_, _<_, min}
+use mathlib.Core.List.{List, [], _∷_, _++_, map, flatMap, append-nil, append-assoc}
+use Prim.Native.Nat.{ℕ, zero, suc, _+_, _≤_, _<_, min}
 use native.Mathlib.Omega.{arith}
 use lib.ListN.{length, take, drop, length-append}
 use lib.Seq.{take-append-seam}
@@ -12,20 +12,15 @@ use Rattle.hl7.specs.Bytes.{within}
 use Rattle.hl7.specs.declared.place.Delims.{Delims}
 use Rattle.grade.specs.Header.{headerFinding, onlyIf, headerFindings, anyWrong}
 use Rattle.grade.specs.declared.header.Header.{Header}
-use Rattle.grade.specs.Broken.{severityLetter}
-use Rattle.grade.specs.Rest.{brokenFrom, NextValue, valueFinding}
+use Rattle.grade.specs.Strict.{keep}
 use Rattle.grade.specs.Rule.{errorCode}
+use Rattle.grade.specs.Findings.{Event, findings, findingOf, findingAt, ruleOf, breaks, places}
 use Rattle.grade.specs.declared.rule.Kind.{Kind}
-use Rattle.grade.specs.declared.rule.Kind.the-variants.{Required, Length, Number, Date, Time, Code}
 use Rattle.grade.specs.declared.rule.Rule.{Rule}
-use Rattle.grade.specs.declared.rule.Severity.{Severity}
-use Rattle.grade.specs.declared.rule.Severity.the-variants.{Error, Warning, Informational}
 use Rattle.grade.specs.declared.finding.Finding.{Finding}
-use Rattle.grade.specs.declared.within.Value.{Value}
-use Rattle.grade.specs.declared.within.Value.the-variants.{Broken, Fine}
 use Rattle.ack.specs.Splice.{Wrote, limit}
 use Rattle.ack.specs.Layout.{has, isHeader, isFault, letter, verdict, errLine, ended}
-use Rattle.ack.specs.Pieces.{findingLimit, errs, isSevere, Puts}
+use Rattle.ack.specs.Pieces.{findingLimit, errs, Puts}
 use Rattle.ack.specs.declared.errs.Put.{Put}
 use Rattle.ack.proofs.Sizes.{errs-short}
 use Rattle.ack.proofs.Writing.{_then_, wrote-none, wrote-as, wrote-length, wrote-at-start}
@@ -57,21 +52,19 @@ pub puts-none : (d : Delims) {o : List ℕ} {at : ℕ} → length o < limit → 
 unfolding errs flatMap has
 puts-none d {o} {at} room near =
     let kept : min at limit ≡ at = omega arith in
-    record { wrote = rw kept at (wrote-none o at room); faulty = refl; graded = refl }
+    record { wrote = rw kept at (wrote-none o at room); faulty = refl }
 
-pub puts-one : {d : Delims} {f : Finding} {o p : List ℕ} {at next : ℕ} {fault : Bool} → Wrote o at (ended (errLine d f)) p next → fault ≡ isFault f → isHeader f ≡ false → Puts d (f ∷ []) o at p (record { at = next; fault = fault })
+pub puts-one : {d : Delims} {f : Finding} {o p : List ℕ} {at next : ℕ} {fault : Bool} → Wrote o at (ended (errLine d f)) p next → fault ≡ isFault f → Puts d (f ∷ []) o at p (record { at = next; fault = fault })
 unfolding errs flatMap has
-puts-one {d} {f} w e g = record {
+puts-one {d} {f} w e = record {
   wrote = wrote-as w (sym (append-nil (ended (errLine d f))));
   faulty = e ∙ sym (or-none (isFault f));
-  graded = rw g;
 }
 
 pub puts-then : {d : Delims} {l k : List Finding} {o p q : List ℕ} {at : ℕ} {r s : Put} → Puts d l o at p r → Puts d k p (r .at) q s → Puts d (l ++ k) o at q (record { at = s .at; fault = r .fault || s .fault })
 puts-then {d} {l} {k} f g = record {
   wrote = wrote-as (f .wrote then g .wrote) (errs-append d l k);
   faulty = rw (has-append, f .faulty, g .faulty);
-  graded = rw (has-append, f .graded, g .graded);
 }
 
 pub puts-as : {d : Delims} {l k : List Finding} {o p : List ℕ} {at : ℕ} {r : Put} → l ≡ k → Puts d k o at p r → Puts d l o at p r
@@ -87,39 +80,32 @@ module _ {d : Delims} {findings : List Finding} {o p : List ℕ} {r : Put} (w : 
       rw (whole-is, wrote-at-start (w .wrote) (omega (arith, whole-is, wrote-length (w .wrote))))
       (take-append-seam (errs d findings) (drop (length (errs d findings)) o))
 
-  pub verdict-is : letter false (r .fault) ≡ verdict findings
-  verdict-is = rw (w .graded, w .faulty)
+  pub verdict-is : has isHeader findings ≡ false → letter false (r .fault) ≡ verdict findings
+  verdict-is graded = rw (graded, w .faulty)
 
--- ---- a finding of the grader is not about the header
-pub value-graded : (name number : ℕ) (rule : Rule) (i k : ℕ) → isHeader (valueFinding name number rule i k) ≡ false
-value-graded name number rule i k = by (rule .kind)
-  where
-    by : (kind : Kind) → within 200 203 (errorCode kind) ≡ false
-    by Required = refl
-    by (Length low high) = refl
-    by Number = refl
-    by Date = refl
-    by (Time digits) = refl
-    by (Code set) = refl
+-- ---- what the grader finds is not about the header
+-- no rule has a header code
+rule-code : (k : Kind) → isHeader (record { name = 0; number = 0; field = 0; repetition = 0; component = 0; rule = 0; code = errorCode k; severity = 0 }) ≡ false
+rule-code Kind.Required = refl
+rule-code (Kind.Length low high) = refl
+rule-code Kind.Number = refl
+rule-code Kind.Date = refl
+rule-code (Kind.Time digits) = refl
+rule-code (Kind.Code set) = refl
 
-pub value-fault : (name number : ℕ) (rule : Rule) (i k : ℕ) → isSevere (rule .severity) ≡ isFault (valueFinding name number rule i k)
-value-fault name number rule i k = by (rule .severity)
-  where
-    by : (severity : Severity) → isSevere severity ≡ (eqb (severityLetter severity) (code "E") || eqb (severityLetter severity) (code "W"))
-    by Error = refl
-    by Warning = refl
-    by Informational = refl
+pub has-none : (test : Finding → Bool) (f : Event → Finding) (l : List Event) → ((e : Event) → test (f e) ≡ false) → has test (map f l) ≡ false
+unfolding has
+has-none test f [] none = refl
+has-none test f (e ∷ l) none = rw (none e) (has-none test f l none)
 
--- what the next broken repetition tells of those that are still to come
-module _ (d : Delims) (fld b : List ℕ) (rule : Rule) (codes from passed : ℕ) where
-  abbrev left : List ℕ
-  left = brokenFrom d fld b rule codes from passed
-
-  pub value-found : {r : Value} {k next : ℕ} → r ≡ Broken k next → NextValue d fld b rule codes left r → (left ≡ k ∷ brokenFrom d fld b rule codes next k) × (k ≤ next)
-  value-found e told = subst (NextValue d fld b rule codes left) e told
-
-  pub values-over : {r : Value} → r ≡ Fine → NextValue d fld b rule codes left r → left ≡ []
-  values-over e told = subst (NextValue d fld b rule codes left) e told
+module _ (o : ℕ → ℕ → Bool) (rules : List Rule) (sets : List (List (List ℕ))) (m : List ℕ) where
+  pub graded-plain : has isHeader (findings o rules sets m) ≡ false
+  unfolding findings
+  graded-plain = has-none isHeader (findingOf o rules sets m) (keep (breaks o rules sets m) (places o rules sets m)) (λ e. of (e .0) (e .1 .0) (e .1 .1))
+    where
+      of : (n j r : ℕ) → isHeader (findingAt o rules sets m n j r) ≡ false
+      of n zero r = refl
+      of n (suc i) r = rule-code (ruleOf o rules sets m i .kind)
 
 -- ---- a loop over lists of findings: whatever puts what is still to come completes the whole
 abbrev pub Completes : Delims → (whole left : List Finding) → (o : List ℕ) → ℕ → (now : List ℕ) → ℕ → Bool → Type 0

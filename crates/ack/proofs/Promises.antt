@@ -21,7 +21,6 @@ use Rattle.hl7.proofs.Comparing.{and-both, all-append}
 use Rattle.hl7.proofs.Cutting.{spans-one}
 use Rattle.grade.specs.Digits.{isDigit, isSign, digitRun}
 use Rattle.grade.specs.Values.{isStamp}
-use Rattle.grade.specs.Rule.{errorCode}
 use Rattle.grade.specs.Broken.{severityLetter}
 use Rattle.grade.specs.Strict.{keep}
 use Rattle.grade.specs.Order.{mayFollow}
@@ -30,7 +29,6 @@ use Rattle.grade.specs.Header.{mshOf, headerOf, anyWrong, headerFinding, onlyIf
 use Rattle.grade.specs.Admission.{bookRows, admitRows}
 use Rattle.grade.specs.Grading.{sectionFor, listedBy, listedFor}
 use Rattle.grade.specs.declared.rule.Severity.{Severity}
-use Rattle.grade.specs.declared.rule.Kind.{Kind}
 use Rattle.grade.specs.declared.rule.Rule.{Rule}
 use Rattle.grade.specs.declared.header.Header.{Header}
 use Rattle.grade.specs.declared.finding.Finding.{Finding}
@@ -41,6 +39,7 @@ use Rattle.ack.specs.Answers.{paper, answerRows, ackFor, Answers}
 use Rattle.ack.specs.Exports.{packedSpan, Exported, PackedPlace}
 use Rattle.ack.specs.declared.refusal.Answer.{Answer}
 use Rattle.ack.specs.declared.refusal.Answer.the-variants.{Written}
+use Rattle.ack.proofs.Listing.{has-none, graded-plain}
 use Rattle.ack.proofs.Answering.{number-is, answered-once, refused-exactly, written-exactly}
 use Rattle.ack.proofs.Reading.{isNot, clean, Fine, Apart, part-without, ack-segments, ar-exactly, ae-exactly, aa-exactly}
 
@@ -51,29 +50,7 @@ severity-letter Severity.Error = refl
 severity-letter Severity.Warning = refl
 severity-letter Severity.Informational = refl
 
--- no rule has a header code
-rule-code : (k : Kind) → isHeader (record { name = 0; number = 0; field = 0; repetition = 0; component = 0; rule = 0; code = errorCode k; severity = 0 }) ≡ false
-rule-code Kind.Required = refl
-rule-code (Kind.Length low high) = refl
-rule-code Kind.Number = refl
-rule-code Kind.Date = refl
-rule-code (Kind.Time digits) = refl
-rule-code (Kind.Code set) = refl
-
-has-none : (test : Finding → Bool) (f : Event → Finding) (l : List Event) → ((e : Event) → test (f e) ≡ false) → has test (map f l) ≡ false
-unfolding has
-has-none test f [] none = refl
-has-none test f (e ∷ l) none = rw (none e) (has-none test f l none)
-
 module _ (o : ℕ → ℕ → Bool) (rules : List Rule) (sets : List (List (List ℕ))) (m : List ℕ) where
-  graded-plain : has isHeader (findings o rules sets m) ≡ false
-  unfolding findings
-  graded-plain = has-none isHeader (findingOf o rules sets m) (keep (breaks o rules sets m) (places o rules sets m)) (λ e. of (e .0) (e .1 .0) (e .1 .1))
-    where
-      of : (n j r : ℕ) → isHeader (findingAt o rules sets m n j r) ≡ false
-      of n zero r = refl
-      of n (suc i) r = rule-code (ruleOf o rules sets m i .kind)
-
   graded-letters : has (λ f. eqb (f .severity) carriageReturn) (findings o rules sets m) ≡ false
   unfolding findings
   graded-letters = has-none (λ f. eqb (f .severity) carriageReturn) (findingOf o rules sets m) (keep (breaks o rules sets m) (places o rules sets m)) (λ e. of (e .0) (e .1 .0) (e .1 .1))

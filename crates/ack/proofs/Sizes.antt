@@ -11,14 +11,12 @@ use Rattle.hl7.specs.Cut.{cut, pieceAt}
 use Rattle.hl7.specs.Place.{isMsh, partOfField}
 use Rattle.hl7.specs.declared.place.Delims.{Delims}
 use Rattle.hl7.proofs.Cutting.{piece-stands}
-use Rattle.grade.specs.Rule.{nameBytes, errorCode}
-use Rattle.grade.specs.Rest.{valueFinding}
+use Rattle.grade.specs.Rule.{nameBytes}
 use Rattle.grade.specs.declared.finding.Finding.{Finding}
-use Rattle.grade.specs.declared.rule.Rule.{Rule}
 use Rattle.ack.specs.Splice.{limit}
 use Rattle.ack.specs.Decimal.{decimal}
 use Rattle.ack.specs.Layout.{ownByte, marked, joined, copied, mshLine, verdict, msaLine, componentParts, valueParts, placeParts, codeText, errLine, ended, ackBytes}
-use Rattle.ack.specs.Pieces.{heading, errs, baseLength}
+use Rattle.ack.specs.Pieces.{heading, errs}
 use Rattle.ack.proofs.Decimals.{decimal-short}
 use Rattle.ack.proofs.Lines.{names-at, component-some, ack-is}
 
@@ -70,21 +68,6 @@ err-whole d f =
 pub err-size : (f : Finding) {a b v k : ℕ} → ((mark : ℕ) → a ≡ length (joined mark (placeParts f))) → b ≡ length (codeText (f .code)) → v ≡ f .rule → k ≡ length (decimal v)
     → (d : Delims) → 13 + a + b + k ≡ length (ended (errLine d f))
 err-size f place text e rule d = omega (arith, err-whole d f, place (d .caret), decimal-as e)
-
--- a rule's ERR: what differs from one repetition to the next is the repetition's digits
-component-any : (mark other component : ℕ) → length (marked mark (componentParts component)) ≡ length (marked other (componentParts component))
-unfolding componentParts marked
-component-any mark other component = by (eqb component 0)
-  where
-    by : (none : Bool) → length (marked mark (cond none [] (decimal component ∷ []))) ≡ length (marked other (cond none [] (decimal component ∷ [])))
-    by true = refl
-    by false = refl
-
-pub value-whole : (d : Delims) (name number : ℕ) (rule : Rule) (i k : ℕ) → name < 10 → 1 ≤ rule .place .field → baseLength number rule i + length (decimal k) ≡ length (ended (errLine d (valueFinding name number rule i k)))
-value-whole d name number rule i k few some =
-    let f = valueFinding name number rule i k in
-    let value = value-size f (λ e. omega arith) refl refl refl refl (λ mark. component-any 0 mark (rule .place .component)) in
-    omega (arith, err-whole d f, place-size f (λ e. omega arith) refl refl refl value (d .caret), name-size name)
 
 -- ---- MSH and MSA
 -- the fixed bytes, and what stands between them; the second letter of MSA-1 does not matter
@@ -141,22 +124,6 @@ code-short n =
     (cond-short 40 (eqb n 200) _ _ (lit≤ tt)
     (cond-short 40 (eqb n 201) _ _ (lit≤ tt)
     (cond-short 40 (eqb n 202) _ _ (lit≤ tt) (cond-short 40 (eqb n 203) _ _ (lit≤ tt) (lit≤ tt))))))))
-
-pub base-short : (number : ℕ) (rule : Rule) (i : ℕ) → baseLength number rule i ≤ 160
-unfolding componentParts
-base-short number rule i =
-    omega (
-      arith,
-      decimal-short number,
-      decimal-short (rule .place .field),
-      decimal-short i,
-      code-short (errorCode (rule .kind)),
-      by (eqb (rule .place .component) 0),
-    )
-  where
-    by : (none : Bool) → length (marked 0 (cond none [] (decimal (rule .place .component) ∷ []))) ≤ 21
-    by true = omega (arith, marked-empty 0)
-    by false = omega (arith, marked-size 0 (decimal (rule .place .component)) [], marked-empty 0, decimal-short (rule .place .component))
 
 marked-short : (n mark : ℕ) (b : Bool) (ps : List (List ℕ)) → length (marked mark ps) ≤ n → length (marked mark (cond b [] ps)) ≤ n
 marked-short n mark true ps h = omega (arith, marked-empty mark)

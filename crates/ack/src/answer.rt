@@ -37,6 +37,7 @@ ghost use Rattle.grade.specs.Header.{headerFindings, anyWrong};
 ghost use Rattle.grade.specs.Admission.{admitted};
 ghost use Rattle.grade.specs.declared.admit.Admitted.the-variants as Admitted;
 ghost use Rattle.grade.specs.Standing.{Holds, Placed, rulesIn, setsIn};
+ghost use Rattle.grade.specs.Limits.{fieldPlaces};
 ghost use Rattle.grade.specs.Linked.{Linked};
 ghost use Rattle.grade.specs.Order.{mayFollow};
 ghost use Rattle.grade.specs.Findings.{findings};
@@ -88,7 +89,7 @@ fn put_graded(
     links: &[u16; LINKS],
     starts: &mut [usize],
 ) -> usize
-    requires { ⌜ (at ≤ limit) × (length (now m) ≤ messageLimit) × Holds (now book) section × Placed (now book) section (now sets) × Linked (rulesIn (now book) section) (now links) × (101 ≤ length (now starts)) × (d ≡ delimsOf (now m)) × (whole ≤ length (now kept) → take whole (now kept) ≡ errs d (findings mayFollow (rulesIn (now book) section) (setsIn (now book) section) (now m))) ⌝ }
+    requires { ⌜ (at ≤ limit) × (length (now m) ≤ messageLimit) × Holds (now book) section × Placed (now book) section (now sets) × Linked (rulesIn (now book) section) (now links) × (fieldPlaces ≤ length (now starts)) × (d ≡ delimsOf (now m)) × (whole ≤ length (now kept) → take whole (now kept) ≡ errs d (findings mayFollow (rulesIn (now book) section) (setsIn (now book) section) (now m))) ⌝ }
     ensures { λ r. ⌜ Wrote (now (out .entry)) at (errs d (findings mayFollow (rulesIn (now (book .entry)) section) (setsIn (now (book .entry)) section) (now (m .entry)))) (now (out .exit)) r ⌝ }
 {
     if whole <= kept.len() {

@@ -1,8 +1,6 @@
 // How long an ACK's segments are, by their numbers alone: the worst message has millions of findings.
 use crate::output::decimal_length;
 use grade::finding::Finding;
-use grade::rule::Rule;
-use grade::rule::error_code;
 use hl7::bytes::wide;
 use hl7::bytes::wide16;
 use hl7::bytes::wide32;
@@ -16,7 +14,7 @@ ghost use Rattle.hl7.specs.Refusals.{messageLimit};
 ghost use Rattle.hl7.specs.declared.place.Delims.{Delims};
 ghost use Rattle.grade.specs.Rule.{nameBytes};
 ghost use Rattle.ack.specs.Layout.{copied, marked, joined, componentParts, valueParts, placeParts, codeText, errLine, ended};
-ghost use Rattle.ack.specs.Pieces.{heading, baseLength};
+ghost use Rattle.ack.specs.Pieces.{heading};
 
 // How long a field of the message's own MSH is.
 fn copy_length(d: Delims, head: &[u8], starts: &[usize], count: usize, k: usize) -> usize
@@ -112,21 +110,4 @@ pub fn err_length(finding: Finding) -> usize
     ensures { λ r. ⌜ ((d : Delims) → r ≡ length (ended (errLine d finding))) × (r ≤ 160) ⌝ }
 {
     13 + place_length(finding) + code_length(finding.code) + decimal_length(wide16(finding.rule))
-}
-
-// How long the ERR of a rule's finding is but for the digits of its repetition: what was counted before, or 0.
-pub fn base_length(counted: usize, segment: u32, rule: Rule, number: usize) -> usize
-    requires { ⌜ (1 ≤ counted → counted ≡ baseLength segment rule number) ⌝ }
-    ensures { λ r. ⌜ r ≡ baseLength segment rule number ⌝ }
-{
-    if 0 < counted {
-        return counted;
-    }
-    let kind = rule.kind;
-    19
-        + decimal_length(wide32(segment))
-        + decimal_length(wide(rule.place.field))
-        + component_length(rule.place.component)
-        + code_length(error_code(kind))
-        + decimal_length(number)
 }

@@ -98,8 +98,8 @@ pub fn put_number(out: &mut [u8], at: usize, mark: u8, n: usize) -> usize
     put_decimal(out, next, n)
 }
 
-// How many digits n has.
-pub fn decimal_length(n: usize) -> usize
+// How many digits n has, by all that a number may have.
+fn long_length(n: usize) -> usize
     ensures { λ r. ⌜ (r ≡ length (decimal n)) × (r ≤ 20) ⌝ }
 {
     match n {
@@ -124,4 +124,23 @@ pub fn decimal_length(n: usize) -> usize
         1000000000000000000..=9999999999999999999 => 19,
         _ => 20,
     }
+}
+
+// How many digits n has: nearly every number is short.
+pub fn decimal_length(n: usize) -> usize
+    ensures { λ r. ⌜ (r ≡ length (decimal n)) × (r ≤ 20) ⌝ }
+{
+    if n < 10 {
+        return 1;
+    }
+    if n < 100 {
+        return 2;
+    }
+    if n < 1000 {
+        return 3;
+    }
+    if n < 10000 {
+        return 4;
+    }
+    long_length(n)
 }

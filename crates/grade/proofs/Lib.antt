@@ -14,6 +14,7 @@ pub mod ByPlace
 pub mod Repetitions
 pub mod Judging
 pub mod Linking
+pub mod Spots
 pub mod Segments
 pub mod Stepping
 pub mod Few

@@ -1,73 +1,53 @@
--- What a caller of the stepper knows of its steps: the laws that upper crates cite. Assumes nothing.
+-- What a caller of the grader knows of its steps: the laws that upper crates cite. Assumes nothing.
 use Prim.Native.Nat.{ℕ, _*_, _≤_, _<_}
-use mathlib.Core.Path.{_≡_, refl, sym, ap, subst, _∙_}
+use mathlib.Core.Path.{_≡_, refl, sym, ap, subst, subst⁻¹, _∙_}
+use mathlib.Core.Bool.{Bool}
 use mathlib.Core.List.{List, [], _∷_, head-eq-of-cons-eq, tail-eq-of-cons-eq, nil≢cons}
 use native.Mathlib.Omega.{arith}
-use lib.ListN.{length}
+use lib.ListN.{length, replicate}
 use Rattle.hl7.specs.Refusals.{messageLimit}
+use Rattle.hl7.specs.declared.place.Delims.{Delims}
+use Rattle.grade.specs.Rule.{otherNumber}
 use Rattle.grade.specs.Standing.{Holds, rulesIn, setsIn}
-use Rattle.grade.specs.Order.{mayFollow}
-use Rattle.grade.specs.Findings.{findings, Demand3}
-use Rattle.grade.specs.Rest.{Steps, rest, listed}
+use Rattle.grade.specs.Order.{mayFollow, outOfOrder}
+use Rattle.grade.specs.Findings.{findings}
+use Rattle.grade.specs.Rest.{walkFrom, rest, Stands, Steps, betweenAt}
 use Rattle.grade.specs.declared.walk.Section.{Section}
 use Rattle.grade.specs.declared.finding.Finding.{Finding}
 use Rattle.grade.specs.declared.step.Cursor.{Cursor}
 use Rattle.grade.specs.declared.step.Step.{Step}
-use Rattle.grade.specs.declared.step.Answer.{Answer}
-use Rattle.grade.specs.declared.step.Answer.the-variants.{Finds, End}
+use Rattle.grade.specs.declared.step.Step.the-variants.{Found, End}
 use Rattle.grade.proofs.Holding.{rules-length}
-use Rattle.grade.proofs.Demand3.{findings-meet}
 use Rattle.grade.proofs.Few.{findings-few}
+use Rattle.grade.proofs.Segments.{between-list, between-stands, start-counts}
 
-module _ (m b : List ℕ) (s : Section) where
+module _ (follows : ℕ → ℕ → Bool) (d : Delims) (m b : List ℕ) (s : Section) where
+  abbrev pub left : List ℕ → Cursor → List Finding
+  left counts c = rest (outOfOrder follows) d m b s counts c
+
+  -- ---- before the first step
+  module _ (holds : Holds b s) {c : Cursor} (begins : c ≡ betweenAt (s .«rule_count») 0 otherNumber) where
+    pub start-left : left (replicate 10 0) c ≡ walkFrom (outOfOrder follows) d m b s 0 otherNumber (replicate 10 0)
+    start-left = ap (left (replicate 10 0)) begins ∙ between-list follows d m b s holds 0 otherNumber (replicate 10 0)
+
+    pub start-stands : (starts : List ℕ) → Stands d m b s starts (replicate 10 0) c
+    start-stands starts = subst⁻¹ (Stands d m b s starts (replicate 10 0)) begins (between-stands follows d m b s holds 0 otherNumber starts (replicate 10 0) (start-counts m))
+
   -- ---- one step, at which l is still to come
-  module _ {l : List Finding} {r : Step} where
-    pub step-found : {f : Finding} → Steps m b s l r → r .answer ≡ Finds f → l ≡ f ∷ rest m b s (r .next)
-    unfolding listed
-    step-found h e = h .list ∙ ap (λ (a : Answer). listed a (rest m b s (r .next))) e
+  module _ (starts counts : List ℕ) (l : List Finding) (r : Step) (h : Steps (outOfOrder follows) d m b s starts counts l r) where
+    abbrev steps : Step → Type 0
+    steps = Steps (outOfOrder follows) d m b s starts counts l
 
-    pub step-end : Steps m b s l r → r .answer ≡ End → l ≡ []
-    unfolding listed
-    step-end h e = h .list ∙ ap (λ (a : Answer). listed a (rest m b s (r .next))) e
+    pub step-found : {f : Finding} {c : Cursor} → r ≡ Found f c → (l ≡ f ∷ left counts c) × Stands d m b s starts counts c
+    step-found e = subst steps e h
+
+    pub step-end : r ≡ End → l ≡ []
+    step-end e = subst steps e h
 
     -- a loop over the steps ends
-    pub step-less : {f : Finding} → Steps m b s l r → r .answer ≡ Finds f → length (rest m b s (r .next)) < length l
-    step-less h e = omega (arith, ap length (step-found h e))
+    pub step-less : {f : Finding} {c : Cursor} → r ≡ Found f c → length (left counts c) < length l
+    step-less e = omega (arith, ap length (step-found e .0))
 
-  -- two steps that the contract allows give the same answer, and after a finding the same is still to come
-  same-answer : (p q : Answer) (l k : List Finding) → listed p l ≡ listed q k → p ≡ q
-  unfolding listed
-  same-answer (Finds f) (Finds g) l k e = ap Finds (head-eq-of-cons-eq e)
-  same-answer (Finds f) End l k e = absurd (nil≢cons (sym e))
-  same-answer End (Finds g) l k e = absurd (nil≢cons e)
-  same-answer End End l k e = refl
-
-  module _ {l : List Finding} {r q : Step} (h : Steps m b s l r) (k : Steps m b s l q) where
-    pub step-once : r .answer ≡ q .answer
-    step-once = same-answer (r .answer) (q .answer) (rest m b s (r .next)) (rest m b s (q .next)) (sym (h .list) ∙ k .list)
-
-    pub step-once-rest : {f : Finding} → r .answer ≡ Finds f → rest m b s (r .next) ≡ rest m b s (q .next)
-    step-once-rest e = tail-eq-of-cons-eq (sym (step-found h e) ∙ step-found k (sym step-once ∙ e))
-
-  -- ---- the answers of steps from a cursor to the end
-  pub data Run : Cursor → List Finding → Type 0 where
-    over : {c : Cursor} (r : Step) → Steps m b s (rest m b s c) r → r .answer ≡ End → Run c []
-    more : {c : Cursor} {L : List Finding} (r : Step) (f : Finding) → Steps m b s (rest m b s c) r → r .answer ≡ Finds f → Run (r .next) L → Run c (f ∷ L)
-
-  pub run-is : {c : Cursor} {L : List Finding} → Run c L → L ≡ rest m b s c
-  run-is (over r h e) = sym (step-end h e)
-  run-is (more r f h e run) = ap (λ (l : List Finding). f ∷ l) (run-is run) ∙ sym (step-found h e)
-
-  abbrev all : List Finding
-  all = findings mayFollow (rulesIn b s) (setsIn b s) m
-
-  -- a run from a cursor that `start` made gives the findings, and so meets demand 3
-  pub run-gives : {c : Cursor} {L : List Finding} → rest m b s c ≡ all → Run c L → L ≡ all
-  run-gives e run = run-is run ∙ e
-
-  pub run-meets : {c : Cursor} {L : List Finding} → rest m b s c ≡ all → Run c L → Demand3 mayFollow (rulesIn b s) (setsIn b s) m L
-  run-meets e run = subst (Demand3 mayFollow (rulesIn b s) (setsIn b s) m) (sym (run-gives e run)) (findings-meet mayFollow (rulesIn b s) (setsIn b s) m)
-
-  -- so many at most
-  pub all-few : length m ≤ messageLimit → Holds b s → length all ≤ 32769 * (257 * 32769)
-  all-few h holds = findings-few mayFollow (rulesIn b s) (setsIn b s) m h (omega (arith, rules-length b s holds, holds .fewRules))
+-- ---- so many findings at most
+pub all-few : (m b : List ℕ) (s : Section) → length m ≤ messageLimit → Holds b s → length (findings mayFollow (rulesIn b s) (setsIn b s) m) ≤ 32769 * (257 * 32769)
+all-few m b s h holds = findings-few mayFollow (rulesIn b s) (setsIn b s) m h (omega (arith, rules-length b s holds, holds .fewRules))

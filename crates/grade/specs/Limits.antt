@@ -50,3 +50,7 @@ codeLimit = 20
 -- a link for each name that counts, and for each rule
 abbrev pub linkLimit : ℕ
 linkLimit = 266
+
+-- the starts of a segment's parts up to the last field that a rule may name, and their end
+abbrev pub fieldPlaces : ℕ
+fieldPlaces = 101

@@ -1,20 +1,23 @@
 -- What is still to come at a place of the walk: the names that the stepper's contracts are stated with. Each level is the list of what remains,
 -- read from the position that the cursor holds. Nothing here has to be believed: `start` ties it to `findings`. Assumes nothing.
-use Prim.Native.Nat.{ℕ, suc, _-_, _≤_, _<_}
+use Prim.Native.Nat.{ℕ, suc, _+_, _-_, _≤_, _<_}
 use mathlib.Core.Path.{_≡_}
 use mathlib.Core.Bool.{Bool, true, false, cond, _&&_}
 use mathlib.Core.List.{List, [], _∷_, _++_, map}
+use lib.Dec.{eqb}
 use lib.ListN.{length, getD, drop, set}
 use Rattle.hl7.specs.Cut.{cut, butLast}
 use Rattle.hl7.specs.Walk.{partsFrom}
-use Rattle.hl7.specs.Spans.{between}
-use Rattle.hl7.specs.Place.{delimsOf, carriageReturn, isMsh}
+use Rattle.hl7.specs.Spans.{between, Noted}
+use Rattle.hl7.specs.Bytes.{all, differs}
+use Rattle.hl7.specs.Place.{carriageReturn, isMsh, fieldOf}
 use Rattle.hl7.specs.Refusals.{messageLimit}
 use Rattle.hl7.specs.declared.place.Delims.{Delims}
-use Rattle.grade.specs.Limits.{ruleLimit, segmentCount}
+use Rattle.grade.specs.Limits.{segmentCount}
 use Rattle.grade.specs.Rule.{errorCode, otherNumber}
-use Rattle.grade.specs.Standing.{noRule, rulesIn, setsIn, Holds, SetStands, codesAt}
-use Rattle.grade.specs.Order.{msh, counted, nameOf, atEnd, mayFollow, outOfOrder}
+use Rattle.grade.specs.Standing.{noRule, rulesIn, setsIn, Holds, Placed, SetStands, codesAt}
+use Rattle.grade.specs.Linked.{Linked}
+use Rattle.grade.specs.Order.{msh, counted, nameOf, atEnd}
 use Rattle.grade.specs.Broken.{judges, broken, breaksRule, severityLetter}
 use Rattle.grade.specs.Findings.{isAbout, valueIn, valuesOf}
 use Rattle.grade.specs.declared.rule.Kind.{Kind}
@@ -24,16 +27,19 @@ use Rattle.grade.specs.declared.rule.Severity.the-variants.{Error}
 use Rattle.grade.specs.declared.walk.Section.{Section}
 use Rattle.grade.specs.declared.finding.Finding.{Finding}
 use Rattle.grade.specs.declared.within.Here.{Here}
-use Rattle.grade.specs.declared.within.Pending.{Pending}
+use Rattle.grade.specs.declared.within.Field.{Field}
+use Rattle.grade.specs.declared.within.Spot.{Spot}
 use Rattle.grade.specs.declared.within.Value.{Value}
 use Rattle.grade.specs.declared.within.Value.the-variants.{Broken, Fine}
+use Rattle.grade.specs.declared.within.Judged.{Judged}
+use Rattle.grade.specs.declared.within.Judged.the-variants as Judged
 use Rattle.grade.specs.declared.within.Within.{Within}
 use Rattle.grade.specs.declared.within.Within.the-variants.{Found, Nothing}
-use Rattle.grade.specs.declared.step.Turn.{Turn}
 use Rattle.grade.specs.declared.step.Cursor.{Cursor}
-use Rattle.grade.specs.declared.step.Answer.{Answer}
-use Rattle.grade.specs.declared.step.Answer.the-variants.{Finds, End}
+use Rattle.grade.specs.declared.step.Opened.{Opened}
+use Rattle.grade.specs.declared.step.Opened.the-variants as Opened
 use Rattle.grade.specs.declared.step.Step.{Step}
+use Rattle.grade.specs.declared.step.Step.the-variants as Step
 
 -- ---- the codes of a kind's set
 -- where a kind has a set, its codes can be read at a position of the book
@@ -98,43 +104,64 @@ ofRules d sets name number segment i [] = []
 ofRules d sets name number segment i (rule ∷ rules) =
     ofRule d sets name number segment (suc i) rule ++ ofRules d sets name number segment (suc i) rules
 
+-- what a rule still gives from a spot on, where so many repetitions were passed
+abbrev pub leftOf : Delims → List (List (List ℕ)) → ℕ → ℕ → List ℕ → Spot → Rule → List Finding
+leftOf d sets name number segment spot rule =
+    map (valueFinding name number rule (spot .rule + 1))
+    (brokenValues (breaksRule sets rule) (spot .passed)
+    (map (valueIn d false rule) (partsFrom (d .tilde) (fieldOf d segment (rule .place .field) .bytes) (spot .at))))
+
+-- and the rules after it
+unfoldable pub leftFrom : Delims → List (List (List ℕ)) → ℕ → ℕ → List ℕ → Spot → List Rule → List Finding
+leftFrom d sets name number segment spot [] = []
+leftFrom d sets name number segment spot (rule ∷ rules) =
+    leftOf d sets name number segment spot rule ++ ofRules d sets name number segment (spot .rule + 1) rules
+
 -- ---- one segment
 abbrev pub bytesOf : List ℕ → Here → List ℕ
 bytesOf m here = between m (here .start) (here .end)
 
--- a segment that can be read, of a counted name; where its bytes begin with MSH, that is its name
+-- a segment that can be read, of a counted name; that is MSH exactly where its bytes begin with MSH
 pub record HereStands (m : List ℕ) (here : Here) : Type 0 where
   pub forward : here .start ≤ here .end
   pub inside : here .end ≤ length m
   pub counts : here .name < segmentCount
-  pub named : isMsh (bytesOf m here) ≡ true → here .name ≡ msh
+  pub named : isMsh (bytesOf m here) ≡ eqb (here .name) msh
 
--- the field can be read, no more repetitions were passed than bytes, and the codes can be read
-pub record PendingStands (m b : List ℕ) (p : Pending) : Type 0 where
-  pub forward : p .start ≤ p .end
-  pub inside : p .end ≤ length m
-  pub passed : p .passed ≤ p .at
-  pub few : p .number ≤ ruleLimit
-  pub codes : CodesStand b (p .rule .kind) (p .codes)
+-- so many of a segment's parts are noted, and where `single` says so it has no tilde
+pub record Parted (d : Delims) (segment starts : List ℕ) (count : ℕ) (single : Bool) : Type 0 where
+  pub noted : Noted (d .bar) segment starts count
+  pub untilded : single ≡ true → all (differs (d .tilde)) segment ≡ true
 
--- what judging a segment is given
-pub record Ready (m b : List ℕ) (s : Section) (here : Here) : Type 0 where
+-- where the field of rule i stands in the message, and its codes in the book
+pub record Fielded (d : Delims) (m b : List ℕ) (s : Section) (here : Here) (i : ℕ) (f : Field) : Type 0 where
+  pub forward : f .start ≤ f .end
+  pub inside : f .end ≤ length m
+  pub bytes : fieldOf d (bytesOf m here) (getD (rulesIn b s) i noRule .place .field) .bytes ≡ between m (f .start) (f .end)
+  pub untilded : here .single ≡ true → all (differs (d .tilde)) (between m (f .start) (f .end)) ≡ true
+  pub codes : CodesAre b (setsIn b s) (getD (rulesIn b s) i noRule .kind) (f .codes)
+
+-- no more repetitions were passed than bytes; the spot's rule is one about the segment, which then is parted, or past the last one
+pub record SpotStands (d : Delims) (m b : List ℕ) (s : Section) (starts : List ℕ) (here : Here) (spot : Spot) : Type 0 where
+  pub passed : spot .passed ≤ spot .at
+  pub about : spot .rule < s .«rule_count» → getD (rulesIn b s) (spot .rule) noRule .place .segment ≡ here .name
+  pub parted : spot .rule < s .«rule_count» → Parted d (bytesOf m here) starts (here .count) (here .single)
+  pub known : 1 ≤ spot .passed → Fielded d m b s here (spot .rule) (spot .field)
+
+-- what grading is given: a short message, a section of a book, the places of its sets, the links of its rules
+pub record Given (m b : List ℕ) (s : Section) (sets links : List ℕ) : Type 0 where
   pub short : length m ≤ messageLimit
   pub holds : Holds b s
-  pub stands : HereStands m here
-
--- what the repetitions of the present rule still give
-abbrev pub pendingRest : Delims → List ℕ → List ℕ → Here → Pending → List Finding
-pendingRest d m b here p =
-    map (valueFinding (here .name) (here .number) (p .rule) (p .number))
-    (brokenFrom d (between m (p .start) (p .end)) b (p .rule) (p .codes) (p .at) (p .passed))
+  pub placed : Placed b s sets
+  pub linked : Linked (rulesIn b s) links
 
 -- what the rules give of which i came before
 abbrev pub rulesFrom : Delims → List ℕ → List ℕ → Section → Here → ℕ → List Finding
 rulesFrom d m b s here i = ofRules d (setsIn b s) (here .name) (here .number) (bytesOf m here) i (drop i (rulesIn b s))
 
-abbrev pub segmentRest : Delims → List ℕ → List ℕ → Section → Here → Pending → List Finding
-segmentRest d m b s here p = pendingRest d m b here p ++ rulesFrom d m b s here (p .number)
+-- what a segment still gives from a spot on
+abbrev pub segmentRest : Delims → List ℕ → List ℕ → Section → Here → Spot → List Finding
+segmentRest d m b s here spot = leftFrom d (setsIn b s) (here .name) (here .number) (bytesOf m here) spot (drop (spot .rule) (rulesIn b s))
 
 abbrev pub orderFinding : ℕ → ℕ → Finding
 orderFinding name number =
@@ -147,18 +174,18 @@ ofOrder out last name number = cond (out last name) (orderFinding name number �
 abbrev pub ofSegment : (ℕ → ℕ → Bool) → Delims → List ℕ → List ℕ → Section → Here → ℕ → List Finding
 ofSegment out d m b s here last = ofOrder out last (here .name) (here .number) ++ rulesFrom d m b s here 0
 
--- nothing is left of the rules up to a number
-abbrev pub noPending : ℕ → Pending
-noPending number = record { rule = noRule; number = number; codes = 0; start = 0; end = 0; at = 1; passed = 0 }
+-- r is the first finding that the rule at a spot still gives, and where the others are found, if there are any
+abbrev pub NextOfRule : Delims → List ℕ → List ℕ → Section → Here → Spot → Judged → Type 0
+NextOfRule d m b s here spot (Judged.Found f then) =
+    (leftOf d (setsIn b s) (here .name) (here .number) (bytesOf m here) spot (getD (rulesIn b s) (spot .rule) noRule)
+    ≡ f ∷ leftOf d (setsIn b s) (here .name) (here .number) (bytesOf m here) then (getD (rulesIn b s) (spot .rule) noRule))
+    × (then .rule ≡ spot .rule) × (then .passed ≤ then .at) × Fielded d m b s here (spot .rule) (then .field)
+NextOfRule d m b s here spot (Judged.Last f) = leftOf d (setsIn b s) (here .name) (here .number) (bytesOf m here) spot (getD (rulesIn b s) (spot .rule) noRule) ≡ f ∷ []
+NextOfRule d m b s here spot Judged.Nothing = leftOf d (setsIn b s) (here .name) (here .number) (bytesOf m here) spot (getD (rulesIn b s) (spot .rule) noRule) ≡ []
 
--- r is the first of the findings l, and where the others are found
-abbrev pub NextOfRule : Delims → List ℕ → List ℕ → Here → ℕ → List Finding → Within → Type 0
-NextOfRule d m b here number l (Found f p) = (l ≡ f ∷ pendingRest d m b here p) × (p .number ≡ number) × PendingStands m b p
-NextOfRule d m b here number l Nothing = l ≡ []
-
-abbrev pub NextWithin : Delims → List ℕ → List ℕ → Section → Here → List Finding → Within → Type 0
-NextWithin d m b s here l (Found f p) = (l ≡ f ∷ segmentRest d m b s here p) × PendingStands m b p
-NextWithin d m b s here l Nothing = l ≡ []
+abbrev pub NextWithin : Delims → List ℕ → List ℕ → Section → List ℕ → Here → List Finding → Within → Type 0
+NextWithin d m b s starts here l (Found f then) = (l ≡ f ∷ segmentRest d m b s here then) × SpotStands d m b s starts here then
+NextWithin d m b s starts here l Nothing = l ≡ []
 
 -- ---- the segments
 -- counts and last stand for the segments before: how many there were of each name, and the last counted name
@@ -180,52 +207,65 @@ pub record CountsStand (m : List ℕ) (at : ℕ) (counts : List ℕ) : Type 0 wh
   pub inside : at ≤ length m
   pub counted : (k : ℕ) → getD counts k 0 ≤ at
 
--- one segment was passed: the first of the findings l was found in it, or none; `after` is where the next segment begins
-abbrev pub NextTurn : (ℕ → ℕ → Bool) → Delims → List ℕ → List ℕ → Section → ℕ → List Finding → Here → ℕ → List ℕ → Within → Type 0
-NextTurn out d m b s after l here last counts (Found f p) =
-    (l ≡ f ∷ (segmentRest d m b s here p ++ walkFrom out d m b s after last counts)) × HereStands m here × PendingStands m b p
-NextTurn out d m b s after l here last counts Nothing = l ≡ walkFrom out d m b s after last counts
-
-pub record Turned (out : ℕ → ℕ → Bool) (d : Delims) (m b : List ℕ) (s : Section) (after : ℕ) (l : List Finding) (r : Turn) : Type 0 where
-  pub stands : CountsStand m after (r .counts)
-  pub next : NextTurn out d m b s after l (r .here) (r .last) (r .counts) (r .found)
-
 -- ---- the cursor
--- what is still to come: of the present segment, then of the segments after it
-abbrev pub restBy : (ℕ → ℕ → Bool) → Delims → List ℕ → List ℕ → Section → Cursor → List Finding
-restBy out d m b s c = segmentRest d m b s (c .here) (c .pending) ++ walkFrom out d m b s (c .next) (c .last) (c .counts)
+-- what is still to come: of the present segment, then of the segments after it, those before having been counted
+abbrev pub rest : (ℕ → ℕ → Bool) → Delims → List ℕ → List ℕ → Section → List ℕ → Cursor → List Finding
+rest out d m b s counts c = segmentRest d m b s (c .here) (c .spot) ++ walkFrom out d m b s (c .next) (c .last) counts
 
-abbrev pub rest : List ℕ → List ℕ → Section → Cursor → List Finding
-rest m b s c = restBy (outOfOrder mayFollow) (delimsOf m) m b s c
-
--- a cursor that `start` and `next` hand out for the message m and the book b
-pub record Stands (m b : List ℕ) (c : Cursor) : Type 0 where
+-- a cursor that `start` and `next` hand out, with what they leave in what is lent to them
+pub record Stands (d : Delims) (m b : List ℕ) (s : Section) (starts counts : List ℕ) (c : Cursor) : Type 0 where
   pub here : HereStands m (c .here)
-  pub pending : PendingStands m b (c .pending)
-  pub counts : CountsStand m (c .next) (c .counts)
+  pub spot : SpotStands d m b s starts (c .here) (c .spot)
+  pub passed : CountsStand m (c .next) counts
 
 -- a cursor between two segments: nothing is left of the one before, all of whose `count` rules were judged
-abbrev pub betweenAt : ℕ → ℕ → ℕ → List ℕ → Cursor
-betweenAt count next last counts =
-    record { here = record { start = 0; end = 0; name = 0; number = 0 }; pending = noPending count; next = next; last = last; counts = counts }
+abbrev pub betweenAt : ℕ → ℕ → ℕ → Cursor
+betweenAt count next last =
+    record {
+      here = record { start = 0; end = 0; name = 1; number = 0; count = 0; single = false };
+      spot = record { rule = count; at = 0; passed = 0; field = record { codes = 0; start = 0; end = 0 } };
+      next = next;
+      last = last;
+    }
 
--- an answer and the rest make the list
-unfoldable pub listed : Answer → List Finding → List Finding
-listed (Finds f) l = f ∷ l
-listed End l = []
+-- what opening gives at the end of the message, after the counted name `last`
+abbrev pub endBy : Bool → Cursor → Opened
+endBy true c = Opened.Order (orderFinding atEnd 0) c
+endBy false c = Opened.End
+
+abbrev pub endOpened : (ℕ → ℕ → Bool) → ℕ → ℕ → ℕ → Opened
+endOpened out count at last = endBy (out last atEnd) (betweenAt count at otherNumber)
+
+-- a cursor in the segment from `at` to `stop`, before its first rule
+abbrev pub enteredAt : ℕ → ℕ → ℕ → ℕ → ℕ → ℕ → Bool → Cursor
+enteredAt at stop name number first count single =
+    record {
+      here = record { start = at; end = stop; name = name; number = number; count = count; single = single };
+      spot = record { rule = first; at = 0; passed = 0; field = record { codes = 0; start = 0; end = 0 } };
+      next = stop + 1;
+      last = name;
+    }
+
+-- it is that cursor, and where the segment has rules its parts are noted
+pub record EnteredAt (d : Delims) (m starts : List ℕ) (rules first at stop name number : ℕ) (c : Cursor) : Type 0 where
+  pub count : ℕ
+  pub single : Bool
+  pub is : c ≡ enteredAt at stop name number first count single
+  pub parted : first < rules → Parted d (between m at stop) starts count single
+
+abbrev pub Enters : (ℕ → ℕ → Bool) → Delims → List ℕ → List ℕ → ℕ → ℕ → ℕ → ℕ → ℕ → ℕ → ℕ → Opened → Type 0
+Enters out d m starts rules first at stop name number last (Opened.Order f c) =
+    (out last name ≡ true) × (f ≡ orderFinding name number) × EnteredAt d m starts rules first at stop name number c
+Enters out d m starts rules first at stop name number last (Opened.Rules c) = (out last name ≡ false) × EnteredAt d m starts rules first at stop name number c
+Enters out d m starts rules first at stop name number last Opened.End = ⊥
+
+-- the next counted segment after `from` was opened, or the end, where l is still to come
+abbrev pub Opens : (ℕ → ℕ → Bool) → Delims → List ℕ → List ℕ → Section → List ℕ → List ℕ → ℕ → List Finding → Opened → Type 0
+Opens out d m b s starts counts from l (Opened.Order f c) = (l ≡ f ∷ rest out d m b s counts c) × Stands d m b s starts counts c
+Opens out d m b s starts counts from l (Opened.Rules c) = (l ≡ rest out d m b s counts c) × Stands d m b s starts counts c × (from < c .next)
+Opens out d m b s starts counts from l Opened.End = l ≡ []
 
 -- a step from a cursor at which l is still to come
-pub record StepsBy (out : ℕ → ℕ → Bool) (d : Delims) (m b : List ℕ) (s : Section) (l : List Finding) (r : Step) : Type 0 where
-  pub list : l ≡ listed (r .answer) (restBy out d m b s (r .next))
-  pub stands : Stands m b (r .next)
-
-abbrev pub Steps : List ℕ → List ℕ → Section → List Finding → Step → Type 0
-Steps m b s l r = StepsBy (outOfOrder mayFollow) (delimsOf m) m b s l r
-
--- the answer at the end of the message, after the counted name `last`
-abbrev pub endAnswer : Bool → Answer
-endAnswer true = Finds (orderFinding atEnd 0)
-endAnswer false = End
-
-abbrev pub endStep : (ℕ → ℕ → Bool) → ℕ → ℕ → ℕ → List ℕ → Step
-endStep out count at last counts = record { answer = endAnswer (out last atEnd); next = betweenAt count at otherNumber counts }
+abbrev pub Steps : (ℕ → ℕ → Bool) → Delims → List ℕ → List ℕ → Section → List ℕ → List ℕ → List Finding → Step → Type 0
+Steps out d m b s starts counts l (Step.Found f c) = (l ≡ f ∷ rest out d m b s counts c) × Stands d m b s starts counts c
+Steps out d m b s starts counts l Step.End = l ≡ []

@@ -2,7 +2,6 @@
 ghost use mathlib.Core.Path.{_≡_};
 ghost use Prim.Native.Nat.{_<_, _≤_};
 ghost use mathlib.Core.Bool.{true};
-ghost use lib.Dec.{eqb};
 ghost use lib.ListN.{getD};
 ghost use Rattle.hl7.specs.Bytes.{among};
 ghost use Rattle.grade.specs.Limits.{codeLimit, linkLimit, segmentCount, setLimit};
@@ -15,7 +14,6 @@ use crate::limits::LINKS;
 use crate::limits::RULE_SIZE;
 use crate::limits::SET_PLACES;
 use crate::rule::Rule;
-use crate::rule::letters;
 use crate::rule::rule_from;
 use crate::rule::segment_of;
 use crate::walk::Section;
@@ -26,20 +24,6 @@ use hl7::bytes::same_bytes;
 use hl7::bytes::wide;
 use hl7::bytes::wide16;
 
-// The letters of the ten names.
-const NAMES: [u32; 10] = [
-    0x4D5348,
-    0x504944,
-    0x504431,
-    0x4E4B31,
-    0x505631,
-    0x4F5243,
-    0x525841,
-    0x525852,
-    0x4F4258,
-    0x4E5445,
-];
-
 // The rule with a number, counted from 0.
 pub fn rule_at(book: &[u8], section: Section, i: usize) -> Rule
     requires { ⌜ Holds (now book) section × (i < section .«rule_count») ⌝ }
@@ -47,16 +31,6 @@ pub fn rule_at(book: &[u8], section: Section, i: usize) -> Rule
 {
     let rules_at = section.rules_at;
     rule_from(book, rules_at + RULE_SIZE * i)
-}
-
-// The rule with a number is about the segment with this number: its name alone is read.
-pub fn is_about(book: &[u8], section: Section, i: usize, name: usize) -> bool
-    requires { ⌜ Holds (now book) section × (i < section .«rule_count») × (name < segmentCount) ⌝ }
-    ensures { λ r. ⌜ r ≡ eqb (getD (rulesIn (now (book .entry)) section) i noRule .place .segment) name ⌝ }
-{
-    let rules_at = section.rules_at;
-    let at = rules_at + RULE_SIZE * i;
-    letters(book[at], book[at + 1], book[at + 2]) == NAMES[name]
 }
 
 // The number of the name that the rule with a number is about.

@@ -1,61 +1,60 @@
-// The stepper: where it stands, and the next finding.
+// The grader: where it stands, and the next finding.
 use crate::finding::Finding;
+use crate::limits::LINKS;
 use crate::limits::SET_PLACES;
-use crate::order::FOLLOW;
+use crate::lookup::link_at;
 use crate::order::out_of_order;
 use crate::rule::segment_of;
 use crate::walk::Section;
+use crate::within::Field;
 use crate::within::Here;
-use crate::within::Pending;
+use crate::within::Spot;
 use crate::within::Within;
-use crate::within::judge;
 use crate::within::next_within;
-use crate::within::no_pending;
 use crate::within::order_finding;
 use hl7::bytes::byte_at;
 use hl7::bytes::wide;
 use hl7::cut::find_far;
+use hl7::cut::none_is;
 use hl7::place::Delims;
-use hl7::place::delims_of;
+use hl7::place::note_fields;
 ghost use mathlib.Core.Path.{_≡_};
+ghost use mathlib.Core.Bool.{true};
 ghost use Prim.Native.Nat.{_+_, _≤_, _<_};
-ghost use lib.ListN.{length, set};
-ghost use Rattle.hl7.specs.Cut.{endFrom};
-ghost use Rattle.hl7.specs.Place.{carriageReturn};
+ghost use lib.ListN.{length};
 ghost use Rattle.hl7.specs.Refusals.{messageLimit};
-ghost use Rattle.grade.specs.Limits.{segmentCount};
-ghost use Rattle.grade.specs.Standing.{Holds, Placed, rulesIn, setsIn};
-ghost use Rattle.grade.specs.Order.{nameOf, outOfOrder, mayFollow, tableSays};
-ghost use Rattle.grade.specs.Findings.{findings};
-ghost use Rattle.grade.specs.Rest.{walkFrom, CountsStand, Turned, rest, restBy, Stands, Steps, StepsBy, betweenAt, endStep};
+ghost use Rattle.grade.specs.Rule.{otherNumber};
+ghost use Rattle.grade.specs.Limits.{fieldPlaces, segmentCount};
+ghost use Rattle.grade.specs.Standing.{Holds, rulesIn};
+ghost use Rattle.grade.specs.Linked.{Linked};
+ghost use Rattle.grade.specs.Order.{nameOf, outOfOrder, tableSays};
+ghost use Rattle.grade.specs.Rest.{Given, Parted, walkFrom, CountsStand, rest, Stands, betweenAt, endOpened, Enters, Opens, Steps};
 
-// Where the stepper stands: in a segment, at the repetitions of a rule; then where the next segment begins, the last counted name, and how many
-// segments of each name were passed.
+// Where the grader stands: in a segment, at a spot of it; then where the next segment begins, and the last counted name.
 pub struct Cursor {
     pub here: Here,
-    pub pending: Pending,
+    pub spot: Spot,
     pub next: usize,
     pub last: usize,
-    pub counts: [u32; 10],
 }
 
-pub enum Answer {
-    Finds(Finding),
+// The next finding, and where to go on.
+pub enum Step {
+    Found(Finding, Cursor),
     End,
 }
 
-// The answer, and where to go on. (An enum that holds an array is not covered, so the cursor stands beside it.)
-pub struct Step {
-    pub answer: Answer,
-    pub next: Cursor,
+// The next segment of a counted name: what its order gives, if it is broken there, and where its rules are judged.
+pub enum Opened {
+    Order(Finding, Cursor),
+    Rules(Cursor),
+    End,
 }
 
-// A segment that was passed: its first finding, and what stands for the segments so far.
-pub struct Turn {
-    pub found: Within,
-    pub here: Here,
-    pub last: usize,
-    pub counts: [u32; 10],
+// How many parts of a segment are noted, and whether it has no tilde.
+pub struct Marks {
+    pub count: usize,
+    pub single: bool,
 }
 
 // The number of a segment's name.
@@ -66,202 +65,216 @@ pub fn name_of(seg: &[u8]) -> usize
 }
 
 // A cursor between two segments: nothing is left of the one before.
-fn between(section: Section, next: usize, last: usize, counts: [u32; 10]) -> Cursor
-    ensures { λ r. ⌜ r ≡ betweenAt (section .«rule_count») next last counts ⌝ }
+fn between(section: Section, next: usize, last: usize) -> Cursor
+    ensures { λ r. ⌜ r ≡ betweenAt (section .«rule_count») next last ⌝ }
 {
     Cursor {
         here: Here {
             start: 0,
             end: 0,
-            name: 0,
+            name: 1,
             number: 0,
+            count: 0,
+            single: false,
         },
-        pending: no_pending(section.rule_count),
+        spot: Spot {
+            rule: section.rule_count,
+            at: 0,
+            passed: 0,
+            field: Field {
+                codes: 0,
+                start: 0,
+                end: 0,
+            },
+        },
         next,
         last,
-        counts,
-    }
-}
-
-// The step at the end of the message. No name comes after it, so that its finding comes once.
-fn finish(
-    table: &[[bool; 11]; 10],
-    section: Section,
-    end: usize,
-    last: usize,
-    counts: [u32; 10],
-) -> Step
-    ensures { λ r. ⌜ r ≡ endStep (outOfOrder (tableSays (now (table .entry)))) (section .«rule_count») end last counts ⌝ }
-{
-    let next = between(section, end, 11, counts);
-    if out_of_order(table, last, 10) {
-        return Step {
-            answer: Answer::Finds(order_finding(10, 0)),
-            next,
-        };
-    }
-    Step {
-        answer: Answer::End,
-        next,
-    }
-}
-
-// The counts with another number for a name.
-fn with_count(passed: [u32; 10], name: usize, number: u32) -> [u32; 10]
-    requires { ⌜ name < segmentCount ⌝ }
-    ensures { λ r. ⌜ r ≡ set passed name number ⌝ }
-{
-    let mut more = passed;
-    more[name] = number;
-    more
-}
-
-// The segment from at to stop, after the counted name last: its first finding.
-fn at_segment(
-    table: &[[bool; 11]; 10],
-    d: Delims,
-    m: &[u8],
-    book: &[u8],
-    section: Section,
-    sets: &[usize; SET_PLACES],
-    at: usize,
-    stop: usize,
-    last: usize,
-    passed: [u32; 10],
-) -> Turn
-    requires { ⌜ (length (now m) ≤ messageLimit) × Holds (now book) section × CountsStand (now m) at passed × (stop ≡ endFrom carriageReturn (now m) at) × (stop < length (now m)) × Placed (now book) section (now sets) ⌝ }
-    ensures { λ r. ⌜ Turned (outOfOrder (tableSays (now (table .entry)))) d (now (m .entry)) (now (book .entry)) section (stop + 1) (walkFrom (outOfOrder (tableSays (now (table .entry)))) d (now (m .entry)) (now (book .entry)) section at last passed) r ⌝ }
-{
-    let counts = passed;
-    let name = name_of(&m[at..stop]);
-    if name < 10 {
-        let number = counts[name] + 1;
-        let here = Here {
-            start: at,
-            end: stop,
-            name,
-            number,
-        };
-        return Turn {
-            found: judge(table, d, m, book, section, sets, here, last),
-            here,
-            last: name,
-            counts: with_count(counts, name, number),
-        };
-    }
-    Turn {
-        found: Within::Nothing,
-        here: Here {
-            start: at,
-            end: stop,
-            name,
-            number: 0,
-        },
-        last,
-        counts,
-    }
-}
-
-// The first finding of the segments that begin at from or later, after the counted name before and the segments that passed counts.
-fn next_segment(
-    table: &[[bool; 11]; 10],
-    d: Delims,
-    m: &[u8],
-    book: &[u8],
-    section: Section,
-    sets: &[usize; SET_PLACES],
-    from: usize,
-    before: usize,
-    passed: [u32; 10],
-) -> Step
-    requires { ⌜ (length (now m) ≤ messageLimit) × Holds (now book) section × CountsStand (now m) from passed × Placed (now book) section (now sets) ⌝ }
-    ensures { λ r. ⌜ StepsBy (outOfOrder (tableSays (now (table .entry)))) d (now (m .entry)) (now (book .entry)) section (walkFrom (outOfOrder (tableSays (now (table .entry)))) d (now (m .entry)) (now (book .entry)) section from before passed) r ⌝ }
-{
-    let end = m.len();
-    let mut at = from;
-    let mut last = before;
-    let mut counts = passed;
-    loop {
-        let stop = find_far(m, b'\r', at);
-        if end <= stop {
-            return finish(table, section, end, last, counts);
-        }
-        let turn = at_segment(table, d, m, book, section, sets, at, stop, last, counts);
-        let found = turn.found;
-        at = stop + 1;
-        last = turn.last;
-        counts = turn.counts;
-        match found {
-            Within::Found(f, pending) => {
-                let here = turn.here;
-                return Step {
-                    answer: Answer::Finds(f),
-                    next: Cursor {
-                        here,
-                        pending,
-                        next: at,
-                        last,
-                        counts,
-                    },
-                };
-            }
-            Within::Nothing => {}
-        }
     }
 }
 
 // Before the first finding.
-pub fn start(m: &[u8], book: &[u8], section: Section) -> Cursor
-    requires { ⌜ Holds (now book) section ⌝ }
-    ensures list { λ r. ⌜ rest (now (m .entry)) (now (book .entry)) section r ≡ findings mayFollow (rulesIn (now (book .entry)) section) (setsIn (now (book .entry)) section) (now (m .entry)) ⌝ }
-    ensures stands { λ r. ⌜ Stands (now (m .entry)) (now (book .entry)) r ⌝ }
+pub fn start(section: Section) -> Cursor
+    ensures { λ r. ⌜ r ≡ betweenAt (section .«rule_count») 0 otherNumber ⌝ }
 {
-    between(section, 0, 11, [0; 10])
+    between(section, 0, 11)
 }
 
-// The next finding by a follow table and delimiters, or the end.
-fn next_by(
+// The end of the message. No name comes after it, so that its finding comes once.
+fn finish(table: &[[bool; 11]; 10], section: Section, end: usize, last: usize) -> Opened
+    ensures { λ r. ⌜ r ≡ endOpened (outOfOrder (tableSays (now (table .entry)))) (section .«rule_count») end last ⌝ }
+{
+    if out_of_order(table, last, 10) {
+        return Opened::Order(order_finding(10, 0), between(section, end, 11));
+    }
+    Opened::End
+}
+
+// Notes where the parts of a segment begin, if it has rules.
+fn note_segment(d: Delims, seg: &[u8], some: bool, starts: &mut [usize]) -> Marks
+    requires { ⌜ 1 ≤ length (now starts) ⌝ }
+    ensures { λ r. ⌜ (some ≡ true → Parted d (now (seg .entry)) (now (starts .exit)) (r .count) (r .single)) ⌝ }
+{
+    if some {
+        let count = note_fields(d, seg, starts);
+        return Marks {
+            count,
+            single: none_is(seg, d.tilde),
+        };
+    }
+    Marks {
+        count: 0,
+        single: false,
+    }
+}
+
+// The segment of a counted name from at to stop, after the counted name last: its parts are noted once, and only if it has rules, of which first is the first.
+fn enter(
+    table: &[[bool; 11]; 10],
+    d: Delims,
+    m: &[u8],
+    rules: usize,
+    first: usize,
+    starts: &mut [usize],
+    at: usize,
+    stop: usize,
+    name: usize,
+    number: u32,
+    last: usize,
+) -> Opened
+    requires { ⌜ (at ≤ stop) × (stop < length (now m)) × (1 ≤ length (now starts)) × (name < segmentCount) ⌝ }
+    ensures { λ r. ⌜ Enters (outOfOrder (tableSays (now (table .entry)))) d (now (m .entry)) (now (starts .exit)) rules first at stop name number last r ⌝ }
+{
+    let marks = note_segment(d, &m[at..stop], first < rules, starts);
+    let cursor = Cursor {
+        here: Here {
+            start: at,
+            end: stop,
+            name,
+            number,
+            count: marks.count,
+            single: marks.single,
+        },
+        spot: Spot {
+            rule: first,
+            at: 0,
+            passed: 0,
+            field: Field {
+                codes: 0,
+                start: 0,
+                end: 0,
+            },
+        },
+        next: stop + 1,
+        last: name,
+    };
+    if out_of_order(table, last, name) {
+        return Opened::Order(order_finding(name, number), cursor);
+    }
+    Opened::Rules(cursor)
+}
+
+// The next segment of a counted name, from a position on, after the counted name last; or the end.
+fn open_segment(
+    table: &[[bool; 11]; 10],
+    d: Delims,
+    m: &[u8],
+    book: &[u8],
+    section: Section,
+    links: &[u16; LINKS],
+    starts: &mut [usize],
+    counts: &mut [u32; 10],
+    from: usize,
+    last: usize,
+) -> Opened
+    requires { ⌜ (length (now m) ≤ messageLimit) × Holds (now book) section × Linked (rulesIn (now book) section) (now links) × CountsStand (now m) from (now counts) × (fieldPlaces ≤ length (now starts)) ⌝ }
+    ensures { λ r. ⌜ Opens (outOfOrder (tableSays (now (table .entry)))) d (now (m .entry)) (now (book .entry)) section (now (starts .exit)) (now (counts .exit)) from (walkFrom (outOfOrder (tableSays (now (table .entry)))) d (now (m .entry)) (now (book .entry)) section from last (now (counts .entry))) r ⌝ }
+{
+    let end = m.len();
+    let mut at = from;
+    loop {
+        let stop = find_far(m, b'\r', at);
+        if end <= stop {
+            return finish(table, section, end, last);
+        }
+        let name = name_of(&m[at..stop]);
+        if name < 10 {
+            let number = counts[name] + 1;
+            counts[name] = number;
+            let first = link_at(links, name);
+            return enter(
+                table,
+                d,
+                m,
+                section.rule_count,
+                first,
+                starts,
+                at,
+                stop,
+                name,
+                number,
+                last,
+            );
+        }
+        at = stop + 1;
+    }
+}
+
+// The next finding by a follow table and delimiters, or the end. The section's sets stand at the places that `sets_of` gave, and its rules are linked as
+// `links_of` did. The parts of the present segment are noted in starts, and the segments of each name are counted, from zeros at the start.
+pub fn next(
     table: &[[bool; 11]; 10],
     d: Delims,
     m: &[u8],
     book: &[u8],
     section: Section,
     sets: &[usize; SET_PLACES],
+    links: &[u16; LINKS],
+    starts: &mut [usize],
+    counts: &mut [u32; 10],
     cursor: Cursor,
 ) -> Step
-    requires { ⌜ (length (now m) ≤ messageLimit) × Holds (now book) section × Stands (now m) (now book) cursor × Placed (now book) section (now sets) ⌝ }
-    ensures { λ r. ⌜ StepsBy (outOfOrder (tableSays (now (table .entry)))) d (now (m .entry)) (now (book .entry)) section (restBy (outOfOrder (tableSays (now (table .entry)))) d (now (m .entry)) (now (book .entry)) section cursor) r ⌝ }
+    requires { ⌜ Given (now m) (now book) section (now sets) (now links) × Stands d (now m) (now book) section (now starts) (now counts) cursor × (fieldPlaces ≤ length (now starts)) ⌝ }
+    ensures { λ r. ⌜ Steps (outOfOrder (tableSays (now (table .entry)))) d (now (m .entry)) (now (book .entry)) section (now (starts .exit)) (now (counts .exit)) (rest (outOfOrder (tableSays (now (table .entry)))) d (now (m .entry)) (now (book .entry)) section (now (counts .entry)) cursor) r ⌝ }
 {
-    let here = cursor.here;
-    let pending = cursor.pending;
-    let next = cursor.next;
-    let last = cursor.last;
-    let counts = cursor.counts;
-    match next_within(d, m, book, section, sets, here, pending) {
-        Within::Found(f, p) => Step {
-            answer: Answer::Finds(f),
-            next: Cursor {
-                here,
-                pending: p,
-                next,
-                last,
-                counts,
-            },
-        },
-        Within::Nothing => next_segment(table, d, m, book, section, sets, next, last, counts),
+    let mut c = cursor;
+    loop {
+        let here = c.here;
+        let spot = c.spot;
+        match next_within(d, m, book, section, sets, links, starts, here, spot) {
+            Within::Found(f, then) => {
+                return Step::Found(
+                    f,
+                    Cursor {
+                        here,
+                        spot: then,
+                        next: c.next,
+                        last: c.last,
+                    },
+                );
+            }
+            Within::Nothing => {}
+        }
+        match open_segment(
+            table,
+            d,
+            m,
+            book,
+            section,
+            links,
+            starts,
+            counts,
+            c.next,
+            c.last,
+        ) {
+            Opened::Order(f, then) => {
+                return Step::Found(f, then);
+            }
+            Opened::Rules(then) => {
+                c = then;
+            }
+            Opened::End => {
+                return Step::End;
+            }
+        }
     }
-}
-
-// The next finding, or the end; the section's sets stand at the places that `sets_of` gave.
-pub fn next(
-    m: &[u8],
-    book: &[u8],
-    section: Section,
-    sets: &[usize; SET_PLACES],
-    cursor: Cursor,
-) -> Step
-    requires { ⌜ (length (now m) ≤ messageLimit) × Holds (now book) section × Stands (now m) (now book) cursor × Placed (now book) section (now sets) ⌝ }
-    ensures { λ r. ⌜ Steps (now (m .entry)) (now (book .entry)) section (rest (now (m .entry)) (now (book .entry)) section cursor) r ⌝ }
-{
-    next_by(&FOLLOW, delims_of(m), m, book, section, sets, cursor)
 }

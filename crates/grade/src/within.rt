@@ -2,13 +2,12 @@
 use crate::broken::breaks_rule;
 use crate::broken::is_required;
 use crate::finding::Finding;
+use crate::limits::LINKS;
 use crate::limits::SET_PLACES;
-use crate::lookup::is_about;
+use crate::lookup::link_at;
 use crate::lookup::place_at;
 use crate::lookup::rule_at;
-use crate::order::out_of_order;
 use crate::rule::Kind;
-use crate::rule::Place;
 use crate::rule::Rule;
 use crate::rule::Severity;
 use crate::rule::error_code;
@@ -16,39 +15,46 @@ use crate::walk::Section;
 use hl7::bytes::wide;
 use hl7::cut::find;
 use hl7::place::Delims;
-use hl7::place::field;
+use hl7::place::noted_part;
 ghost use mathlib.Core.Path.{_≡_};
-ghost use mathlib.Core.Bool.{true};
-ghost use Prim.Native.Nat.{_+_, _≤_, _<_};
+ghost use mathlib.Core.Bool.{true, cond};
+ghost use Prim.Native.Nat.{_-_, _≤_, _<_};
 ghost use lib.ListN.{length, getD};
 ghost use Rattle.hl7.specs.Bytes.{all, differs};
 ghost use Rattle.hl7.specs.Cut.{endFrom};
 ghost use Rattle.hl7.specs.Refusals.{messageLimit};
-ghost use Rattle.grade.specs.Limits.{ruleLimit, segmentCount};
-ghost use Rattle.grade.specs.Rule.{kindFits, ruleFits};
+ghost use Rattle.grade.specs.Limits.{fieldPlaces, ruleLimit, segmentCount};
+ghost use Rattle.grade.specs.Rule.{kindFits};
 ghost use Rattle.grade.specs.Standing.{Holds, Placed, rulesIn, setsIn, noRule};
-ghost use Rattle.grade.specs.Order.{atEnd, outOfOrder, tableSays};
+ghost use Rattle.grade.specs.Order.{atEnd};
 ghost use Rattle.grade.specs.Broken.{severityLetter};
-ghost use Rattle.grade.specs.Rest.{CodesStand, CodesAre, brokenFrom, NextValue, valueFinding, ofRule, bytesOf, Ready, PendingStands, pendingRest, rulesFrom, segmentRest, orderFinding, ofSegment, noPending, NextOfRule, NextWithin};
+ghost use Rattle.grade.specs.Rest.{CodesStand, CodesAre, brokenFrom, NextValue, valueFinding, bytesOf, HereStands, Parted, Fielded, SpotStands, Given, segmentRest, orderFinding, NextOfRule, NextWithin};
 
-// The segment that is being judged: its bytes, its name, and its number among the segments of that name.
+// The segment that is being judged: its bytes, its name, and its number among the segments of that name; how many of its parts are noted, and whether
+// it is known to have no tilde.
 pub struct Here {
     pub start: usize,
     pub end: usize,
     pub name: usize,
     pub number: u32,
+    pub count: usize,
+    pub single: bool,
 }
 
-// A rule that is being judged: its number, where the codes of its set stand in the book, where its field stands in the message, where in the field
-// the next repetition begins, and how many were passed.
-pub struct Pending {
-    pub rule: Rule,
-    pub number: usize,
+// Where the codes of a rule's set stand in the book, and where its field stands in the message.
+pub struct Field {
     pub codes: usize,
     pub start: usize,
     pub end: usize,
+}
+
+// A place among the repetitions of a rule at a segment: the rule, counted from 0, where in its field the next repetition begins, and how many were passed;
+// once some were passed, the field is known.
+pub struct Spot {
+    pub rule: usize,
     pub at: usize,
     pub passed: u32,
+    pub field: Field,
 }
 
 // The next repetition that breaks a rule, and where to look after it.
@@ -106,7 +112,7 @@ pub fn next_value(
 
 // What judging a segment finds next, and where it goes on.
 pub enum Within {
-    Found(Finding, Pending),
+    Found(Finding, Spot),
     Nothing,
 }
 
@@ -153,145 +159,179 @@ pub fn codes_of(book: &[u8], section: Section, sets: &[usize; SET_PLACES], kind:
     }
 }
 
-// The next finding of the rule that is being judged.
-fn next_pending(d: Delims, m: &[u8], book: &[u8], here: Here, pending: Pending) -> Within
-    requires { ⌜ (length (now m) ≤ messageLimit) × (here .name < segmentCount) × PendingStands (now m) (now book) pending ⌝ }
-    ensures { λ r. ⌜ NextOfRule d (now (m .entry)) (now (book .entry)) here (pending .number) (pendingRest d (now (m .entry)) (now (book .entry)) here pending) r ⌝ }
+// The part of a segment that is a field: of MSH the one before, since the bar itself is MSH-1.
+fn part_of(msh: bool, field: u8) -> usize
+    requires { ⌜ 1 ≤ field ⌝ }
+    ensures { λ r. ⌜ r ≡ cond msh (field - 1) field ⌝ }
 {
-    let rule = pending.rule;
-    let number = pending.number;
-    let codes = pending.codes;
-    let start = pending.start;
-    let end = pending.end;
-    match next_value(
-        d,
-        &m[start..end],
-        false,
-        book,
-        rule,
-        codes,
-        pending.at,
-        pending.passed,
-    ) {
-        Value::Broken { repetition, next } => Within::Found(
-            value_finding(here, rule, number, repetition),
-            Pending {
-                rule,
-                number,
-                codes,
-                start,
-                end,
-                at: next,
-                passed: repetition,
-            },
-        ),
-        Value::Fine => Within::Nothing,
+    if msh {
+        return wide(field) - 1;
     }
+    wide(field)
 }
 
-// The first finding of one rule at a segment of its name; number is the rule's, counted from 1.
-fn of_rule(
+// Where rule i stands at a segment of its name.
+fn open_field(
     d: Delims,
     m: &[u8],
     book: &[u8],
     section: Section,
     sets: &[usize; SET_PLACES],
+    starts: &[usize],
     here: Here,
+    i: usize,
     rule: Rule,
-    number: usize,
-) -> Within
-    requires { ⌜ Ready (now m) (now book) section here × (ruleFits (section .«set_count») rule ≡ true) × (rule .place .segment ≡ here .name) × (number ≤ ruleLimit) × Placed (now book) section (now sets) ⌝ }
-    ensures { λ r. ⌜ NextOfRule d (now (m .entry)) (now (book .entry)) here number (ofRule d (setsIn (now (book .entry)) section) (here .name) (here .number) (bytesOf (now (m .entry)) here) number rule) r ⌝ }
+) -> Field
+    requires { ⌜ Holds (now book) section × Placed (now book) section (now sets) × HereStands (now m) here × Parted d (bytesOf (now m) here) (now starts) (here .count) (here .single) × (fieldPlaces ≤ length (now starts)) × (i < section .«rule_count») × (getD (rulesIn (now book) section) i noRule .place .segment ≡ here .name) × (rule ≡ getD (rulesIn (now book) section) i noRule) ⌝ }
+    ensures { λ r. ⌜ Fielded d (now (m .entry)) (now (book .entry)) section here i r ⌝ }
 {
     let kind = rule.kind;
+    let codes = codes_of(book, section, sets, kind);
     let start = here.start;
     let end = here.end;
-    let span = field(d, &m[start..end], wide(rule.place.field));
-    let pending = Pending {
-        rule,
-        number,
-        codes: codes_of(book, section, sets, kind),
+    let span = noted_part(
+        d,
+        &m[start..end],
+        starts,
+        here.count,
+        part_of(here.name == 0, rule.place.field),
+    );
+    Field {
+        codes,
         start: start + span.start,
         end: start + span.end,
-        at: 0,
-        passed: 0,
-    };
-    next_pending(d, m, book, here, pending)
+    }
 }
 
-// The first finding of rule i, counted from 0. A rule of another segment is passed over by its name alone.
+// Where the rule at a spot stands: known, or found now.
+fn field_of(
+    d: Delims,
+    m: &[u8],
+    book: &[u8],
+    section: Section,
+    sets: &[usize; SET_PLACES],
+    starts: &[usize],
+    here: Here,
+    spot: Spot,
+    rule: Rule,
+) -> Field
+    requires { ⌜ Holds (now book) section × Placed (now book) section (now sets) × HereStands (now m) here × SpotStands d (now m) (now book) section (now starts) here spot × (fieldPlaces ≤ length (now starts)) × (spot .rule < section .«rule_count») × (rule ≡ getD (rulesIn (now book) section) (spot .rule) noRule) ⌝ }
+    ensures { λ r. ⌜ Fielded d (now (m .entry)) (now (book .entry)) section here (spot .rule) r ⌝ }
+{
+    if 0 < spot.passed {
+        let known = spot.field;
+        return known;
+    }
+    open_field(d, m, book, section, sets, starts, here, spot.rule, rule)
+}
+
+// What the rule at a spot gives next: a finding after which it is asked again, its last one, or none.
+pub enum Judged {
+    Found(Finding, Spot),
+    Last(Finding),
+    Nothing,
+}
+
+// The next finding of the rule at a spot, which is about the segment.
 fn at_rule(
     d: Delims,
     m: &[u8],
     book: &[u8],
     section: Section,
     sets: &[usize; SET_PLACES],
+    starts: &[usize],
     here: Here,
-    i: usize,
-) -> Within
-    requires { ⌜ Ready (now m) (now book) section here × (i < section .«rule_count») × Placed (now book) section (now sets) ⌝ }
-    ensures { λ r. ⌜ NextOfRule d (now (m .entry)) (now (book .entry)) here (i + 1) (ofRule d (setsIn (now (book .entry)) section) (here .name) (here .number) (bytesOf (now (m .entry)) here) (i + 1) (getD (rulesIn (now (book .entry)) section) i noRule)) r ⌝ }
+    spot: Spot,
+) -> Judged
+    requires { ⌜ (length (now m) ≤ messageLimit) × Holds (now book) section × Placed (now book) section (now sets) × HereStands (now m) here × SpotStands d (now m) (now book) section (now starts) here spot × (fieldPlaces ≤ length (now starts)) × (spot .rule < section .«rule_count») ⌝ }
+    ensures { λ r. ⌜ NextOfRule d (now (m .entry)) (now (book .entry)) section here spot r ⌝ }
 {
-    if is_about(book, section, i, here.name) {
-        return of_rule(
-            d,
-            m,
-            book,
-            section,
-            sets,
-            here,
-            rule_at(book, section, i),
-            i + 1,
-        );
-    }
-    Within::Nothing
-}
-
-// The first finding of the rules from index first on.
-fn next_rule(
-    d: Delims,
-    m: &[u8],
-    book: &[u8],
-    section: Section,
-    sets: &[usize; SET_PLACES],
-    here: Here,
-    first: usize,
-) -> Within
-    requires { ⌜ Ready (now m) (now book) section here × Placed (now book) section (now sets) ⌝ }
-    ensures { λ r. ⌜ NextWithin d (now (m .entry)) (now (book .entry)) section here (rulesFrom d (now (m .entry)) (now (book .entry)) section here first) r ⌝ }
-{
-    let n = section.rule_count;
-    let mut i = first;
-    while i < n {
-        match at_rule(d, m, book, section, sets, here, i) {
-            Within::Found(f, p) => {
-                return Within::Found(f, p);
+    let i = spot.rule;
+    let rule = rule_at(book, section, i);
+    let field = field_of(d, m, book, section, sets, starts, here, spot, rule);
+    let start = field.start;
+    let end = field.end;
+    match next_value(
+        d,
+        &m[start..end],
+        here.single,
+        book,
+        rule,
+        field.codes,
+        spot.at,
+        spot.passed,
+    ) {
+        Value::Broken { repetition, next } => {
+            let finding = value_finding(here, rule, i + 1, repetition);
+            if end - start < next {
+                return Judged::Last(finding);
             }
-            Within::Nothing => {
-                i += 1;
-            }
+            Judged::Found(
+                finding,
+                Spot {
+                    rule: i,
+                    at: next,
+                    passed: repetition,
+                    field,
+                },
+            )
         }
+        Value::Fine => Judged::Nothing,
     }
-    Within::Nothing
 }
 
-// The next finding of a segment: of the present rule first, then of the rules after it.
+// The next finding of a segment: of the rule at the spot, then of the rules after it.
 pub(crate) fn next_within(
     d: Delims,
     m: &[u8],
     book: &[u8],
     section: Section,
     sets: &[usize; SET_PLACES],
+    links: &[u16; LINKS],
+    starts: &[usize],
     here: Here,
-    pending: Pending,
+    spot: Spot,
 ) -> Within
-    requires { ⌜ Ready (now m) (now book) section here × PendingStands (now m) (now book) pending × Placed (now book) section (now sets) ⌝ }
-    ensures { λ r. ⌜ NextWithin d (now (m .entry)) (now (book .entry)) section here (segmentRest d (now (m .entry)) (now (book .entry)) section here pending) r ⌝ }
+    requires { ⌜ Given (now m) (now book) section (now sets) (now links) × HereStands (now m) here × SpotStands d (now m) (now book) section (now starts) here spot × (fieldPlaces ≤ length (now starts)) ⌝ }
+    ensures { λ r. ⌜ NextWithin d (now (m .entry)) (now (book .entry)) section (now (starts .entry)) here (segmentRest d (now (m .entry)) (now (book .entry)) section here spot) r ⌝ }
 {
-    match next_pending(d, m, book, here, pending) {
-        Within::Found(f, p) => Within::Found(f, p),
-        Within::Nothing => next_rule(d, m, book, section, sets, here, pending.number),
+    let n = section.rule_count;
+    let mut at = spot;
+    while at.rule < n {
+        match at_rule(d, m, book, section, sets, starts, here, at) {
+            Judged::Found(f, then) => {
+                return Within::Found(f, then);
+            }
+            Judged::Last(f) => {
+                return Within::Found(
+                    f,
+                    Spot {
+                        rule: link_at(links, 10 + at.rule),
+                        at: 0,
+                        passed: 0,
+                        field: Field {
+                            codes: 0,
+                            start: 0,
+                            end: 0,
+                        },
+                    },
+                );
+            }
+            Judged::Nothing => {
+                at = Spot {
+                    rule: link_at(links, 10 + at.rule),
+                    at: 0,
+                    passed: 0,
+                    field: Field {
+                        codes: 0,
+                        start: 0,
+                        end: 0,
+                    },
+                };
+            }
+        }
     }
+    Within::Nothing
 }
 
 pub fn order_finding(name: usize, number: u32) -> Finding
@@ -308,47 +348,4 @@ pub fn order_finding(name: usize, number: u32) -> Finding
         code: 100,
         severity: b'E',
     }
-}
-
-// Nothing is left of the rules up to a number.
-pub(crate) fn no_pending(number: usize) -> Pending
-    ensures { λ r. ⌜ r ≡ noPending number ⌝ }
-{
-    Pending {
-        rule: Rule {
-            place: Place {
-                segment: 0,
-                field: 0,
-                component: 0,
-            },
-            severity: Severity::Error,
-            kind: Kind::Required,
-        },
-        number,
-        codes: 0,
-        start: 0,
-        end: 0,
-        at: 1,
-        passed: 0,
-    }
-}
-
-// The first finding of a segment after the counted name last: its order, then its rules.
-pub(crate) fn judge(
-    table: &[[bool; 11]; 10],
-    d: Delims,
-    m: &[u8],
-    book: &[u8],
-    section: Section,
-    sets: &[usize; SET_PLACES],
-    here: Here,
-    last: usize,
-) -> Within
-    requires { ⌜ Ready (now m) (now book) section here × Placed (now book) section (now sets) ⌝ }
-    ensures { λ r. ⌜ NextWithin d (now (m .entry)) (now (book .entry)) section here (ofSegment (outOfOrder (tableSays (now (table .entry)))) d (now (m .entry)) (now (book .entry)) section here last) r ⌝ }
-{
-    if out_of_order(table, last, here.name) {
-        return Within::Found(order_finding(here.name, here.number), no_pending(0));
-    }
-    next_rule(d, m, book, section, sets, here, 0)
 }

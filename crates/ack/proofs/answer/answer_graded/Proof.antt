@@ -4,7 +4,7 @@ use mathlib.Core.Path.{_∙_}
 use native.Mathlib.Omega.{arith}
 use borrow.Author.Needs.{needs}
 use Rattle.ack.proofs.Answering.{need-fits, too-short, fits}
-use Rattle.ack.proofs.Listing.{whole-is, kept-is, verdict-is}
+use Rattle.ack.proofs.Listing.{whole-is, kept-is, verdict-is, graded-plain}
 use Rattle.ack.proofs.answer.answer_graded.Statement.{statement}
 use Rattle.ack.proofs.answer.answer_graded.Tie as tie
 
@@ -61,7 +61,7 @@ returns-2 c =
     let begin = at-errs .before .before .before .before .before .before .before .before .before .before .before .before in
     let few = begin .pre .4 in
     fits _ _ _ _ _ _ (begin .pre .2) (begin .pre .3) few (at-length .heading-length .ensures) (whole-is (at-errs .put-errs .ensures) few) (at-if .if1 .left)
-    (at-letter .letter-of .ensures ∙ verdict-is (at-errs .put-errs .ensures) few) (at-heading .put-heading .ensures) (at-put .put-graded .ensures)
+    (at-letter .letter-of .ensures ∙ verdict-is (at-errs .put-errs .ensures) few (graded-plain _ _ _ _)) (at-heading .put-heading .ensures) (at-put .put-graded .ensures)
 
 pub answer-graded-spec : {M : Type 1} → statement M
 answer-graded-spec =

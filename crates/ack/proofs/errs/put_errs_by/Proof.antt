@@ -1,104 +1,98 @@
--- `ack::errs::put_errs_by` meets its contract: the segments passed are told, and counts and last stand for them. Assumes nothing.
-use Prim.Native.Nat.{_+_, _-_, _≤_, _<_}
-use mathlib.Core.Path.{_≡_, refl, _∙_}
+-- `ack::errs::put_errs_by` meets its contract: each finding is told, and the rest is still to come. Assumes nothing.
+use Prim.Native.Nat.{_≤_, _<_}
+use mathlib.Core.Path.{_≡_, refl, sym, _∙_}
 use native.Mathlib.Omega.{arith}
 use borrow.Author.Needs.{needs}
-use lib.ListN.{length, replicate, drop, length-take, length-drop}
+use lib.ListN.{length, replicate}
 use Rattle.grade.specs.Order.{outOfOrder, tableSays}
 use Rattle.grade.specs.Rule.{otherNumber}
-use Rattle.grade.specs.Rest.{CountsStand, walkFrom}
-use Rattle.grade.proofs.Segments.{start-counts, walk-end, counts-more, other-one, counted-one, counts-later, this-stands}
+use Rattle.grade.specs.Rest.{walkFrom, rest, Stands}
+use Rattle.grade.proofs.Stepping.{start-left, start-stands, step-found, step-end, step-less}
 use Rattle.ack.specs.Splice.{limit}
-use Rattle.ack.proofs.Listing.{puts-as, Completes, completes-more}
+use Rattle.ack.proofs.Listing.{puts-as, puts-one, Completes, completes-more, completes-over}
 use Rattle.ack.proofs.Writing.{wrote-length}
 use Rattle.ack.proofs.errs.put_errs_by.Statement.{statement}
 use Rattle.ack.proofs.errs.put_errs_by.Tie as tie
 
 abbrev Inv-loop : tie.InvT-loop
-Inv-loop table out₀ from d m book section sets links starts₀ to₀ fault₀ at₀ last₀ counts₀ out starts to fault at last counts =
-    (length out < limit) × (to ≤ limit) × CountsStand m at counts × (length starts ≡ length starts₀)
-    × Completes d (walkFrom (outOfOrder (tableSays table)) d m book section 0 otherNumber (replicate 10 0)) (walkFrom (outOfOrder (tableSays table)) d m book section at last counts) out₀ from out to fault
+Inv-loop table out₀ from d m book section sets links starts₀ counts₀ cursor₀ to₀ fault₀ out starts counts cursor to fault =
+    (length out < limit) × (to ≤ limit) × (length starts ≡ length starts₀) × Stands d m book section starts counts cursor
+    × Completes d (walkFrom (outOfOrder (tableSays table)) d m book section 0 otherNumber (replicate 10 0)) (rest (outOfOrder (tableSays table)) d m book section counts cursor) out₀ from out to fault
 
 abbrev μ-loop : tie.MeasureT-loop
-μ-loop table out₀ from d m book section sets links starts₀ to₀ fault₀ at₀ last₀ counts₀ out starts to fault at last counts = length m - at
+μ-loop table out₀ from d m book section sets links starts₀ counts₀ cursor₀ to₀ fault₀ out starts counts cursor to fault =
+    length (rest (outOfOrder (tableSays table)) d m book section counts cursor)
+
+start-requires : tie.Need-start-requires Inv-loop μ-loop
+start-requires c κs = tt
 
 loop-holds : tie.Need-loop-holds Inv-loop μ-loop
 loop-holds c =
-    let begin = c .before .before .before .before in
-    (omega arith, begin .pre .0, start-counts (begin .args .m .now), refl, λ after r w. w)
+    let begin = c .before .before .before .before .before in
+    let a = begin .args in
+    let p = begin .pre in
+    (omega arith, p .0, refl, start-stands (tableSays (a .table .now)) (a .d) (a .m .now) (a .book .now) (a .section) (p .2) (c .start .ensures) _, λ after r w. puts-as (sym (start-left (tableSays (a .table .now)) (a .d) (a .m .now) (a .book .now) (a .section) (p .2) (c .start .ensures))) w)
 
-returns : tie.Need-returns Inv-loop μ-loop
-returns c =
-    let at-order = c .before .before .before in
-    let at-far = at-order .before .before .before in
-    let at-loop = at-far .before in
-    let a = at-loop .before .before .before .before .before .args in
-    let l = at-loop .loop in
-    l .inv .4 _ _ (puts-as (walk-end (tableSays (a .table .now)) (a .d) (a .m .now) (a .book .now) (a .section) (l .at) (l .last) (l .counts) (omega (arith, at-far .find-far .ensures))) (at-order .put-order .ensures))
-
-add-number : tie.Need-add-number Inv-loop μ-loop
-add-number c =
-    let at-loop = c .before .before .before .before .before in
-    let begin = at-loop .before .before .before .before .before in
-    record { fits = omega (arith, begin .pre .1, at-loop .loop .inv .2 .inside, at-loop .loop .inv .2 .counted (c .before .name-of .result)) }
-
-put-segment-requires : tie.Need-put-segment-requires Inv-loop μ-loop
-put-segment-requires c κs =
-    let at-name = c .before .before .before .before in
-    let at-far = at-name .before .before .before in
-    let at-loop = at-far .before in
-    let begin = at-loop .before .before .before .before .before in
+next-requires : tie.Need-next-requires Inv-loop μ-loop
+next-requires c κs =
+    let at-loop = c .before .before in
+    let begin = at-loop .before .before .before .before .before .before in
     let a = begin .args in
     let p = begin .pre in
     let l = at-loop .loop in
-    let stop = at-far .find-far .result in
-    let stands = this-stands (tableSays (a .table .now)) (a .d) (a .m .now) (a .book .now) (a .section) (l .at) (l .last) (l .counts) (l .inv .2) stop (at-far .find-far .ensures) (omega arith) (at-name .name-of .result) (at-name .name-of .ensures) (omega arith) in (
-      l .inv .1,
-      record {
-        short = omega (arith, p .1, length-take (stop - l .at) (drop (l .at) (a .m .now)), length-drop (l .at) (a .m .now));
-        holds = p .2;
-        placed = p .3;
-        counts = stands .counts;
-        named = stands .named;
-      },
-      p .4,
-      omega (arith, p .5, l .inv .3),
-    )
+    (record { short = p .1; holds = p .2; placed = p .3; linked = p .4 }, l .inv .3, omega (arith, p .5, l .inv .2))
+
+enum-known-finding : tie.Need-enum-known-finding Inv-loop μ-loop
+enum-known-finding c = search needs
+
+put-finding-requires : tie.Need-put-finding-requires Inv-loop μ-loop
+put-finding-requires c κs = tt
+
+is-fault-requires : tie.Need-is-fault-requires Inv-loop μ-loop
+is-fault-requires c κs = tt
+
+loop-less : tie.Need-loop-less Inv-loop μ-loop
+loop-less c =
+    let at-loop = c .before .before .before .before .before .before .before .before .before .before .before .before .before in
+    let begin = at-loop .before .before .before .before .before .before in
+    let a = begin .args in
+    let p = begin .pre in
+    let l = at-loop .loop in
+    step-less (tableSays (a .table .now)) (a .d) (a .m .now) (a .book .now) (a .section) _ _ _ (c .before .before .before .before .before .before .before .before .before .before .next .result) (c .before .before .before .before .before .before .before .before .before .before .next .ensures) (c .before .before .before .before .before .before .finding .given .1)
 
 loop-again : tie.Need-loop-again Inv-loop μ-loop
 loop-again c =
-    let at-put = c .before .before .before .before .before in
-    let at-name = at-put .before .before .before .before .before in
-    let at-far = at-name .before .before .before in
-    let at-loop = at-far .before in
-    let a = at-loop .before .before .before .before .before .args in
+    let at-loop = c .before .before .before .before .before .before .before .before .before .before .before .before .before in
+    let begin = at-loop .before .before .before .before .before .before in
+    let a = begin .args in
+    let p = begin .pre in
     let l = at-loop .loop in
-    let stop = at-far .find-far .result in
-    let name = at-name .name-of .result in
-    let wrote = at-put .put-segment .ensures .wrote in (
+    let found = step-found (tableSays (a .table .now)) (a .d) (a .m .now) (a .book .now) (a .section) _ _ _ (c .before .before .before .before .before .before .before .before .before .before .next .result) (c .before .before .before .before .before .before .before .before .before .before .next .ensures) (c .before .before .before .before .before .before .finding .given .1) in
+    let wrote = c .before .before .before .put-finding .ensures in (
       omega (arith, wrote-length wrote, l .inv .0),
       omega (arith, wrote .ends),
-      counts-more (tableSays (a .table .now)) (a .d) (a .m .now) (a .book .now) (a .section) (l .at) (l .last) (l .counts) (l .inv .2) stop (at-far .find-far .ensures) (omega arith) name (at-name .name-of .ensures),
-      at-put .put-segment .kept .1 .1 .1 .1 .1 .1 .1 .1 .1 .0 ∙ l .inv .3,
-      completes-more (l .fault) (l .inv .4)
-          (counted-one (tableSays (a .table .now)) (a .d) (a .m .now) (a .book .now) (a .section) (l .at) (l .last) (l .counts) (l .inv .2) stop (at-far .find-far .ensures) (omega arith) name (at-name .name-of .ensures) (omega arith))
-          (at-put .put-segment .ensures),
+      c .before .before .before .before .before .before .before .before .before .before .next .kept .1 .1 .1 .1 .1 .1 .1 .0 ∙ l .inv .2,
+      found .1,
+      completes-more (l .fault) (l .inv .4) (found .0) (puts-one wrote (c .is-fault .ensures)),
     )
 
-loop-again-2 : tie.Need-loop-again-2 Inv-loop μ-loop
-loop-again-2 c =
-    let at-name = c .before in
-    let at-far = at-name .before .before .before in
-    let at-loop = at-far .before in
-    let a = at-loop .before .before .before .before .before .args in
+enum-told : tie.Need-enum-told Inv-loop μ-loop
+enum-told c = search needs
+
+returns : tie.Need-returns Inv-loop μ-loop
+returns c =
+    let at-loop = c .before .before .before .before .before .before .before in
+    let begin = at-loop .before .before .before .before .before .before in
+    let a = begin .args in
+    let p = begin .pre in
     let l = at-loop .loop in
-    let stop = at-far .find-far .result in (
-      l .inv .0,
-      l .inv .1,
-      counts-later (stop + 1) (l .inv .2) (omega (arith, at-far .find-far .ensures)) (omega arith),
-      l .inv .3,
-      λ after r w. l .inv .4 after r (puts-as (other-one (tableSays (a .table .now)) (a .d) (a .m .now) (a .book .now) (a .section) (l .at) (l .last) (l .counts) (l .inv .2) stop (at-far .find-far .ensures) (omega arith) (at-name .name-of .result) (at-name .name-of .ensures) (c .if2 .left)) w),
-    )
+    completes-over (l .fault) (l .inv .4) (step-end (tableSays (a .table .now)) (a .d) (a .m .now) (a .book .now) (a .section) _ _ _ (c .before .before .before .before .next .result) (c .before .before .before .before .next .ensures) (c .enum-told .given .1)) (l .inv .0) (l .inv .1)
+
+same-length : tie.Need-same-length Inv-loop μ-loop
+same-length c = wrote-length (returns c .wrote)
+
+same-length-2 : tie.Need-same-length-2 Inv-loop μ-loop
+same-length-2 c = c .before .before .before .before .next .kept .1 .1 .1 .1 .1 .1 .1 .0 ∙ c .before .before .before .before .before .before .before .loop .inv .2
 
 pub put-errs-by-spec : {M : Type 1} → statement M
 put-errs-by-spec =
@@ -106,27 +100,15 @@ put-errs-by-spec =
     (tie.spec
     Inv-loop
     μ-loop
+    start-requires
     loop-holds
-    (λ c κs. tt)
-    (λ c κs. (c .before .before .before .loop .inv .1, omega arith))
-    (λ c. wrote-length (returns c .wrote))
-    (λ c. c .before .before .before .before .before .before .before .loop .inv .3)
-    returns
-    (λ c. search needs)
-    (λ c. search needs)
-    (λ c. search needs)
-    (λ c. search needs)
-    (λ c κs. tt)
-    (λ c. search needs)
-    (λ c. search needs)
-    add-number
-    (λ c. search needs)
-    (λ c. search needs)
-    (λ c. search needs)
-    put-segment-requires
-    (λ c. search needs)
-    (λ c. search needs)
-    (λ c. search needs)
+    next-requires
+    enum-known-finding
+    put-finding-requires
+    is-fault-requires
+    loop-less
     loop-again
-    (λ c. search needs)
-    loop-again-2)
+    enum-told
+    same-length
+    same-length-2
+    returns)

@@ -1,13 +1,11 @@
 -- `grade::step::finish` meets its contract: the end's finding, if it has one. Assumes nothing.
-use mathlib.Core.Path.{sym, _∙_}
-use Rattle.grade.specs.Order.{outOfOrder, tableSays}
-use Rattle.grade.proofs.Segments.{ended-found, ended-fine}
+use mathlib.Core.Path.{sym, ap, _∙_}
+use Rattle.grade.specs.Rule.{otherNumber}
+use Rattle.grade.specs.Rest.{endBy, betweenAt}
+use Rattle.grade.specs.declared.step.Opened.the-variants as Opened
 use borrow.Author.Needs.{needs}
 use Rattle.grade.proofs.step.finish.Statement.{statement}
 use Rattle.grade.proofs.step.finish.Tie as tie
-
-between-requires : tie.Need-between-requires
-between-requires c κs = search needs
 
 out-of-order-requires : tie.Need-out-of-order-requires
 out-of-order-requires c κs = search needs
@@ -15,17 +13,20 @@ out-of-order-requires c κs = search needs
 order-finding-requires : tie.Need-order-finding-requires
 order-finding-requires c κs = search needs
 
+between-requires : tie.Need-between-requires
+between-requires c κs = search needs
+
 returns : tie.Need-returns
 returns c =
     let a = c .before .before .before .before .args in
-    ended-found (outOfOrder (tableSays (a .table .now))) (a .section .«rule_count») (a .end) (a .last) (a .counts) _ _ (sym (c .before .before .out-of-order .ensures) ∙ c .before .if1 .taken) (c .order-finding .ensures) (c .before .before .before .between .ensures)
+    (λ i. Opened.Order (c .before .order-finding .ensures i) (c .between .ensures i)) ∙ ap (λ b. endBy b (betweenAt (a .section .«rule_count») (a .end) otherNumber)) (sym (sym (c .before .before .before .out-of-order .ensures) ∙ c .before .before .if1 .taken))
 
 returns-2 : tie.Need-returns-2
 returns-2 c =
-    let a = c .before .before .before .args in
-    ended-fine (outOfOrder (tableSays (a .table .now))) (a .section .«rule_count») (a .end) (a .last) (a .counts) _ (sym (c .before .out-of-order .ensures) ∙ c .if1 .left) (c .before .before .between .ensures)
+    let a = c .before .before .args in
+    ap (λ b. endBy b (betweenAt (a .section .«rule_count») (a .end) otherNumber)) (sym (sym (c .before .out-of-order .ensures) ∙ c .if1 .left))
 
 pub finish-spec : {M : Type 1} → statement M
 finish-spec =
     tie.close
-    (tie.spec between-requires out-of-order-requires order-finding-requires returns returns-2)
+    (tie.spec out-of-order-requires order-finding-requires between-requires returns returns-2)

@@ -1,47 +1,102 @@
--- `grade::within::at_rule` meets its contract: a rule of another name gives nothing, and one of this name is read and judged. Assumes nothing.
-use mathlib.Core.Path.{sym, ap, _∙_}
+-- `grade::within::at_rule` meets its contract: what the repetitions of the rule's field give is what the rule gives. Assumes nothing.
+use Prim.Native.Nat.{_-_}
 use native.Mathlib.Omega.{arith}
+use lib.ListN.{drop, length-take, length-drop}
+use Rattle.grade.specs.Standing.{setsIn}
+use Rattle.grade.proofs.Judging.{codes-stand}
+use Rattle.grade.proofs.Spots.{codes-known, rule-found, rule-last, rule-fine}
 use borrow.Author.Needs.{needs}
-use borrow.Author.Tests.{eqb-true}
-use Rattle.grade.specs.Rule.{ruleFits}
-use Rattle.grade.specs.declared.rule.Rule.{Rule}
-use Rattle.grade.proofs.Holding.{rule-fits}
-use Rattle.grade.proofs.Judging.{not-about, same-rule}
 use Rattle.grade.proofs.within.at_rule.Statement.{statement}
 use Rattle.grade.proofs.within.at_rule.Tie as tie
-
-is-about-requires : tie.Need-is-about-requires
-is-about-requires c κs = search needs
 
 rule-at-requires : tie.Need-rule-at-requires
 rule-at-requires c κs = search needs
 
-add-of-rule : tie.Need-add-of-rule
-add-of-rule c = search needs
+field-of-requires : tie.Need-field-of-requires
+field-of-requires c κs = search needs
 
-of-rule-requires : tie.Need-of-rule-requires
-of-rule-requires c κs =
-    let start = c .before .before .before .before .before in
-    let a = start .args in
-    let is-it = c .rule-at .ensures in (
-      start .pre .0,
-      ap (ruleFits (a .section .«set_count»)) is-it ∙ rule-fits (a .book .now) (a .section) (start .pre .0 .holds) (a .i) (start .pre .1),
-      ap (λ (r : Rule). r .place .segment) is-it ∙ eqb-true _ _ (sym (c .before .before .is-about .ensures) ∙ c .before .if1 .taken),
-      omega (arith, start .pre .0 .holds .fewRules),
-      start .pre .2,
+sub-next-value : tie.Need-sub-next-value
+sub-next-value c = search needs
+
+part-next-value-start : tie.Need-part-next-value-start
+part-next-value-start c = search needs
+
+part-next-value-end : tie.Need-part-next-value-end
+part-next-value-end c = search needs
+
+next-value-requires : tie.Need-next-value-requires
+next-value-requires c κs =
+    let at-rule = c .before .before in
+    let begin = at-rule .before .before .before .before in
+    let a = begin .args in
+    let p = begin .pre in
+    let field = c .before .field-of .result in
+    let known = c .before .field-of .ensures in (
+      omega (arith, p .0, length-take (field .end - field .start) (drop (field .start) (a .m .now)), length-drop (field .start) (a .m .now)),
+      p .4 .passed,
+      codes-stand (a .book .now) (setsIn (a .book .now) (a .section)) (field .codes) (at-rule .rule-at .result .kind) (codes-known (a .d) (a .m .now) (a .book .now) (a .section) (a .here) (p .1) (p .3) (a .spot) (p .6) (p .4 .about (p .6)) (at-rule .rule-at .result) (at-rule .rule-at .ensures) known),
+      known .untilded,
     )
+
+enum-known-repetition : tie.Need-enum-known-repetition
+enum-known-repetition c = search needs
+
+add-value-finding : tie.Need-add-value-finding
+add-value-finding c = omega (arith, c .before .before .before .before .before .before .before .before .before .before .pre .6, c .before .before .before .before .before .before .before .before .before .before .pre .1 .fewRules)
+
+value-finding-requires : tie.Need-value-finding-requires
+value-finding-requires c κs =
+    let at-rule = c .before .before .before .before .before .before in
+    let begin = at-rule .before .before .before .before in
+    let a = begin .args in
+    let p = begin .pre in
+    (p .3 .counts, omega (arith, p .6, p .1 .fewRules))
+
+sub-if1 : tie.Need-sub-if1
+sub-if1 c = search needs
 
 returns : tie.Need-returns
 returns c =
-    let a = c .before .before .before .before .before .before .args in
-    same-rule (a .d) (a .m .now) (a .book .now) (a .section) (a .here) _ (c .of-rule .result) (c .before .rule-at .ensures) (c .of-rule .ensures)
+    let at-rule = c .before .before .before .before .before .before .before .before in
+    let begin = at-rule .before .before .before .before in
+    let a = begin .args in
+    let p = begin .pre in
+    rule-last (a .d) (a .m .now) (a .book .now) (a .section) (a .here) (p .1) (p .3) (a .spot) (p .6) (p .4 .about (p .6)) (at-rule .rule-at .result) (at-rule .rule-at .ensures) (c .before .before .before .before .before .before .before .field-of .ensures) (c .before .before .before .before .before .next-value .ensures) _ _ _ (c .before .before .before .repetition .given .1) (c .before .value-finding .ensures) (c .if1 .taken)
+
+enum-told : tie.Need-enum-told
+enum-told c = search needs
 
 returns-2 : tie.Need-returns-2
 returns-2 c =
-    let a = c .before .before .before .before .args in
-    not-about (a .d) (a .m .now) (a .book .now) (a .section) (a .here) _ _ (sym (c .before .is-about .ensures) ∙ c .if1 .left)
+    let at-rule = c .before .before .before .before .before .before .before .before in
+    let begin = at-rule .before .before .before .before in
+    let a = begin .args in
+    let p = begin .pre in
+    rule-found (a .d) (a .m .now) (a .book .now) (a .section) (a .here) (p .1) (p .3) (a .spot) (p .6) (p .4 .about (p .6)) (at-rule .rule-at .result) (at-rule .rule-at .ensures) (c .before .before .before .before .before .before .before .field-of .ensures) (c .before .before .before .before .before .next-value .ensures) _ _ _ (c .before .before .before .repetition .given .1) (c .before .value-finding .ensures)
+
+returns-3 : tie.Need-returns-3
+returns-3 c =
+    let at-rule = c .before .before .before .before .before in
+    let begin = at-rule .before .before .before .before in
+    let a = begin .args in
+    let p = begin .pre in
+    rule-fine (a .d) (a .m .now) (a .book .now) (a .section) (a .here) (p .1) (p .3) (a .spot) (p .6) (p .4 .about (p .6)) (at-rule .rule-at .result) (at-rule .rule-at .ensures) (c .before .before .before .before .field-of .ensures) (c .before .before .next-value .ensures) (c .enum-told .given .1)
 
 pub at-rule-spec : {M : Type 1} → statement M
 at-rule-spec =
     tie.close
-    (tie.spec is-about-requires rule-at-requires add-of-rule of-rule-requires returns returns-2)
+    (tie.spec
+    rule-at-requires
+    field-of-requires
+    sub-next-value
+    part-next-value-start
+    part-next-value-end
+    next-value-requires
+    enum-known-repetition
+    add-value-finding
+    value-finding-requires
+    sub-if1
+    returns
+    enum-told
+    returns-2
+    returns-3)
