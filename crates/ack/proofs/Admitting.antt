@@ -17,7 +17,7 @@ use Rattle.hl7.proofs.Refusing.{paper-reading, sound-short, sound-msh}
 use Rattle.grade.specs.Book.{opened}
 use Rattle.grade.specs.Values.{isStamp}
 use Rattle.grade.specs.Header.{mshOf, headerOf, anyWrong, headerFindings}
-use Rattle.grade.specs.Admission.{hasControlId, keyOf, bySection, admitRows, admittedBy, admitted, admittedPaper}
+use Rattle.grade.specs.Admission.{hasControlId, keyOf, bySection, admitRows, admittedBy, admitted, admittedTold}
 use Rattle.grade.specs.Order.{mayFollow}
 use Rattle.grade.specs.Findings.{findings}
 use Rattle.grade.specs.Grading.{listedFor}
@@ -66,12 +66,12 @@ admitted-by m b {s} {h} e = by (isSound m) refl (hasControlId (delimsOf m) (mshO
         record { sound = t; reads = read; opens = f ∙ ap Opened.At (sym same) }
 
 -- ---- not readable
-pub unreadable-some : (m b : List ℕ) {r : Reading} → Unreadable r ≡ admitted m b → refusals.paper r .number ≡ 0 → ⊥
+pub unreadable-some : (m b : List ℕ) {r : Reading} → Unreadable r ≡ admitted m b → refusals.readingTold r .number ≡ 0 → ⊥
 unfolding admitted admittedBy isSound
 unreadable-some m b {r} e = by (eqb (firstRow (messageRows m) .number) 0) refl (hasControlId (delimsOf m) (mshOf m)) (opened b (keyOf (delimsOf m) (mshOf m))) e
   where
     by : (sound : Bool) → eqb (firstRow (messageRows m) .number) 0 ≡ sound → (id : Bool) (o : Opened)
-        → Unreadable r ≡ cond sound (cond id (bySection o (headerOf (delimsOf m) (mshOf m))) NoControlId) (Unreadable (readingOf (firstRow (messageRows m)))) → refusals.paper r .number ≡ 0 → ⊥
+        → Unreadable r ≡ cond sound (cond id (bySection o (headerOf (delimsOf m) (mshOf m))) NoControlId) (Unreadable (readingOf (firstRow (messageRows m)))) → refusals.readingTold r .number ≡ 0 → ⊥
     by true t false o e none = apart (cc)
     by true t true Opened.Malformed e none = apart (cc)
     by true t true Opened.OtherVersion e none = apart (cc)
@@ -79,7 +79,7 @@ unreadable-some m b {r} e = by (eqb (firstRow (messageRows m) .number) 0) refl (
     by true t true (Opened.At x) e none = apart (cc)
     by false t id o e none =
         let same : r ≡ readingOf (firstRow (messageRows m)) = cc in
-        eqb-false (firstRow (messageRows m) .number) 0 t (sym (ap (λ (a : Told). a .number) (ap refusals.paper same ∙ paper-reading m)) ∙ none)
+        eqb-false (firstRow (messageRows m) .number) 0 t (sym (ap (λ (a : Told). a .number) (ap refusals.readingTold same ∙ paper-reading m)) ∙ none)
 
 -- ---- the stamp
 pub stamp-length : (v : List ℕ) → isStamp v ≡ true → length v ≡ 19
@@ -95,12 +95,12 @@ part-within m n from h = simp (length-take, length-drop) (omega arith)
 -- ---- what the code asks of itself
 module _ (m b : List ℕ) {s : Section} {h : Header} (is : By s h ≡ admitted m b) where
   passed : firstRow (admitRows m b) .number ≡ 0
-  passed = ap (λ (x : Told). x .number) (sym (ap admittedPaper is ∙ admit-paper m b))
+  passed = ap (λ (x : Told). x .number) (sym (ap admittedTold is ∙ admit-paper m b))
 
   pub admitted-short : length m ≤ messageLimit
   admitted-short = sound-short m (admitted-by m b is .sound)
 
-  pub admitted-msh : {head : List ℕ} → head ≡ mshOf m → isMsh head ≡ true
+  pub admitted-msh : {msh : List ℕ} → msh ≡ mshOf m → isMsh msh ≡ true
   admitted-msh first = ap isMsh first ∙ sound-msh m (admitted-by m b is .sound)
 
   pub admitted-holds : Holds b s
@@ -112,10 +112,10 @@ module _ (m b : List ℕ) {s : Section} {h : Header} (is : By s h ≡ admitted m
 -- ---- the ways out of the call
 module _ (m b stamp : List ℕ) (control : ℕ) (out : List ℕ) where
   -- refusals 1 to 9
-  pub answer-refused : {r : Admitted} (a : Answer) → r ≡ admitted m b → paper a ≡ admittedPaper r → (admittedPaper r .number ≡ 0 → ⊥) → Answers m b stamp control out a out
+  pub answer-refused : {r : Admitted} (a : Answer) → r ≡ admitted m b → paper a ≡ admittedTold r → (admittedTold r .number ≡ 0 → ⊥) → Answers m b stamp control out a out
   answer-refused a is e some =
       admission-refused (admitRows m b) (not (isStamp stamp)) (ackFor m b stamp control) out (admit-numbered m b) a
-      (λ z. some (sym (ap (λ (x : Told). x .number) e) ∙ z)) (e ∙ ap admittedPaper is ∙ admit-paper m b)
+      (λ z. some (sym (ap (λ (x : Told). x .number) e) ∙ z)) (e ∙ ap admittedTold is ∙ admit-paper m b)
 
   module _ {s : Section} {h : Header} (is : By s h ≡ admitted m b) where
     -- refusal 10
@@ -124,17 +124,17 @@ module _ (m b stamp : List ℕ) (control : ℕ) (out : List ℕ) where
         stamp-refused (admitRows m b) (not (isStamp stamp)) (ackFor m b stamp control) out (admit-numbered m b) (passed m b is) (rw e)
 
     -- refusal 11, or the ACK
-    last : {d : Delims} {head after : List ℕ} {listed : List Finding} {a : Answer} → isStamp stamp ≡ true → d ≡ delimsOf m → head ≡ mshOf m → listed ≡ listedFor m b
-        → Answered [] false (ackBytes d head stamp control listed) out a after → Answers m b stamp control out a after
+    last : {d : Delims} {msh after : List ℕ} {listed : List Finding} {a : Answer} → isStamp stamp ≡ true → d ≡ delimsOf m → msh ≡ mshOf m → listed ≡ listedFor m b
+        → Answered [] false (ackBytes d msh stamp control listed) out a after → Answers m b stamp control out a after
     last e own first all w = answered-last (admit-numbered m b) (passed m b is) (rw e) (rw (← own, ← first, ← all) w)
 
-    module _ {d : Delims} {head after : List ℕ} {a : Answer} (right : isStamp stamp ≡ true) (own : d ≡ delimsOf m) (first : head ≡ mshOf m) where
-      pub answer-by-header : anyWrong h ≡ true → Answered [] false (ackBytes d head stamp control (headerFindings h)) out a after → Answers m b stamp control out a after
+    module _ {d : Delims} {msh after : List ℕ} {a : Answer} (right : isStamp stamp ≡ true) (own : d ≡ delimsOf m) (first : msh ≡ mshOf m) where
+      pub answer-by-header : anyWrong h ≡ true → Answered [] false (ackBytes d msh stamp control (headerFindings h)) out a after → Answers m b stamp control out a after
       answer-by-header wrong w =
           let by = admitted-by m b is in
           last right own first (ap headerFindings (by .reads) ∙ sym (listed-header m b s (by .opens) (rw (← by .reads) wrong))) w
 
-      pub answer-by-grading : anyWrong h ≡ false → Answered [] false (ackBytes d head stamp control (findings mayFollow (rulesIn b s) (setsIn b s) m)) out a after → Answers m b stamp control out a after
+      pub answer-by-grading : anyWrong h ≡ false → Answered [] false (ackBytes d msh stamp control (findings mayFollow (rulesIn b s) (setsIn b s) m)) out a after → Answers m b stamp control out a after
       answer-by-grading fine w =
           let by = admitted-by m b is in
           last right own first (sym (listed-graded m b s (by .opens) (rw (← by .reads) fine))) w

@@ -107,25 +107,25 @@ answered-last {admission} {wrongStamp} {ack} {out} {after} {a} numbered admitted
     last-rows ack out = after-admission [] false ack out tt
 
 -- ---- length first, then bytes: what was measured in two parts, and written in two
-module _ (d : Delims) (head stamp : List ℕ) (control : ℕ) (findings : List Finding) (out : List ℕ) (h : length head ≤ messageLimit) (s : length stamp ≤ 19) (few : length findings ≤ findingLimit) where
-  module _ {a b : ℕ} (first : (second : ℕ) → a ≡ length (heading d head stamp control second)) (others : b ≡ length (errs d findings)) where
-    need-is : a + b ≡ length (ackBytes d head stamp control findings)
+module _ (d : Delims) (msh stamp : List ℕ) (control : ℕ) (findings : List Finding) (out : List ℕ) (h : length msh ≤ messageLimit) (s : length stamp ≤ 19) (few : length findings ≤ findingLimit) where
+  module _ {a b : ℕ} (first : (second : ℕ) → a ≡ length (heading d msh stamp control second)) (others : b ≡ length (errs d findings)) where
+    need-is : a + b ≡ length (ackBytes d msh stamp control findings)
     need-is =
-        let whole = ap length (ack-is d head stamp control findings) ∙ length-append (heading d head stamp control (verdict findings)) (errs d findings) in
-        omega (arith, first (verdict findings), others, whole, ack-short d head stamp control findings h s few)
+        let whole = ap length (ack-is d msh stamp control findings) ∙ length-append (heading d msh stamp control (verdict findings)) (errs d findings) in
+        omega (arith, first (verdict findings), others, whole, ack-short d msh stamp control findings h s few)
 
     pub need-fits : a + b < 2 ^ 63
-    need-fits = omega (arith, need-is, ack-short d head stamp control findings h s few)
+    need-fits = omega (arith, need-is, ack-short d msh stamp control findings h s few)
 
-    pub too-short : length out < a + b → Answered [] false (ackBytes d head stamp control findings) out (Refused 11 (a + b)) out
+    pub too-short : length out < a + b → Answered [] false (ackBytes d msh stamp control findings) out (Refused 11 (a + b)) out
     unfolding firstRow
-    too-short less = short-refused [] false (ackBytes d head stamp control findings) out tt refl refl need-is less
+    too-short less = short-refused [] false (ackBytes d msh stamp control findings) out tt refl refl need-is less
 
-    pub fits : {p after : List ℕ} {at end second : ℕ} → a + b ≤ length out → second ≡ verdict findings → Wrote out 0 (heading d head stamp control second) p at → Wrote p at (errs d findings) after end
-        → Answered [] false (ackBytes d head stamp control findings) out (Written end) after
+    pub fits : {p after : List ℕ} {at end second : ℕ} → a + b ≤ length out → second ≡ verdict findings → Wrote out 0 (heading d msh stamp control second) p at → Wrote p at (errs d findings) after end
+        → Answered [] false (ackBytes d msh stamp control findings) out (Written end) after
     unfolding firstRow
     fits room e w v =
-        let ack = ackBytes d head stamp control findings in
-        let whole : Wrote out 0 ack _ _ = wrote-as (w then v) (rw e (sym (ack-is d head stamp control findings))) in
+        let ack = ackBytes d msh stamp control findings in
+        let whole : Wrote out 0 ack _ _ = wrote-as (w then v) (rw e (sym (ack-is d msh stamp control findings))) in
         let ends = whole .ends in
-        written [] false ack out tt refl refl (omega (arith, ends, ack-short d head stamp control findings h s few)) (omega (arith, ends, need-is)) (wrote-at-start whole (omega (arith, need-is)))
+        written [] false ack out tt refl refl (omega (arith, ends, ack-short d msh stamp control findings h s few)) (omega (arith, ends, need-is)) (wrote-at-start whole (omega (arith, need-is)))

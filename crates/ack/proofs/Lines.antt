@@ -68,7 +68,7 @@ module _ (mark : ℕ) where
     unfolding joined placeParts
     place-none e = rw (eq-eqb (f .name) 10 e)
 
-    pub place-some : (f .name ≡ 10 → ⊥) → nameBytes (f .name) ++ ((mark ∷ decimal (f .number)) ++ marked mark (valueParts f)) ≡ joined mark (placeParts f)
+    pub place-some : (f .name ≡ 10 → ⊥) → nameBytes (f .name) ++ ((mark ∷ decimal (f .ordinal)) ++ marked mark (valueParts f)) ≡ joined mark (placeParts f)
     unfolding joined marked placeParts
     place-some e = rw (ne-eqb (f .name) 10 e)
 
@@ -86,20 +86,20 @@ line-ends mark part parts = ap (λ (l : List ℕ). part ++ l) (ends parts) ∙ s
     ends [] = refl
     ends (p ∷ ps) = ap (λ (l : List ℕ). mark ∷ l) (ap (λ (l : List ℕ). p ++ l) (ends ps) ∙ sym (append-assoc p (marked mark ps) (carriageReturn ∷ [])))
 
-pub msh-pieces : (d : Delims) (head stamp : List ℕ) {control w : ℕ} → w ≡ control →
+pub msh-pieces : (d : Delims) (msh stamp : List ℕ) {control w : ℕ} → w ≡ control →
     own d (bytes "MSH|^~\\&")
-    ++ ((d .bar ∷ copied d head 5)
-    ++ ((d .bar ∷ copied d head 6)
-    ++ ((d .bar ∷ copied d head 3)
-    ++ ((d .bar ∷ copied d head 4)
+    ++ ((d .bar ∷ copied d msh 5)
+    ++ ((d .bar ∷ copied d msh 6)
+    ++ ((d .bar ∷ copied d msh 3)
+    ++ ((d .bar ∷ copied d msh 4)
     ++ ((d .bar ∷ stamp)
     ++ (own d (bytes "||ACK^V04^ACK")
     ++ ((d .bar ∷ decimal w)
-    ++ ((d .bar ∷ copied d head 11)
+    ++ ((d .bar ∷ copied d msh 11)
     ++ own d (bytes "|2.5.1|||NE|NE|||||Z23^CDCPHINVS\r")))))))))
-    ≡ ended (mshLine d head stamp control)
+    ≡ ended (mshLine d msh stamp control)
 unfolding mshLine withEnd ownByte
-msh-pieces d head stamp e = rw e (line-ends (d .bar) (bytes "MSH") _)
+msh-pieces d msh stamp e = rw e (line-ends (d .bar) (bytes "MSH") _)
 
 -- ---- the ACK
 each-ended : (d : Delims) (findings : List Finding) → flatMap ended (map (errLine d) findings) ≡ errs d findings
@@ -108,10 +108,10 @@ each-ended d [] = refl
 each-ended d (f ∷ findings) = ap (λ (l : List ℕ). ended (errLine d f) ++ l) (each-ended d findings)
 
 -- the first two segments, and then the ERRs
-pub ack-is : (d : Delims) (head stamp : List ℕ) (control : ℕ) (findings : List Finding) → ackBytes d head stamp control findings ≡ heading d head stamp control (verdict findings) ++ errs d findings
+pub ack-is : (d : Delims) (msh stamp : List ℕ) (control : ℕ) (findings : List Finding) → ackBytes d msh stamp control findings ≡ heading d msh stamp control (verdict findings) ++ errs d findings
 unfolding ackBytes heading flatMap
-ack-is d head stamp control findings =
-    rw (each-ended d findings) (sym (append-assoc (ended (mshLine d head stamp control)) (ended (msaLine d head (verdict findings))) (errs d findings)))
+ack-is d msh stamp control findings =
+    rw (each-ended d findings) (sym (append-assoc (ended (mshLine d msh stamp control)) (ended (msaLine d msh (verdict findings))) (errs d findings)))
 
 -- ---- with the standard delimiters a text stands as it is
 kept-byte : (x c own other : ℕ) → own ≡ c → other ≡ x → cond (eqb x c) own other ≡ x

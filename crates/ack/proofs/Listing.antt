@@ -14,7 +14,7 @@ use Rattle.grade.specs.Header.{headerFinding, onlyIf, headerFindings, anyWrong}
 use Rattle.grade.specs.declared.header.Header.{Header}
 use Rattle.grade.specs.Strict.{keep}
 use Rattle.grade.specs.Rule.{errorCode}
-use Rattle.grade.specs.Findings.{Event, findings, findingOf, findingAt, ruleOf, breaks, places}
+use Rattle.grade.specs.Findings.{Event, findings, findingOf, findingAt, ruleNumbered, breaks, places}
 use Rattle.grade.specs.declared.rule.Kind.{Kind}
 use Rattle.grade.specs.declared.rule.Rule.{Rule}
 use Rattle.grade.specs.declared.finding.Finding.{Finding}
@@ -85,7 +85,7 @@ module _ {d : Delims} {findings : List Finding} {o p : List ℕ} {r : Put} (w : 
 
 -- ---- what the grader finds is not about the header
 -- no rule has a header code
-rule-code : (k : Kind) → isHeader (record { name = 0; number = 0; field = 0; repetition = 0; component = 0; rule = 0; code = errorCode k; severity = 0 }) ≡ false
+rule-code : (k : Kind) → isHeader (record { name = 0; ordinal = 0; field = 0; repetition = 0; component = 0; rule = 0; code = errorCode k; severity = 0 }) ≡ false
 rule-code Kind.Required = refl
 rule-code (Kind.Length low high) = refl
 rule-code Kind.Number = refl
@@ -105,7 +105,7 @@ module _ (o : ℕ → ℕ → Bool) (rules : List Rule) (sets : List (List (List
     where
       of : (n j r : ℕ) → isHeader (findingAt o rules sets m n j r) ≡ false
       of n zero r = refl
-      of n (suc i) r = rule-code (ruleOf o rules sets m i .kind)
+      of n (suc i) r = rule-code (ruleNumbered o rules sets m i .kind)
 
 -- ---- a loop over lists of findings: whatever puts what is still to come completes the whole
 abbrev pub Completes : Delims → (whole left : List Finding) → (o : List ℕ) → ℕ → (now : List ℕ) → ℕ → Bool → Type 0

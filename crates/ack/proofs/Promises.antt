@@ -24,7 +24,7 @@ use Rattle.grade.specs.Values.{isStamp}
 use Rattle.grade.specs.Broken.{severityLetter}
 use Rattle.grade.specs.Strict.{keep}
 use Rattle.grade.specs.Order.{mayFollow}
-use Rattle.grade.specs.Findings.{Event, ruleOf, findingAt, findingOf, breaks, places, findings, Demand3}
+use Rattle.grade.specs.Findings.{Event, ruleNumbered, findingAt, findingOf, breaks, places, findings, Demand3}
 use Rattle.grade.specs.Header.{mshOf, headerOf, anyWrong, headerFinding, onlyIf, headerFindings}
 use Rattle.grade.specs.Admission.{bookRows, admitRows}
 use Rattle.grade.specs.Grading.{sectionFor, listedBy, listedFor}
@@ -57,7 +57,7 @@ module _ (o : ℕ → ℕ → Bool) (rules : List Rule) (sets : List (List (List
     where
       of : (n j r : ℕ) → eqb (findingAt o rules sets m n j r .severity) carriageReturn ≡ false
       of n zero r = refl
-      of n (suc i) r = severity-letter (ruleOf o rules sets m i .severity)
+      of n (suc i) r = severity-letter (ruleNumbered o rules sets m i .severity)
 
 module _ (a b c e : Bool) where
   four : List Finding

@@ -144,18 +144,18 @@ unfolding all
 name-clean n = subst clean (names-at n) (part-clean 3 (n * 3) (bytes "MSHPIDPD1NK1PV1ORCRXARXROBXNTE") refl)
 
 -- a field is a part of its segment
-copied-clean : (d : Delims) (head : List ℕ) (k : ℕ) → clean head → clean (copied d head k)
+copied-clean : (d : Delims) (msh : List ℕ) (k : ℕ) → clean msh → clean (copied d msh k)
 unfolding copied partOfField all
-copied-clean d head k e = of (isMsh head) k
+copied-clean d msh k e = of (isMsh msh) k
   where
-    piece : (j : ℕ) → clean (pieceAt (cut (d .bar) head) j .bytes)
+    piece : (j : ℕ) → clean (pieceAt (cut (d .bar) msh) j .bytes)
     piece j =
-        let p = pieceAt (cut (d .bar) head) j in
-        subst clean (piece-stands (d .bar) head j) (part-clean (length (p .bytes)) (p .start) head e)
+        let p = pieceAt (cut (d .bar) msh) j in
+        subst clean (piece-stands (d .bar) msh j) (part-clean (length (p .bytes)) (p .start) msh e)
 
-    of : (msh : Bool) (k : ℕ) → clean (partOfField msh (d .bar) head k .bytes)
+    of : (msh : Bool) (k : ℕ) → clean (partOfField msh (d .bar) msh k .bytes)
     of msh zero = refl
-    of true (suc zero) = part-clean 1 3 head e
+    of true (suc zero) = part-clean 1 3 msh e
     of true (suc (suc k)) = piece (suc k)
     of false (suc k) = piece (suc k)
 
@@ -195,28 +195,28 @@ module _ (d : Delims) (fine : Fine d) where
   unfolding all
   caret-clean = and-both (isNot carriageReturn (d .caret)) _ (and-both (isNot carriageReturn (d .bar)) _ fine .1) .0
 
-  msh-clean : (head stamp : List ℕ) (control : ℕ) → clean head → clean stamp → clean (mshLine d head stamp control)
+  msh-clean : (msh stamp : List ℕ) (control : ℕ) → clean msh → clean stamp → clean (mshLine d msh stamp control)
   unfolding mshLine all
-  msh-clean head stamp control h s =
+  msh-clean msh stamp control h s =
       joined-clean (d .bar) _ bar-clean
       (refl
       also own-clean d fine (bytes "^~\\&") refl
-      also copied-clean d head 5 h
-      also copied-clean d head 6 h
-      also copied-clean d head 3 h
-      also copied-clean d head 4 h
+      also copied-clean d msh 5 h
+      also copied-clean d msh 6 h
+      also copied-clean d msh 3 h
+      also copied-clean d msh 4 h
       also s
       also refl
       also own-clean d fine (bytes "ACK^V04^ACK") refl
       also decimal-clean control
-      also copied-clean d head 11 h
+      also copied-clean d msh 11 h
       also refl also refl also refl also refl also refl also refl also refl also refl also refl
       also own-clean d fine (bytes "Z23^CDCPHINVS") refl
       also tt)
 
-  msa-clean : (head : List ℕ) (second : ℕ) → clean head → isNot carriageReturn second ≡ true → clean (msaLine d head second)
+  msa-clean : (msh : List ℕ) (second : ℕ) → clean msh → isNot carriageReturn second ≡ true → clean (msaLine d msh second)
   unfolding msaLine all
-  msa-clean head second h s = joined-clean (d .bar) _ bar-clean (refl, (rw s, (copied-clean d head 10 h, tt)))
+  msa-clean msh second h s = joined-clean (d .bar) _ bar-clean (refl, (rw s, (copied-clean d msh 10 h, tt)))
 
   code-clean : (n : ℕ) → clean (codeText n)
   unfolding codeText all
@@ -236,7 +236,7 @@ module _ (d : Delims) (fine : Fine d) where
   place-clean f =
       each-cond (eqb (f .name) 10) _
       (name-clean (f .name)
-      also decimal-clean (f .number)
+      also decimal-clean (f .ordinal)
       also each-cond (eqb (f .field) 0) _
       (decimal-clean (f .field) also decimal-clean (f .repetition) also each-cond (eqb (f .component) 0) _ (decimal-clean (f .component) also tt)))
 
@@ -261,16 +261,16 @@ module _ (d : Delims) (fine : Fine d) where
 
   -- ---- the ACK
   -- what it copies holds no CR
-  module _ (head stamp : List ℕ) (control : ℕ) (findings : List Finding) (headClean : clean head) (stampClean : clean stamp) (letters : has (λ f. eqb (f .severity) carriageReturn) findings ≡ false) where
-    ack-cut : cut carriageReturn (ackBytes d head stamp control findings) ≡ ackLines d head stamp control findings ++ ([] ∷ [])
+  module _ (msh stamp : List ℕ) (control : ℕ) (findings : List Finding) (headClean : clean msh) (stampClean : clean stamp) (letters : has (λ f. eqb (f .severity) carriageReturn) findings ≡ false) where
+    ack-cut : cut carriageReturn (ackBytes d msh stamp control findings) ≡ ackLines d msh stamp control findings ++ ([] ∷ [])
     unfolding ackBytes
     ack-cut =
-        lines-cut (ackLines d head stamp control findings)
-        (msh-clean head stamp control headClean stampClean, (msa-clean head (verdict findings) headClean (letter-clean (has isHeader findings) (has isFault findings)), errs-clean findings letters))
+        lines-cut (ackLines d msh stamp control findings)
+        (msh-clean msh stamp control headClean stampClean, (msa-clean msh (verdict findings) headClean (letter-clean (has isHeader findings) (has isFault findings)), errs-clean findings letters))
 
     -- the segments of the ACK are MSH, MSA, and one ERR for each finding, in order
-    pub ack-segments : segmentsOf (ackBytes d head stamp control findings) ≡ ackLines d head stamp control findings
-    ack-segments = ap butLast ack-cut ∙ but-last (ackLines d head stamp control findings)
+    pub ack-segments : segmentsOf (ackBytes d msh stamp control findings) ≡ ackLines d msh stamp control findings
+    ack-segments = ap butLast ack-cut ∙ but-last (ackLines d msh stamp control findings)
 
 -- ---- MSA-1
 -- the letters of MSA and MSA-1 are neither bar nor tilde
@@ -298,13 +298,13 @@ name-without : (mark : ℕ) → without mark (bytes "MSAER") → without mark (b
 name-without mark e = all-take (isNot mark) 3 (bytes "MSAER") e
 
 -- field 1, repetition 1 of MSA, as a reader finds it
-msa1-read : (d : Delims) → Apart d → (head : List ℕ) (header fault : Bool) → inSegment d (msaLine d head (letter header fault)) 1 1 0 .bytes ≡ msa1Of (letter header fault)
+msa1-read : (d : Delims) → Apart d → (msh : List ℕ) (header fault : Bool) → inSegment d (msaLine d msh (letter header fault)) 1 1 0 .bytes ≡ msa1Of (letter header fault)
 unfolding inSegment inField nthOf cutUnless componentOf neverCut partOfField msaLine joined marked begins
-msa1-read d apart head header fault =
+msa1-read d apart msh header fault =
     let second = letter header fault in
-    let whole : cut (d .bar) (bytes "MSA" ++ (d .bar ∷ (msa1Of second ++ (d .bar ∷ (copied d head 10 ++ []))))) ≡ bytes "MSA" ∷ msa1Of second ∷ cut (d .bar) (copied d head 10 ++ []) =
-    cut-ended (d .bar) (bytes "MSA") (msa1Of second ++ (d .bar ∷ (copied d head 10 ++ []))) (name-without (d .bar) (apart .0))
-    ∙ ap (λ (ps : List (List ℕ)). bytes "MSA" ∷ ps) (cut-ended (d .bar) (msa1Of second) (copied d head 10 ++ []) (letters-without (d .bar) header fault (apart .0))) in
+    let whole : cut (d .bar) (bytes "MSA" ++ (d .bar ∷ (msa1Of second ++ (d .bar ∷ (copied d msh 10 ++ []))))) ≡ bytes "MSA" ∷ msa1Of second ∷ cut (d .bar) (copied d msh 10 ++ []) =
+    cut-ended (d .bar) (bytes "MSA") (msa1Of second ++ (d .bar ∷ (copied d msh 10 ++ []))) (name-without (d .bar) (apart .0))
+    ∙ ap (λ (ps : List (List ℕ)). bytes "MSA" ∷ ps) (cut-ended (d .bar) (msa1Of second) (copied d msh 10 ++ []) (letters-without (d .bar) header fault (apart .0))) in
     ap (λ (ps : List (List ℕ)). partAt (cut (d .tilde) (partAt ps 1)) 0) whole
     ∙ ap (λ (ps : List (List ℕ)). partAt ps 0) (cut-whole (d .tilde) (msa1Of second) (letters-without (d .tilde) header fault (apart .1)))
 
@@ -326,16 +326,16 @@ letter-aa true fault = (λ e. absurd (omega (arith, e)), λ e. absurd (true≢fa
 letter-aa false true = (λ e. absurd (omega (arith, e)), λ e. absurd (true≢false (e .1)))
 letter-aa false false = (λ e. (refl, refl), λ e. refl)
 
-module _ (d : Delims) (fine : Fine d) (apart : Apart d) (head stamp : List ℕ) (control : ℕ) (findings : List Finding) (headClean : clean head) (stampClean : clean stamp) (letters : has (λ f. eqb (f .severity) carriageReturn) findings ≡ false) where
+module _ (d : Delims) (fine : Fine d) (apart : Apart d) (msh stamp : List ℕ) (control : ℕ) (findings : List Finding) (headClean : clean msh) (stampClean : clean stamp) (letters : has (λ f. eqb (f .severity) carriageReturn) findings ≡ false) where
   -- MSA-1 of the ACK, as the bytes at segment 2, field 1
   abbrev pub msa1 : List ℕ
-  msa1 = place d (ackBytes d head stamp control findings) 2 1 1 0 .bytes
+  msa1 = place d (ackBytes d msh stamp control findings) 2 1 1 0 .bytes
 
   pub msa1-is : msa1 ≡ code "A" ∷ verdict findings ∷ []
   unfolding place nthOf cutUnless
   msa1-is =
-      ap (λ (ps : List (List ℕ)). inSegment d (partAt ps 1) 1 1 0 .bytes) (ack-cut d fine head stamp control findings headClean stampClean letters)
-      ∙ msa1-read d apart head (has isHeader findings) (has isFault findings)
+      ap (λ (ps : List (List ℕ)). inSegment d (partAt ps 1) 1 1 0 .bytes) (ack-cut d fine msh stamp control findings headClean stampClean letters)
+      ∙ msa1-read d apart msh (has isHeader findings) (has isFault findings)
 
   second-is : (letter : ℕ) → (msa1 ≡ code "A" ∷ letter ∷ []) ↔ (verdict findings ≡ letter)
   second-is letter =

@@ -13,22 +13,22 @@ use Rattle.ack.specs.Decimal.{decimal, lastDigits}
 use Rattle.ack.specs.Layout.{ownByte, marked, joined, copied, mshLine, msaLine, has, componentParts, valueParts, placeParts, codeText, errLine, ackBytes}
 
 birth : Finding
-birth = record { name = 1; number = 1; field = 7; repetition = 1; component = 1; rule = 1; code = 102; severity = code "E" }
+birth = record { name = 1; ordinal = 1; field = 7; repetition = 1; component = 1; rule = 1; code = 102; severity = code "E" }
 
 sex : Finding
-sex = record { name = 1; number = 1; field = 8; repetition = 1; component = 0; rule = 3; code = 101; severity = code "W" }
+sex = record { name = 1; ordinal = 1; field = 8; repetition = 1; component = 0; rule = 3; code = 101; severity = code "W" }
 
 order : Finding
-order = record { name = 5; number = 2; field = 0; repetition = 0; component = 0; rule = 0; code = 100; severity = code "E" }
+order = record { name = 5; ordinal = 2; field = 0; repetition = 0; component = 0; rule = 0; code = 100; severity = code "E" }
 
 end : Finding
-end = record { name = 10; number = 0; field = 0; repetition = 0; component = 0; rule = 0; code = 100; severity = code "E" }
+end = record { name = 10; ordinal = 0; field = 0; repetition = 0; component = 0; rule = 0; code = 100; severity = code "E" }
 
-head : List ℕ
-head = bytes "MSH|^~\\&|CAB|C1|REG|AX|20250113115900+0000||VXU^V04^VXU_V04|M1|P|2.5.1"
+msh : List ℕ
+msh = bytes "MSH|^~\\&|CAB|C1|REG|AX|20250113115900+0000||VXU^V04^VXU_V04|M1|P|2.5.1"
 
 samples :
-    ackBytes standardDelims head (bytes "20250113120000+0000") 7 (birth ∷ sex ∷ []) ∷ errLine standardDelims order ∷ errLine standardDelims end ∷ decimal 0 ∷ decimal 4294967295 ∷ decimal 18446744073709551615 ∷ []
+    ackBytes standardDelims msh (bytes "20250113120000+0000") 7 (birth ∷ sex ∷ []) ∷ errLine standardDelims order ∷ errLine standardDelims end ∷ decimal 0 ∷ decimal 4294967295 ∷ decimal 18446744073709551615 ∷ []
     ≡ map bytes (
     "MSH|^~\\&|REG|AX|CAB|C1|20250113120000+0000||ACK^V04^ACK|7|P|2.5.1|||NE|NE|||||Z23^CDCPHINVS\rMSA|AE|M1\rERR||PID^1^7^1^1|102^Data type error^HL70357|E|1^^L\rERR||PID^1^8^1|101^Required field missing^HL70357|W|3^^L\r"
     ∷ "ERR||ORC^2|100^Segment sequence error^HL70357|E|0^^L"
@@ -37,5 +37,5 @@ samples :
     ∷ "4294967295"
     ∷ "18446744073709551615"
     ∷ [])
-unfolding ackBytes copied mshLine msaLine errLine placeParts valueParts componentParts codeText has joined marked ownByte decimal lastDigits nameBytes segmentNames flatMap birth sex order end head partOfField begins cut ahead startAt
+unfolding ackBytes copied mshLine msaLine errLine placeParts valueParts componentParts codeText has joined marked ownByte decimal lastDigits nameBytes segmentNames flatMap birth sex order end msh partOfField begins cut ahead startAt
 samples = refl

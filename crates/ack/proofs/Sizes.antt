@@ -50,7 +50,7 @@ unfolding valueParts
 value-size f some d first e second third mark =
     rw (ne-eqb (f .field) 0 some, marked-size, marked-size) (omega (arith, third mark, decimal-as d, decimal-as e))
 
-pub place-size : (f : Finding) {a v b k : ℕ} → (f .name ≡ 10 → ⊥) → a ≡ length (nameBytes (f .name)) → v ≡ f .number → b ≡ length (decimal v)
+pub place-size : (f : Finding) {a v b k : ℕ} → (f .name ≡ 10 → ⊥) → a ≡ length (nameBytes (f .name)) → v ≡ f .ordinal → b ≡ length (decimal v)
     → ((mark : ℕ) → k ≡ length (marked mark (valueParts f))) → (mark : ℕ) → 1 + a + b + k ≡ length (joined mark (placeParts f))
 unfolding placeParts
 place-size f some first e second third mark =
@@ -71,42 +71,42 @@ err-size f place text e rule d = omega (arith, err-whole d f, place (d .caret), 
 
 -- ---- MSH and MSA
 -- the fixed bytes, and what stands between them; the second letter of MSA-1 does not matter
-pub heading-whole : (d : Delims) (head stamp : List ℕ) (control second : ℕ) → length (heading d head stamp control second)
-    ≡ 69 + length stamp + length (decimal control) + length (copied d head 3) + length (copied d head 4) + length (copied d head 5) + length (copied d head 6) + length (copied d head 10) + length (copied d head 11)
+pub heading-whole : (d : Delims) (msh stamp : List ℕ) (control second : ℕ) → length (heading d msh stamp control second)
+    ≡ 69 + length stamp + length (decimal control) + length (copied d msh 3) + length (copied d msh 4) + length (copied d msh 5) + length (copied d msh 6) + length (copied d msh 10) + length (copied d msh 11)
 unfolding heading mshLine msaLine
-heading-whole d head stamp control second = simp (length-append, joined-size, marked-size) (omega (arith, marked-empty (d .bar)))
+heading-whole d msh stamp control second = simp (length-append, joined-size, marked-size) (omega (arith, marked-empty (d .bar)))
 
 -- a field is no longer than its segment
-pub copied-short : (d : Delims) (head : List ℕ) (k : ℕ) → length (copied d head k) ≤ length head
+pub copied-short : (d : Delims) (msh : List ℕ) (k : ℕ) → length (copied d msh k) ≤ length msh
 unfolding copied partOfField
-copied-short d head k = of (isMsh head) k
+copied-short d msh k = of (isMsh msh) k
   where
-    part : (n from : ℕ) → length (take n (drop from head)) ≤ length head
+    part : (n from : ℕ) → length (take n (drop from msh)) ≤ length msh
     part n from = simp (length-take, length-drop) (omega arith)
 
-    piece : (j : ℕ) → length (pieceAt (cut (d .bar) head) j .bytes) ≤ length head
+    piece : (j : ℕ) → length (pieceAt (cut (d .bar) msh) j .bytes) ≤ length msh
     piece j =
-        let p = pieceAt (cut (d .bar) head) j in
-        subst (λ (l : List ℕ). length l ≤ length head) (piece-stands (d .bar) head j) (part (length (p .bytes)) (p .start))
+        let p = pieceAt (cut (d .bar) msh) j in
+        subst (λ (l : List ℕ). length l ≤ length msh) (piece-stands (d .bar) msh j) (part (length (p .bytes)) (p .start))
 
-    of : (msh : Bool) (k : ℕ) → length (partOfField msh (d .bar) head k .bytes) ≤ length head
+    of : (msh : Bool) (k : ℕ) → length (partOfField msh (d .bar) msh k .bytes) ≤ length msh
     of msh zero = omega arith
     of true (suc zero) = part 1 3
     of true (suc (suc k)) = piece (suc k)
     of false (suc k) = piece (suc k)
 
-heading-short : (d : Delims) (head stamp : List ℕ) (control second : ℕ) → length (heading d head stamp control second) ≤ 110 + length stamp + 6 * length head
-heading-short d head stamp control second =
+heading-short : (d : Delims) (msh stamp : List ℕ) (control second : ℕ) → length (heading d msh stamp control second) ≤ 110 + length stamp + 6 * length msh
+heading-short d msh stamp control second =
     omega (
       arith,
-      heading-whole d head stamp control second,
+      heading-whole d msh stamp control second,
       decimal-short control,
-      copied-short d head 3,
-      copied-short d head 4,
-      copied-short d head 5,
-      copied-short d head 6,
-      copied-short d head 10,
-      copied-short d head 11,
+      copied-short d msh 3,
+      copied-short d msh 4,
+      copied-short d msh 5,
+      copied-short d msh 6,
+      copied-short d msh 10,
+      copied-short d msh 11,
     )
 
 -- ---- bounds
@@ -144,9 +144,9 @@ place-short : (mark : ℕ) (f : Finding) → length (joined mark (placeParts f))
 unfolding placeParts
 place-short mark f = of (eqb (f .name) 10)
   where
-    of : (b : Bool) → length (joined mark (cond b [] (nameBytes (f .name) ∷ decimal (f .number) ∷ valueParts f))) ≤ 87
+    of : (b : Bool) → length (joined mark (cond b [] (nameBytes (f .name) ∷ decimal (f .ordinal) ∷ valueParts f))) ≤ 87
     of true = omega (arith, joined-empty mark)
-    of false = rw (joined-size, marked-size) (omega (arith, name-size (f .name), decimal-short (f .number), value-short mark f))
+    of false = rw (joined-size, marked-size) (omega (arith, name-size (f .name), decimal-short (f .ordinal), value-short mark f))
 
 err-short : (d : Delims) (f : Finding) → length (ended (errLine d f)) ≤ 160
 err-short d f = omega (arith, err-whole d f, place-short (d .caret) f, code-short (f .code), decimal-short (f .rule))
@@ -158,8 +158,8 @@ errs-short d (f ∷ findings) =
     omega (arith, length-append (ended (errLine d f)) (errs d findings), err-short d f, errs-short d findings)
 
 -- an ACK is shorter than any index can be: the message has at most 32,768 bytes, the stamp 19, and the findings are few
-pub ack-short : (d : Delims) (head stamp : List ℕ) (control : ℕ) (findings : List Finding) → length head ≤ 32768 → length stamp ≤ 19 → length findings ≤ 2 ^ 40
-    → length (ackBytes d head stamp control findings) < limit
-ack-short d head stamp control findings h s few =
-    rw (ack-is d head stamp control findings, length-append)
-    (omega (arith, heading-short d head stamp control (verdict findings), errs-short d findings))
+pub ack-short : (d : Delims) (msh stamp : List ℕ) (control : ℕ) (findings : List Finding) → length msh ≤ 32768 → length stamp ≤ 19 → length findings ≤ 2 ^ 40
+    → length (ackBytes d msh stamp control findings) < limit
+ack-short d msh stamp control findings h s few =
+    rw (ack-is d msh stamp control findings, length-append)
+    (omega (arith, heading-short d msh stamp control (verdict findings), errs-short d findings))

@@ -46,8 +46,8 @@ splice-past out at [] h = refl
 splice-past out at (b ∷ bytes) h = rw (set-out out at b) (splice-past out (suc at) bytes (omega arith))
 
 -- a counted position serves as well as the position itself
-splice-counted : (out : List ℕ) (at : ℕ) (bytes : List ℕ) → length out < limit → splice out (min at limit) bytes ≡ splice out at bytes
-splice-counted out at bytes h =
+splice-advanced : (out : List ℕ) (at : ℕ) (bytes : List ℕ) → length out < limit → splice out (min at limit) bytes ≡ splice out at bytes
+splice-advanced out at bytes h =
     ⊎-elim
     (λ near. let e : min at limit ≡ at = omega arith in rw e)
     (λ far.
@@ -104,7 +104,7 @@ _then_ {o} {p} {q} {xs} {ys} {a} {b} {c} f g = record {
   holds =
       g .holds
       ∙ ap (λ (n : ℕ). splice p n ys) (f .ends)
-      ∙ splice-counted p (a + length xs) ys (g .room)
+      ∙ splice-advanced p (a + length xs) ys (g .room)
       ∙ ap (λ (l : List ℕ). splice l (a + length xs) ys) (f .holds)
       ∙ splice-join o a xs ys;
   ends = simp length-append (omega (arith, f .ends, g .ends));

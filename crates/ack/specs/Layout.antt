@@ -39,14 +39,14 @@ joined mark (part ∷ parts) = part ++ marked mark parts
 -- ---- MSH
 -- field k of the message's own MSH, whole
 unfoldable pub copied : Delims → List ℕ → ℕ → List ℕ
-copied d head k = fieldOf d head k .bytes
+copied d msh k = fieldOf d msh k .bytes
 
 -- MSH-3 to 6 are the message's 5, 6, 3, 4; 7 is the stamp, 10 the control number in decimal, 11 copied
-unfoldable pub mshLine : Delims → (head stamp : List ℕ) → ℕ → List ℕ
-mshLine d head stamp control =
+unfoldable pub mshLine : Delims → (msh stamp : List ℕ) → ℕ → List ℕ
+mshLine d msh stamp control =
     joined (d .bar) (
-    bytes "MSH" ∷ own d (bytes "^~\\&") ∷ copied d head 5 ∷ copied d head 6 ∷ copied d head 3 ∷ copied d head 4 ∷ stamp ∷ [] ∷ own d (bytes "ACK^V04^ACK")
-    ∷ decimal control ∷ copied d head 11 ∷ bytes "2.5.1" ∷ [] ∷ [] ∷ bytes "NE" ∷ bytes "NE" ∷ [] ∷ [] ∷ [] ∷ [] ∷ own d (bytes "Z23^CDCPHINVS") ∷ [])
+    bytes "MSH" ∷ own d (bytes "^~\\&") ∷ copied d msh 5 ∷ copied d msh 6 ∷ copied d msh 3 ∷ copied d msh 4 ∷ stamp ∷ [] ∷ own d (bytes "ACK^V04^ACK")
+    ∷ decimal control ∷ copied d msh 11 ∷ bytes "2.5.1" ∷ [] ∷ [] ∷ bytes "NE" ∷ bytes "NE" ∷ [] ∷ [] ∷ [] ∷ [] ∷ own d (bytes "Z23^CDCPHINVS") ∷ [])
 
 -- ---- MSA
 -- the findings have one that passes the test
@@ -70,8 +70,8 @@ abbrev pub verdict : List Finding → ℕ
 verdict findings = letter (has isHeader findings) (has isFault findings)
 
 -- MSA-1, and the whole MSH-10 of the message
-unfoldable pub msaLine : Delims → (head : List ℕ) → ℕ → List ℕ
-msaLine d head second = joined (d .bar) (bytes "MSA" ∷ (code "A" ∷ second ∷ []) ∷ copied d head 10 ∷ [])
+unfoldable pub msaLine : Delims → (msh : List ℕ) → ℕ → List ℕ
+msaLine d msh second = joined (d .bar) (bytes "MSA" ∷ (code "A" ∷ second ∷ []) ∷ copied d msh 10 ∷ [])
 
 -- ---- ERR
 -- ERR-2: name, number among the segments of that name, field, repetition, and component if not 0; an order finding has the first two, the end's none
@@ -82,7 +82,7 @@ unfoldable pub valueParts : Finding → List (List ℕ)
 valueParts f = cond (eqb (f .field) 0) [] (decimal (f .field) ∷ decimal (f .repetition) ∷ componentParts (f .component))
 
 unfoldable pub placeParts : Finding → List (List ℕ)
-placeParts f = cond (eqb (f .name) endNumber) [] (nameBytes (f .name) ∷ decimal (f .number) ∷ valueParts f)
+placeParts f = cond (eqb (f .name) endNumber) [] (nameBytes (f .name) ∷ decimal (f .ordinal) ∷ valueParts f)
 
 -- ERR-3: the error code, its text and the table's number
 unfoldable pub codeText : ℕ → List ℕ
@@ -107,9 +107,9 @@ errLine d f =
 abbrev pub ended : List ℕ → List ℕ
 ended line = line ++ (carriageReturn ∷ [])
 
--- MSH, MSA, and one ERR for each finding; `head` is the MSH of the message that is answered
-abbrev pub ackLines : Delims → (head stamp : List ℕ) → ℕ → List Finding → List (List ℕ)
-ackLines d head stamp control findings = mshLine d head stamp control ∷ msaLine d head (verdict findings) ∷ map (errLine d) findings
+-- MSH, MSA, and one ERR for each finding; `msh` is the MSH of the message that is answered
+abbrev pub ackLines : Delims → (msh stamp : List ℕ) → ℕ → List Finding → List (List ℕ)
+ackLines d msh stamp control findings = mshLine d msh stamp control ∷ msaLine d msh (verdict findings) ∷ map (errLine d) findings
 
-unfoldable pub ackBytes : Delims → (head stamp : List ℕ) → ℕ → List Finding → List ℕ
-ackBytes d head stamp control findings = flatMap ended (ackLines d head stamp control findings)
+unfoldable pub ackBytes : Delims → (msh stamp : List ℕ) → ℕ → List Finding → List ℕ
+ackBytes d msh stamp control findings = flatMap ended (ackLines d msh stamp control findings)

@@ -17,8 +17,8 @@ isStandard d =
     eqb (d .bar) (code "|") && eqb (d .caret) (code "^") && eqb (d .tilde) (code "~") && eqb (d .backslash) (code "\\") && eqb (d .ampersand) (code "&")
 
 -- the first two segments
-unfoldable pub heading : Delims → (head stamp : List ℕ) → ℕ → ℕ → List ℕ
-heading d head stamp control second = ended (mshLine d head stamp control) ++ ended (msaLine d head second)
+unfoldable pub heading : Delims → (msh stamp : List ℕ) → ℕ → ℕ → List ℕ
+heading d msh stamp control second = ended (mshLine d msh stamp control) ++ ended (msaLine d msh second)
 
 -- no message has more findings
 abbrev pub findingLimit : ℕ

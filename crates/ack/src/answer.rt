@@ -53,24 +53,24 @@ const KEPT: usize = 2048;
 fn answer_header(
     out: &mut [u8],
     d: Delims,
-    head: &[u8],
+    msh: &[u8],
     stamp: &[u8],
     control: u32,
     header: Header,
 ) -> Answer
-    requires { ⌜ (length (now head) ≤ messageLimit) × (length (now stamp) ≤ 19) × (anyWrong header ≡ true) × (isMsh (now head) ≡ true) ⌝ }
-    ensures { λ r. ⌜ Answered [] false (ackBytes d (now (head .entry)) (now (stamp .entry)) control (headerFindings header)) (now (out .entry)) r (now (out .exit)) ⌝ }
+    requires { ⌜ (length (now msh) ≤ messageLimit) × (length (now stamp) ≤ 19) × (anyWrong header ≡ true) × (isMsh (now msh) ≡ true) ⌝ }
+    ensures { λ r. ⌜ Answered [] false (ackBytes d (now (msh .entry)) (now (stamp .entry)) control (headerFindings header)) (now (out .entry)) r (now (out .exit)) ⌝ }
 {
     let mut starts = [0usize; MSH_PLACES];
-    let count = note_fields(d, head, &mut starts);
-    let whole = heading_length(d, head, &starts, count, stamp, control) + header_length(d, header);
+    let count = note_fields(d, msh, &mut starts);
+    let whole = heading_length(d, msh, &starts, count, stamp, control) + header_length(d, header);
     if out.len() < whole {
         return Answer::Refused {
             number: 11,
             detail: whole,
         };
     }
-    let at = put_heading(out, 0, d, head, &starts, count, stamp, control, b'R');
+    let at = put_heading(out, 0, d, msh, &starts, count, stamp, control, b'R');
     let end = put_header(out, at, d, header);
     Answer::Written(end)
 }
@@ -107,12 +107,12 @@ fn answer_graded(
     m: &[u8],
     book: &[u8],
     section: Section,
-    head: &[u8],
+    msh: &[u8],
     stamp: &[u8],
     control: u32,
 ) -> Answer
-    requires { ⌜ (length (now m) ≤ messageLimit) × Holds (now book) section × (length (now head) ≤ messageLimit) × (length (now stamp) ≤ 19) × (length (findings mayFollow (rulesIn (now book) section) (setsIn (now book) section) (now m)) ≤ findingLimit) × (d ≡ delimsOf (now m)) × (isMsh (now head) ≡ true) ⌝ }
-    ensures { λ r. ⌜ Answered [] false (ackBytes d (now (head .entry)) (now (stamp .entry)) control (findings mayFollow (rulesIn (now (book .entry)) section) (setsIn (now (book .entry)) section) (now (m .entry)))) (now (out .entry)) r (now (out .exit)) ⌝ }
+    requires { ⌜ (length (now m) ≤ messageLimit) × Holds (now book) section × (length (now msh) ≤ messageLimit) × (length (now stamp) ≤ 19) × (length (findings mayFollow (rulesIn (now book) section) (setsIn (now book) section) (now m)) ≤ findingLimit) × (d ≡ delimsOf (now m)) × (isMsh (now msh) ≡ true) ⌝ }
+    ensures { λ r. ⌜ Answered [] false (ackBytes d (now (msh .entry)) (now (stamp .entry)) control (findings mayFollow (rulesIn (now (book .entry)) section) (setsIn (now (book .entry)) section) (now (m .entry)))) (now (out .entry)) r (now (out .exit)) ⌝ }
 {
     let sets = sets_of(book, section);
     let links = links_of(book, section);
@@ -130,8 +130,8 @@ fn answer_graded(
         &mut starts,
     );
     let whole = first.at;
-    let count = note_fields(d, head, &mut starts);
-    let need = heading_length(d, head, &starts, count, stamp, control) + whole;
+    let count = note_fields(d, msh, &mut starts);
+    let need = heading_length(d, msh, &starts, count, stamp, control) + whole;
     if out.len() < need {
         return Answer::Refused {
             number: 11,
@@ -139,7 +139,7 @@ fn answer_graded(
         };
     }
     let second = letter_of(false, first.fault);
-    let at = put_heading(out, 0, d, head, &starts, count, stamp, control, second);
+    let at = put_heading(out, 0, d, msh, &starts, count, stamp, control, second);
     let end = put_graded(
         out,
         at,

@@ -1,7 +1,7 @@
 // The ERR segments of all findings, one for each. What does not fit is counted all the same, so that a first run also measures.
 use crate::layout::put_err;
 use crate::measure::err_length;
-use crate::output::counted;
+use crate::output::advanced;
 use crate::output::put;
 use grade::finding::Finding;
 use grade::header::Header;
@@ -25,7 +25,7 @@ ghost use Rattle.grade.specs.Linked.{Linked};
 ghost use Rattle.grade.specs.Order.{mayFollow, outOfOrder, tableSays};
 ghost use Rattle.grade.specs.Findings.{findings};
 ghost use Rattle.grade.specs.Standing.{Holds, Placed, rulesIn, setsIn};
-ghost use Rattle.grade.specs.Rest.{walkFrom};
+ghost use Rattle.grade.specs.Rest.{gradeFrom};
 ghost use Rattle.ack.specs.Splice.{Wrote, limit};
 ghost use Rattle.ack.specs.Layout.{isFault, errLine, ended};
 ghost use Rattle.ack.specs.Pieces.{errs, Puts};
@@ -48,7 +48,7 @@ fn put_finding(out: &mut [u8], at: usize, d: Delims, finding: Finding) -> usize
     ensures { λ r. ⌜ Wrote (now (out .entry)) at (ended (errLine d finding)) (now (out .exit)) r ⌝ }
 {
     if out.len() <= at {
-        return counted(at, err_length(finding));
+        return advanced(at, err_length(finding));
     }
     put_err(out, at, d, finding)
 }
@@ -67,7 +67,7 @@ fn put_errs_by(
     starts: &mut [usize],
 ) -> Put
     requires { ⌜ (from ≤ limit) × (length (now m) ≤ messageLimit) × Holds (now book) section × Placed (now book) section (now sets) × Linked (rulesIn (now book) section) (now links) × (fieldPlaces ≤ length (now starts)) ⌝ }
-    ensures { λ r. ⌜ Puts d (walkFrom (outOfOrder (tableSays (now (table .entry)))) d (now (m .entry)) (now (book .entry)) section 0 otherNumber (replicate 10 0)) (now (out .entry)) from (now (out .exit)) r ⌝ }
+    ensures { λ r. ⌜ Puts d (gradeFrom (outOfOrder (tableSays (now (table .entry)))) d (now (m .entry)) (now (book .entry)) section 0 otherNumber (replicate 10 0)) (now (out .entry)) from (now (out .exit)) r ⌝ }
 {
     let mut counts = [0u32; 10];
     let mut cursor = start(section);
@@ -122,7 +122,7 @@ fn header_finding(code: u16, field: u8, component: u8) -> Finding
 {
     Finding {
         name: 0,
-        number: 1,
+        ordinal: 1,
         field,
         repetition: 1,
         component,

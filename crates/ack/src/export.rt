@@ -7,7 +7,7 @@ use hl7::refusal::Reading;
 use hl7::refusal::check;
 ghost use mathlib.Core.Path.{_≡_};
 ghost use Prim.Native.Nat.{_-_, _≤_, min};
-ghost use Rattle.hl7.specs.Refusals.{told, firstRow, messageRows, paper as readingPaper, located};
+ghost use Rattle.hl7.specs.Refusals.{told, firstRow, messageRows, readingTold, located};
 ghost use Rattle.ack.specs.Answers.{paper};
 ghost use Rattle.ack.specs.Exports.{packed, packedSpan, Exported, PackedPlace};
 
@@ -25,7 +25,7 @@ fn pack(number: u8, detail: usize) -> u64
 }
 
 fn pack_reading(reading: Reading) -> u64
-    ensures { λ r. ⌜ r ≡ packed (readingPaper reading) ⌝ }
+    ensures { λ r. ⌜ r ≡ packed (readingTold reading) ⌝ }
 {
     match reading {
         Reading::Sound => pack(0, 0),

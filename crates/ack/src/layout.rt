@@ -1,5 +1,5 @@
 // The ACK's segments, each written by what the layout says of it.
-use crate::output::counted;
+use crate::output::advanced;
 use crate::output::fitting;
 use crate::output::put;
 use crate::output::put_byte;
@@ -60,7 +60,7 @@ fn is_standard(d: Delims) -> bool
 fn put_translated(out: &mut [u8], at: usize, d: Delims, text: &[u8]) -> usize
     ensures { λ r. ⌜ Wrote (now (out .entry)) at (own d (now (text .entry))) (now (out .exit)) r ⌝ }
 {
-    let next = counted(at, text.len());
+    let next = advanced(at, text.len());
     let n = fitting(out.len(), at, text.len());
     let mut i = 0;
     while i < n {
@@ -118,7 +118,7 @@ fn put_place(out: &mut [u8], at: usize, caret: u8, finding: Finding) -> usize
         return put(out, at, b"");
     }
     let a = put_name(out, at, finding.name);
-    let b = put_number(out, a, caret, wide32(finding.number));
+    let b = put_number(out, a, caret, wide32(finding.ordinal));
     put_value(out, b, caret, finding)
 }
 
@@ -158,43 +158,43 @@ fn put_copy(
     out: &mut [u8],
     at: usize,
     d: Delims,
-    head: &[u8],
+    msh: &[u8],
     starts: &[usize],
     count: usize,
     k: usize,
 ) -> usize
-    requires { ⌜ MshNoted d (now head) (now starts) count × (2 < k) × (k ≤ 12) ⌝ }
-    ensures { λ r. ⌜ Wrote (now (out .entry)) at (d .bar ∷ copied d (now (head .entry)) k) (now (out .exit)) r ⌝ }
+    requires { ⌜ MshNoted d (now msh) (now starts) count × (2 < k) × (k ≤ 12) ⌝ }
+    ensures { λ r. ⌜ Wrote (now (out .entry)) at (d .bar ∷ copied d (now (msh .entry)) k) (now (out .exit)) r ⌝ }
 {
-    let span = noted_part(d, head, starts, count, k - 1);
+    let span = noted_part(d, msh, starts, count, k - 1);
     let start = span.start;
     let end = span.end;
-    put_field(out, at, d.bar, &head[start..end])
+    put_field(out, at, d.bar, &msh[start..end])
 }
 
-// The MSH segment; head is the MSH of the message that is answered, its fields noted.
+// The MSH segment; msh is the MSH of the message that is answered, its fields noted.
 pub fn put_msh(
     out: &mut [u8],
     at: usize,
     d: Delims,
-    head: &[u8],
+    msh: &[u8],
     starts: &[usize],
     count: usize,
     stamp: &[u8],
     control: u32,
 ) -> usize
-    requires { ⌜ MshNoted d (now head) (now starts) count ⌝ }
-    ensures { λ r. ⌜ Wrote (now (out .entry)) at (ended (mshLine d (now (head .entry)) (now (stamp .entry)) control)) (now (out .exit)) r ⌝ }
+    requires { ⌜ MshNoted d (now msh) (now starts) count ⌝ }
+    ensures { λ r. ⌜ Wrote (now (out .entry)) at (ended (mshLine d (now (msh .entry)) (now (stamp .entry)) control)) (now (out .exit)) r ⌝ }
 {
     let a = put_own(out, at, d, b"MSH|^~\\&");
-    let b = put_copy(out, a, d, head, starts, count, 5);
-    let c = put_copy(out, b, d, head, starts, count, 6);
-    let e = put_copy(out, c, d, head, starts, count, 3);
-    let f = put_copy(out, e, d, head, starts, count, 4);
+    let b = put_copy(out, a, d, msh, starts, count, 5);
+    let c = put_copy(out, b, d, msh, starts, count, 6);
+    let e = put_copy(out, c, d, msh, starts, count, 3);
+    let f = put_copy(out, e, d, msh, starts, count, 4);
     let g = put_field(out, f, d.bar, stamp);
     let h = put_own(out, g, d, b"||ACK^V04^ACK");
     let i = put_number(out, h, d.bar, wide32(control));
-    let j = put_copy(out, i, d, head, starts, count, 11);
+    let j = put_copy(out, i, d, msh, starts, count, 11);
     put_own(out, j, d, b"|2.5.1|||NE|NE|||||Z23^CDCPHINVS\r")
 }
 
@@ -203,17 +203,17 @@ pub fn put_msa(
     out: &mut [u8],
     at: usize,
     d: Delims,
-    head: &[u8],
+    msh: &[u8],
     starts: &[usize],
     count: usize,
     second: u8,
 ) -> usize
-    requires { ⌜ MshNoted d (now head) (now starts) count ⌝ }
-    ensures { λ r. ⌜ Wrote (now (out .entry)) at (ended (msaLine d (now (head .entry)) second)) (now (out .exit)) r ⌝ }
+    requires { ⌜ MshNoted d (now msh) (now starts) count ⌝ }
+    ensures { λ r. ⌜ Wrote (now (out .entry)) at (ended (msaLine d (now (msh .entry)) second)) (now (out .exit)) r ⌝ }
 {
     let a = put_own(out, at, d, b"MSA|A");
     let b = put_byte(out, a, second);
-    let c = put_copy(out, b, d, head, starts, count, 10);
+    let c = put_copy(out, b, d, msh, starts, count, 10);
     put_byte(out, c, b'\r')
 }
 
@@ -222,18 +222,18 @@ pub fn put_heading(
     out: &mut [u8],
     at: usize,
     d: Delims,
-    head: &[u8],
+    msh: &[u8],
     starts: &[usize],
     count: usize,
     stamp: &[u8],
     control: u32,
     second: u8,
 ) -> usize
-    requires { ⌜ MshNoted d (now head) (now starts) count ⌝ }
-    ensures { λ r. ⌜ Wrote (now (out .entry)) at (heading d (now (head .entry)) (now (stamp .entry)) control second) (now (out .exit)) r ⌝ }
+    requires { ⌜ MshNoted d (now msh) (now starts) count ⌝ }
+    ensures { λ r. ⌜ Wrote (now (out .entry)) at (heading d (now (msh .entry)) (now (stamp .entry)) control second) (now (out .exit)) r ⌝ }
 {
-    let next = put_msh(out, at, d, head, starts, count, stamp, control);
-    put_msa(out, next, d, head, starts, count, second)
+    let next = put_msh(out, at, d, msh, starts, count, stamp, control);
+    put_msa(out, next, d, msh, starts, count, second)
 }
 
 // The second letter of MSA-1.

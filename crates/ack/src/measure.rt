@@ -17,35 +17,35 @@ ghost use Rattle.ack.specs.Layout.{copied, marked, joined, componentPart
 ghost use Rattle.ack.specs.Pieces.{heading};
 
 // How long a field of the message's own MSH is.
-fn copy_length(d: Delims, head: &[u8], starts: &[usize], count: usize, k: usize) -> usize
-    requires { ⌜ MshNoted d (now head) (now starts) count × (length (now head) ≤ messageLimit) × (2 < k) × (k ≤ 12) ⌝ }
-    ensures { λ r. ⌜ (r ≡ length (copied d (now (head .entry)) k)) × (r ≤ messageLimit) ⌝ }
+fn copy_length(d: Delims, msh: &[u8], starts: &[usize], count: usize, k: usize) -> usize
+    requires { ⌜ MshNoted d (now msh) (now starts) count × (length (now msh) ≤ messageLimit) × (2 < k) × (k ≤ 12) ⌝ }
+    ensures { λ r. ⌜ (r ≡ length (copied d (now (msh .entry)) k)) × (r ≤ messageLimit) ⌝ }
 {
-    let span = noted_part(d, head, starts, count, k - 1);
+    let span = noted_part(d, msh, starts, count, k - 1);
     span.end - span.start
 }
 
 // How long the first two segments are, whatever MSA-1 is: their fixed bytes, and what stands between them.
 pub fn heading_length(
     d: Delims,
-    head: &[u8],
+    msh: &[u8],
     starts: &[usize],
     count: usize,
     stamp: &[u8],
     control: u32,
 ) -> usize
-    requires { ⌜ MshNoted d (now head) (now starts) count × (length (now head) ≤ messageLimit) × (length (now stamp) ≤ 19) ⌝ }
-    ensures { λ r. ⌜ ((second : ℕ) → r ≡ length (heading d (now (head .entry)) (now (stamp .entry)) control second)) ⌝ }
+    requires { ⌜ MshNoted d (now msh) (now starts) count × (length (now msh) ≤ messageLimit) × (length (now stamp) ≤ 19) ⌝ }
+    ensures { λ r. ⌜ ((second : ℕ) → r ≡ length (heading d (now (msh .entry)) (now (stamp .entry)) control second)) ⌝ }
 {
     69
         + stamp.len()
         + decimal_length(wide32(control))
-        + copy_length(d, head, starts, count, 3)
-        + copy_length(d, head, starts, count, 4)
-        + copy_length(d, head, starts, count, 5)
-        + copy_length(d, head, starts, count, 6)
-        + copy_length(d, head, starts, count, 10)
-        + copy_length(d, head, starts, count, 11)
+        + copy_length(d, msh, starts, count, 3)
+        + copy_length(d, msh, starts, count, 4)
+        + copy_length(d, msh, starts, count, 5)
+        + copy_length(d, msh, starts, count, 6)
+        + copy_length(d, msh, starts, count, 10)
+        + copy_length(d, msh, starts, count, 11)
 }
 
 // How long ERR-2's component is, with its caret.
@@ -85,7 +85,7 @@ fn place_length(finding: Finding) -> usize
     if finding.name == 10 {
         return 0;
     }
-    1 + name_length(finding.name) + decimal_length(wide32(finding.number)) + value_length(finding)
+    1 + name_length(finding.name) + decimal_length(wide32(finding.ordinal)) + value_length(finding)
 }
 
 // How long ERR-3 is.

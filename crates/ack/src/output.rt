@@ -11,7 +11,7 @@ ghost use Rattle.ack.specs.Decimal.{decimal, digit};
 const LIMIT: usize = 0x8000_0000_0000_0000;
 
 // The index so many bytes after at, counted up to LIMIT.
-pub fn counted(at: usize, count: usize) -> usize
+pub fn advanced(at: usize, count: usize) -> usize
     requires { ⌜ count < limit ⌝ }
     ensures { λ r. ⌜ r ≡ min (at + count) limit ⌝ }
 {
@@ -41,7 +41,7 @@ pub fn fitting(length: usize, at: usize, count: usize) -> usize
 pub fn put_byte(out: &mut [u8], at: usize, byte: u8) -> usize
     ensures { λ r. ⌜ Wrote (now (out .entry)) at (byte ∷ []) (now (out .exit)) r ⌝ }
 {
-    let next = counted(at, 1);
+    let next = advanced(at, 1);
     if at < out.len() {
         out[at] = byte;
     }
@@ -52,7 +52,7 @@ pub fn put_byte(out: &mut [u8], at: usize, byte: u8) -> usize
 pub fn put(out: &mut [u8], at: usize, bytes: &[u8]) -> usize
     ensures { λ r. ⌜ Wrote (now (out .entry)) at (now (bytes .entry)) (now (out .exit)) r ⌝ }
 {
-    let next = counted(at, bytes.len());
+    let next = advanced(at, bytes.len());
     let n = fitting(out.len(), at, bytes.len());
     let mut i = 0;
     while i < n {

@@ -13,7 +13,7 @@ pub enum Answer {
 
 // Refusals 1 to 5.
 pub fn unreadable(reading: Reading) -> Answer
-    ensures { λ r. ⌜ paper r ≡ refusals.paper reading ⌝ }
+    ensures { λ r. ⌜ paper r ≡ refusals.readingTold reading ⌝ }
 {
     match reading {
         Reading::Sound => Answer::Written(0),

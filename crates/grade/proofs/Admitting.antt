@@ -6,13 +6,13 @@ use mathlib.Core.Logic.{_↔_}
 use mathlib.Core.List.{List, [], _∷_, _++_}
 use lib.Dec.{eqb}
 use Rattle.hl7.specs.Place.{delimsOf}
-use Rattle.hl7.specs.Refusals.{Told, told, Row, row, firstRow, First, messageRows, formRows, paper, readingOf, isSound}
+use Rattle.hl7.specs.Refusals.{Told, told, Row, row, firstRow, First, messageRows, formRows, readingTold, readingOf, isSound}
 use Rattle.hl7.specs.declared.place.Delims.{Delims}
 use Rattle.hl7.specs.declared.refusal.Reading.{Reading}
 use Rattle.hl7.proofs.Refusing.{Numbered, rows-append, row-exactly, message-numbered, reading-is, paper-reading}
 use Rattle.grade.specs.Book.{malformed, otherVersion, noSection, opened}
 use Rattle.grade.specs.Header.{mshOf, mshAt, headerOf}
-use Rattle.grade.specs.Admission.{hasControlId, keyOf, bookRows, admitRows, bySection, admittedBy, admitted, admittedPaper}
+use Rattle.grade.specs.Admission.{hasControlId, keyOf, bookRows, admitRows, bySection, admittedBy, admitted, admittedTold}
 use Rattle.grade.specs.declared.book.Opened.{Opened}
 use Rattle.grade.specs.declared.header.Header.{Header}
 use Rattle.grade.specs.declared.walk.Section.{Section}
@@ -34,17 +34,17 @@ module _ (m b : List ℕ) where
   unfolding admitted
   admit-sound e own first is = rw e (is ∙ rw (own, first))
 
-  pub admit-refused : {r : Reading} → isSound m ≡ false → paper r ≡ firstRow (messageRows m) → Unreadable r ≡ admitted m b
+  pub admit-refused : {r : Reading} → isSound m ≡ false → readingTold r ≡ firstRow (messageRows m) → Unreadable r ≡ admitted m b
   unfolding admitted
   admit-refused e p = rw e (ap Unreadable (reading-is m p))
 
 -- ---- the answer is that of rows 1 to 9
-book-paper : (d : Delims) (msh b : List ℕ) → admittedPaper (admittedBy d msh b) ≡ firstRow (bookRows d msh b)
+book-paper : (d : Delims) (msh b : List ℕ) → admittedTold (admittedBy d msh b) ≡ firstRow (bookRows d msh b)
 unfolding admittedBy bookRows firstRow opened
 book-paper d msh b = by (hasControlId d msh) (malformed b) (otherVersion b) (noSection b (keyOf d msh)) _
   where
     by : (id wrong other none : Bool) (s : Section) →
-        admittedPaper (cond id (bySection (cond wrong Opened.Malformed (cond other Opened.OtherVersion (cond none Opened.NoSection (Opened.At s)))) (headerOf d msh)) NoControlId)
+        admittedTold (cond id (bySection (cond wrong Opened.Malformed (cond other Opened.OtherVersion (cond none Opened.NoSection (Opened.At s)))) (headerOf d msh)) NoControlId)
         ≡ cond (not id) (told 6 0) (cond wrong (told 7 0) (cond other (told 8 0) (cond none (told 9 0) (told 0 0))))
     by false wrong other none s = refl
     by true true other none s = refl
@@ -52,13 +52,13 @@ book-paper d msh b = by (hasControlId d msh) (malformed b) (otherVersion b) (noS
     by true false false true s = refl
     by true false false false s = refl
 
-pub admit-paper : (m b : List ℕ) → admittedPaper (admitted m b) ≡ firstRow (admitRows m b)
+pub admit-paper : (m b : List ℕ) → admittedTold (admitted m b) ≡ firstRow (admitRows m b)
 unfolding admitted admitRows isSound
 admit-paper m b =
     by (eqb (firstRow (messageRows m) .number) 0)
     ∙ sym (rows-append (messageRows m) (bookRows (delimsOf m) (mshOf m) b) 0 (message-numbered m))
   where
-    by : (sound : Bool) → admittedPaper (cond sound (admittedBy (delimsOf m) (mshOf m) b) (Unreadable (readingOf (firstRow (messageRows m))))) ≡ cond sound (firstRow (bookRows (delimsOf m) (mshOf m) b)) (firstRow (messageRows m))
+    by : (sound : Bool) → admittedTold (cond sound (admittedBy (delimsOf m) (mshOf m) b) (Unreadable (readingOf (firstRow (messageRows m))))) ≡ cond sound (firstRow (bookRows (delimsOf m) (mshOf m) b)) (firstRow (messageRows m))
     by true = book-paper (delimsOf m) (mshOf m) b
     by false = paper-reading m
 
@@ -67,7 +67,7 @@ unfolding admitRows messageRows formRows bookRows
 admit-numbered m b = (refl, (refl, (refl, (refl, (refl, (refl, (refl, (refl, (refl, tt)))))))))
 
 -- the number is k exactly when row k is the first of the nine to hold
-pub admit-exactly : (m b : List ℕ) (k : ℕ) → (admittedPaper (admitted m b) .number ≡ suc k) ↔ First (admitRows m b) k
+pub admit-exactly : (m b : List ℕ) (k : ℕ) → (admittedTold (admitted m b) .number ≡ suc k) ↔ First (admitRows m b) k
 admit-exactly m b k =
     let law = row-exactly (admitRows m b) (admit-numbered m b) k in
     let same = ap (λ (a : Told). a .number) (admit-paper m b) in

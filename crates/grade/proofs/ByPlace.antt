@@ -1,4 +1,4 @@
--- The walk, which carries counts and the last name along, gives the findings by place. Assumes nothing.
+-- The walk over the segments, which carries counts and the last name along, gives the findings by place. Assumes nothing.
 use Prim.Native.Nat.{ℕ, zero, suc, _+_, _≤_, _<_}
 use mathlib.Core.Path.{_≡_, refl, sym, ap, ap₂, _∙_}
 use mathlib.Core.Bool.{Bool, true, false, cond, _&&_}
@@ -12,12 +12,12 @@ use lib.Seq.{getD-set-same, getD-set-other}
 use Rattle.hl7.specs.Bytes.{same}
 use Rattle.hl7.specs.Place.{delimsOf, segmentsOf}
 use Rattle.grade.specs.Strict.{keep, countFrom, pairsFrom}
-use Rattle.grade.specs.Rule.{segmentOf, segmentNames, numberFrom, otherNumber}
+use Rattle.grade.specs.Rule.{nameOfLetters, segmentNames, numberFrom, otherNumber}
 use Rattle.grade.specs.Standing.{noRule}
-use Rattle.grade.specs.Order.{nameOf, nameAt, nameBefore, earlier, counted, atEnd, outOfOrder}
+use Rattle.grade.specs.Order.{nameOf, nameAt, nameBefore, earlier, counted, theEnd, outOfOrder}
 use Rattle.grade.specs.Broken.{breaksRule}
-use Rattle.grade.specs.Findings.{isAbout, ruleOf, segmentAt, named, valuesAt, orderBroken, numberAt, findingAt, findingOf, breaksAt, breaks, turns, findings}
-use Rattle.grade.specs.Rest.{brokenValues, valueFinding, ofRule, ofRules, orderFinding, ofOrder, walk}
+use Rattle.grade.specs.Findings.{isAbout, ruleNumbered, segmentAt, named, valuesAt, orderBroken, ordinalAt, findingAt, findingOf, breaksAt, breaks, turns, findings}
+use Rattle.grade.specs.Rest.{brokenValues, valueFinding, ofRule, ofRules, orderFinding, ofOrder, gradeSegments}
 use Rattle.grade.specs.declared.rule.Rule.{Rule}
 use Rattle.grade.specs.declared.finding.Finding.{Finding}
 
@@ -92,8 +92,8 @@ name-at [] n h = absurd (omega arith)
 name-at (x ∷ s) zero h = refl
 name-at (x ∷ s) (suc n) h = name-at s n (omega arith)
 
-name-at-end : (s : List (List ℕ)) (n : ℕ) → n ≡ length s → nameAt s n ≡ atEnd
-name-at-end s n e = List·getD-eq-default (map nameOf s) atEnd (omega (arith, length-map s nameOf))
+name-at-end : (s : List (List ℕ)) (n : ℕ) → n ≡ length s → nameAt s n ≡ theEnd
+name-at-end s n e = List·getD-eq-default (map nameOf s) theEnd (omega (arith, length-map s nameOf))
 
 -- a name that is none of the texts, which count from n, has the number of any other
 other-from : (name : List ℕ) (texts : List (List ℕ)) (n : ℕ) → n + length texts ≤ 10 → counted (numberFrom n name texts) ≡ false → numberFrom n name texts ≡ otherNumber
@@ -106,7 +106,7 @@ other-from name (text ∷ texts) n h e = by (same name text) (other-from name te
     by false ih e = ih e
 
 uncounted-name : (segment : List ℕ) → counted (nameOf segment) ≡ false → nameOf segment ≡ otherNumber
-unfolding segmentOf segmentNames
+unfolding nameOfLetters segmentNames
 uncounted-name segment e = other-from _ segmentNames 0 (omega arith) e
 
 module _ (o : ℕ → ℕ → Bool) (c : List Rule) (t : List (List (List ℕ))) (m : List ℕ) where
@@ -127,32 +127,32 @@ module _ (o : ℕ → ℕ → Bool) (c : List Rule) (t : List (List (List ℕ)))
     abbrev values : ℕ → List ℕ
     values j = countFrom 0 (turns o c t m n j)
 
-    rules-found : (rules : List Rule) (i : ℕ) → Agrees noRule (ruleOf o c t m) rules i → found here test (pairsFrom (suc i) (length rules) values) ≡ rulesAt (named o c t m n) (numberAt o c t m n) (segmentAt o c t m n) i rules
+    rules-found : (rules : List Rule) (i : ℕ) → Agrees noRule (ruleNumbered o c t m) rules i → found here test (pairsFrom (suc i) (length rules) values) ≡ rulesAt (named o c t m n) (ordinalAt o c t m n) (segmentAt o c t m n) i rules
     unfolding ofRules keep pairsFrom
     rules-found [] i h = refl
     rules-found (rule ∷ rules) i h =
         found-pairs here test (suc i) (length rules) values
-        ∙ ap₂ {C = List Finding} _++_ one (rules-found rules (suc i) (agrees-tail noRule (ruleOf o c t m) rule rules i h))
+        ∙ ap₂ {C = List Finding} _++_ one (rules-found rules (suc i) (agrees-tail noRule (ruleNumbered o c t m) rule rules i h))
       where
-        one : found (λ (r : ℕ). findingAt o c t m n (suc i) r) (λ (r : ℕ). breaksAt o c t m n (suc i) r) (values (suc i)) ≡ ofRule (delimsOf m) t (named o c t m n) (numberAt o c t m n) (segmentAt o c t m n) (suc i) rule
+        one : found (λ (r : ℕ). findingAt o c t m n (suc i) r) (λ (r : ℕ). breaksAt o c t m n (suc i) r) (values (suc i)) ≡ ofRule (delimsOf m) t (named o c t m n) (ordinalAt o c t m n) (segmentAt o c t m n) (suc i) rule
         one =
-            let this = ruleOf o c t m i in
-            rule-found (breaksRule t this) (valueFinding (named o c t m n) (numberAt o c t m n) this (suc i)) (λ (r : ℕ). getD (valuesAt o c t m n i) r []) (isAbout this (named o c t m n)) (valuesAt o c t m n i) (agrees-all [] _ (valuesAt o c t m n i) (λ k. refl))
-            ∙ ap (ofRule (delimsOf m) t (named o c t m n) (numberAt o c t m n) (segmentAt o c t m n) (suc i)) (sym (agrees-head noRule (ruleOf o c t m) rule rules i h))
+            let this = ruleNumbered o c t m i in
+            rule-found (breaksRule t this) (valueFinding (named o c t m n) (ordinalAt o c t m n) this (suc i)) (λ (r : ℕ). getD (valuesAt o c t m n i) r []) (isAbout this (named o c t m n)) (valuesAt o c t m n i) (agrees-all [] _ (valuesAt o c t m n i) (λ k. refl))
+            ∙ ap (ofRule (delimsOf m) t (named o c t m n) (ordinalAt o c t m n) (segmentAt o c t m n) (suc i)) (sym (agrees-head noRule (ruleNumbered o c t m) rule rules i h))
 
     -- at a name that does not count there are none
-    rules-none : (name number : ℕ) (segment : List ℕ) (rules : List Rule) (i : ℕ) → counted name ≡ false → rulesAt name number segment i rules ≡ []
+    rules-none : (name ordinal : ℕ) (segment : List ℕ) (rules : List Rule) (i : ℕ) → counted name ≡ false → rulesAt name ordinal segment i rules ≡ []
     unfolding ofRules
-    rules-none name number segment [] i e = refl
-    rules-none name number segment (rule ∷ rules) i e = rw e (rules-none name number segment rules (suc i) e)
+    rules-none name ordinal segment [] i e = refl
+    rules-none name ordinal segment (rule ∷ rules) i e = rw e (rules-none name ordinal segment rules (suc i) e)
 
-    all-found : found here test (pairsFrom 0 (suc (length c)) values) ≡ ofOrder (outOfOrder o) (nameBefore s n) (named o c t m n) (numberAt o c t m n) ++ rulesAt (named o c t m n) (numberAt o c t m n) (segmentAt o c t m n) 0 c
+    all-found : found here test (pairsFrom 0 (suc (length c)) values) ≡ ofOrder (outOfOrder o) (nameBefore s n) (named o c t m n) (ordinalAt o c t m n) ++ rulesAt (named o c t m n) (ordinalAt o c t m n) (segmentAt o c t m n) 0 c
     unfolding keep countFrom
     all-found =
         found-pairs here test 0 (length c) values
-        ∙ ap₂ {C = List Finding} _++_ (order (orderBroken o c t m n)) (rules-found c 0 (agrees-all noRule (ruleOf o c t m) c (λ k. refl)))
+        ∙ ap₂ {C = List Finding} _++_ (order (orderBroken o c t m n)) (rules-found c 0 (agrees-all noRule (ruleNumbered o c t m) c (λ k. refl)))
       where
-        order : (b : Bool) → map (λ (r : ℕ). findingAt o c t m n 0 r) (cond b (0 ∷ []) []) ≡ cond b (orderFinding (named o c t m n) (numberAt o c t m n) ∷ []) []
+        order : (b : Bool) → map (λ (r : ℕ). findingAt o c t m n 0 r) (cond b (0 ∷ []) []) ≡ cond b (orderFinding (named o c t m n) (ordinalAt o c t m n) ∷ []) []
         order true = refl
         order false = refl
 
@@ -189,29 +189,29 @@ module _ (o : ℕ → ℕ → Bool) (c : List Rule) (t : List (List (List ℕ)))
 
   -- ---- the places from n on, those of n first
   abbrev ofPlace : ℕ → ℕ → ℕ → List ℕ → List Finding
-  ofPlace last name number segment = ofOrder (outOfOrder o) last name number ++ rulesAt name number segment 0 c
+  ofPlace last name ordinal segment = ofOrder (outOfOrder o) last name ordinal ++ rulesAt name ordinal segment 0 c
 
   abbrev laterPlaces : ℕ → ℕ → List Finding
   laterPlaces n k = found (findingOf o c t m) (breaks o c t m) (pairsFrom n k at)
 
-  place-found : (n k last name number : ℕ) (segment : List ℕ) → last ≡ nameBefore s n → name ≡ nameAt s n → number ≡ numberAt o c t m n → segment ≡ segmentAt o c t m n → ofPlace last name number segment ++ laterPlaces (suc n) k ≡ laterPlaces n (suc k)
-  place-found n k last name number segment p q r w =
+  place-found : (n k last name ordinal : ℕ) (segment : List ℕ) → last ≡ nameBefore s n → name ≡ nameAt s n → ordinal ≡ ordinalAt o c t m n → segment ≡ segmentAt o c t m n → ofPlace last name ordinal segment ++ laterPlaces (suc n) k ≡ laterPlaces n (suc k)
+  place-found n k last name ordinal segment p q r w =
       (λ i. ofPlace (p i) (q i) (r i) (w i) ++ laterPlaces (suc n) k)
       ∙ sym (found-pairs (findingOf o c t m) (breaks o c t m) n k at ∙ ap (λ (l : List Finding). l ++ laterPlaces (suc n) k) (all-found n))
 
-  number-at : (n name number : ℕ) → name ≡ nameAt s n → counted name ≡ true → number ≡ suc (earlier s name n) → number ≡ numberAt o c t m n
-  number-at n name number q e h = h ∙ sym (rw (← q, e))
+  number-at : (n name ordinal : ℕ) → name ≡ nameAt s n → counted name ≡ true → ordinal ≡ suc (earlier s name n) → ordinal ≡ ordinalAt o c t m n
+  number-at n name ordinal q e h = h ∙ sym (rw (← q, e))
 
-  no-number-at : (n name : ℕ) → name ≡ nameAt s n → counted name ≡ false → 0 ≡ numberAt o c t m n
+  no-number-at : (n name : ℕ) → name ≡ nameAt s n → counted name ≡ false → 0 ≡ ordinalAt o c t m n
   no-number-at n name q e = sym (rw (← q, e))
 
-  end-found : (n last : ℕ) → n ≡ length s → last ≡ nameBefore s n → ofOrder (outOfOrder o) last atEnd 0 ≡ laterPlaces n 1
+  end-found : (n last : ℕ) → n ≡ length s → last ≡ nameBefore s n → ofOrder (outOfOrder o) last theEnd 0 ≡ laterPlaces n 1
   unfolding keep pairsFrom
   end-found n last e before =
-      let name : atEnd ≡ nameAt s n = sym (name-at-end s n e) in
-      sym (append-nil (ofOrder (outOfOrder o) last atEnd 0)) ∙ ap (λ (l : List Finding). ofOrder (outOfOrder o) last atEnd 0 ++ l) (sym (rules-none n atEnd 0 (segmentAt o c t m n) c 0 refl))
-      ∙ sym (append-nil (ofPlace last atEnd 0 (segmentAt o c t m n)))
-      ∙ place-found n 0 last atEnd 0 (segmentAt o c t m n) before name (no-number-at n atEnd name refl) refl
+      let name : theEnd ≡ nameAt s n = sym (name-at-end s n e) in
+      sym (append-nil (ofOrder (outOfOrder o) last theEnd 0)) ∙ ap (λ (l : List Finding). ofOrder (outOfOrder o) last theEnd 0 ++ l) (sym (rules-none n theEnd 0 (segmentAt o c t m n) c 0 refl))
+      ∙ sym (append-nil (ofPlace last theEnd 0 (segmentAt o c t m n)))
+      ∙ place-found n 0 last theEnd 0 (segmentAt o c t m n) before name (no-number-at n theEnd name refl) refl
 
   -- a segment that does not count gives nothing
   quiet : (last : ℕ) (segment : List ℕ) → ofPlace last otherNumber 0 segment ≡ []
@@ -222,10 +222,10 @@ module _ (o : ℕ → ℕ → Bool) (c : List Rule) (t : List (List (List ℕ)))
       by false = refl
 
   abbrev walked : List ℕ → ℕ → List (List ℕ) → List Finding
-  walked = walk (outOfOrder o) (delimsOf m) c t
+  walked = gradeSegments (outOfOrder o) (delimsOf m) c t
 
   walk-found : (segments : List (List ℕ)) (n last : ℕ) (counts : List ℕ) → n + length segments ≡ length s → Agrees [] (segmentAt o c t m) segments n → Carried n last counts → walked counts last segments ≡ laterPlaces n (suc (length segments))
-  unfolding walk
+  unfolding gradeSegments
   walk-found [] n last counts len agrees old = end-found n last (omega arith) (old .before)
   walk-found (segment ∷ segments) n last counts len agrees old = by (counted (nameOf segment)) refl (walk-found segments (suc n))
     where
@@ -241,17 +241,17 @@ module _ (o : ℕ → ℕ → Bool) (c : List Rule) (t : List (List (List ℕ)))
       is-named : name ≡ nameAt s n
       is-named = ap nameOf here-is ∙ sym (name-at s n (omega arith))
 
-      number : ℕ
-      number = suc (getD counts name 0)
+      ordinal : ℕ
+      ordinal = suc (getD counts name 0)
 
       other : counted name ≡ false → name ≡ otherNumber
       other = uncounted-name segment
 
-      by : (b : Bool) → counted name ≡ b → ((last′ : ℕ) (counts′ : List ℕ) → suc n + length segments ≡ length s → Agrees [] (segmentAt o c t m) segments (suc n) → Carried (suc n) last′ counts′ → walked counts′ last′ segments ≡ laterPlaces (suc n) (suc (length segments))) → cond b (ofOrder (outOfOrder o) last name number ++ (rulesAt name number segment 0 c ++ walked (set counts name number) name segments)) (walked counts last segments) ≡ laterPlaces n (suc (suc (length segments)))
+      by : (b : Bool) → counted name ≡ b → ((last′ : ℕ) (counts′ : List ℕ) → suc n + length segments ≡ length s → Agrees [] (segmentAt o c t m) segments (suc n) → Carried (suc n) last′ counts′ → walked counts′ last′ segments ≡ laterPlaces (suc n) (suc (length segments))) → cond b (ofOrder (outOfOrder o) last name ordinal ++ (rulesAt name ordinal segment 0 c ++ walked (set counts name ordinal) name segments)) (walked counts last segments) ≡ laterPlaces n (suc (suc (length segments)))
       by true e ih =
-          ap (λ (l : List Finding). ofOrder (outOfOrder o) last name number ++ (rulesAt name number segment 0 c ++ l)) (ih name (set counts name number) (omega arith) later (carried-on n last name counts (sym is-named) (ltb-true name 10 e) old))
-          ∙ sym (append-assoc (ofOrder (outOfOrder o) last name number) (rulesAt name number segment 0 c) (laterPlaces (suc n) (suc (length segments))))
-          ∙ place-found n (suc (length segments)) last name number segment (old .before) is-named (number-at n name number is-named e (ap suc (old .each name (ltb-true name 10 e)))) here-is
+          ap (λ (l : List Finding). ofOrder (outOfOrder o) last name ordinal ++ (rulesAt name ordinal segment 0 c ++ l)) (ih name (set counts name ordinal) (omega arith) later (carried-on n last name counts (sym is-named) (ltb-true name 10 e) old))
+          ∙ sym (append-assoc (ofOrder (outOfOrder o) last name ordinal) (rulesAt name ordinal segment 0 c) (laterPlaces (suc n) (suc (length segments))))
+          ∙ place-found n (suc (length segments)) last name ordinal segment (old .before) is-named (number-at n name ordinal is-named e (ap suc (old .each name (ltb-true name 10 e)))) here-is
       by false e ih =
           ih last counts (omega arith) later (carried-over n last counts (sym is-named ∙ other e) old)
           ∙ ap (λ (l : List Finding). l ++ laterPlaces (suc n) (suc (length segments))) (sym (ap (λ (k : ℕ). ofPlace last k 0 segment) (other e) ∙ quiet last segment))
@@ -263,6 +263,6 @@ zeros zero k = refl
 zeros (suc n) zero = refl
 zeros (suc n) (suc k) = zeros n k
 
-pub walk-all : (o : ℕ → ℕ → Bool) (c : List Rule) (t : List (List (List ℕ))) (m : List ℕ) → walk (outOfOrder o) (delimsOf m) c t (replicate 10 0) otherNumber (segmentsOf m) ≡ findings o c t m
+pub walk-all : (o : ℕ → ℕ → Bool) (c : List Rule) (t : List (List (List ℕ))) (m : List ℕ) → gradeSegments (outOfOrder o) (delimsOf m) c t (replicate 10 0) otherNumber (segmentsOf m) ≡ findings o c t m
 unfolding findings nameBefore earlier
 walk-all o c t m = walk-found o c t m (segmentsOf m) 0 otherNumber _ (omega arith) (agrees-all [] (segmentAt o c t m) (segmentsOf m) (λ k. refl)) (record { before = refl; many = refl; each = λ k h. zeros 10 k })

@@ -19,9 +19,9 @@ use Rattle.grade.specs.declared.rule.KindRead.{KindRead}
 use Rattle.grade.specs.declared.rule.RuleRead.{RuleRead}
 use Rattle.grade.specs.Limits.{headSize, bookLimit, bookVersion, sectionLimit, keyLimit, ruleLimit, ruleSize, setLimit, codeLimit, codeCountLimit, segmentCount}
 use Rattle.grade.specs.Reader.{found, Reader, run, twoBytes, byte, times}
-use Rattle.grade.specs.Rule.{segmentNames, nameBytes, segmentOf, severityOf, kindOf, kindFits, placeFits, ruleOf, ruleFits}
+use Rattle.grade.specs.Rule.{segmentNames, nameBytes, nameOfLetters, severityOf, kindOf, kindFits, placeFits, ruleOf, ruleFits}
 use Rattle.grade.specs.Book.{plain, text, codeSet, ruleIn, Contents, Sited, section, sections, distinct, keys, headRight, version, malformed, otherVersion, decoded}
-use Rattle.grade.specs.Encoding.{twoBytesOf, joined, textBytes, setBytes, severityByte, kindByte, lastBytes, ruleBytes, sectionBytes, bookBytes, each, textFits, setFits, sectionFits, wellFormed}
+use Rattle.grade.specs.Encoding.{twoBytesOf, spellAll, textBytes, setBytes, severityByte, kindByte, lastBytes, ruleBytes, sectionBytes, bookBytes, each, textFits, setFits, sectionFits, wellFormed}
 use Rattle.grade.proofs.Naming.{letters-name}
 use Rattle.grade.proofs.Parts.{made}
 use Rattle.grade.proofs.Holding.{place-limits}
@@ -63,16 +63,16 @@ module _ (b : List ℕ) where
   Reads {A} p spell fits = (at : ℕ) (a : A) (rest : List ℕ) → fits a ≡ true → drop at b ≡ spell a ++ rest → p b at ≡ found a (at + length (spell a))
 
   read-row : {A : Type 0} (p : Reader A) (spell : A → List ℕ) (fits : A → Bool) → Reads p spell fits →
-      (xs : List A) (at : ℕ) (rest : List ℕ) → each fits xs ≡ true → drop at b ≡ joined spell xs ++ rest → times (length xs) p b at ≡ found xs (at + length (joined spell xs))
+      (xs : List A) (at : ℕ) (rest : List ℕ) → each fits xs ≡ true → drop at b ≡ spellAll spell xs ++ rest → times (length xs) p b at ≡ found xs (at + length (spellAll spell xs))
   unfolding times
   read-row p spell fits f [] at rest h e = rw add-zero
   read-row p spell fits f (x ∷ xs) at rest h e =
       let t = and-both (fits x) (each fits xs) h in
-      let g = e ∙ append-assoc (spell x) (joined spell xs) rest in
+      let g = e ∙ append-assoc (spell x) (spellAll spell xs) rest in
       let m = at + length (spell x) in
-      let i = read-row p spell fits f xs m rest (t .1) (past at (spell x) (joined spell xs ++ rest) g) in
-      let l : m + length (joined spell xs) ≡ at + length (spell x ++ joined spell xs) = omega (arith, length-append (spell x) (joined spell xs)) in
-      rw (f at x (joined spell xs ++ rest) (t .0) g, i, l)
+      let i = read-row p spell fits f xs m rest (t .1) (past at (spell x) (spellAll spell xs ++ rest) g) in
+      let l : m + length (spellAll spell xs) ≡ at + length (spell x ++ spellAll spell xs) = omega (arith, length-append (spell x) (spellAll spell xs)) in
+      rw (f at x (spellAll spell xs ++ rest) (t .0) g, i, l)
 
   read-text : (limit : ℕ) → Reads (text limit) textBytes (textFits limit)
   unfolding text
@@ -87,9 +87,9 @@ module _ (b : List ℕ) where
   unfolding codeSet
   read-set at codes rest h e =
       let t = and-both (within 1 codeCountLimit (length codes)) (each (textFits codeLimit) codes) h in
-      let f = past at (twoBytesOf (length codes)) (joined textBytes codes ++ rest) e in
-      let l : at + 2 + length (joined textBytes codes) ≡ at + length (setBytes codes) = omega arith in
-      rw (read-two at (length codes) (joined textBytes codes ++ rest) e, t .0, read-row (text codeLimit) textBytes (textFits codeLimit) (read-text codeLimit) codes (at + 2) rest (t .1) f, l)
+      let f = past at (twoBytesOf (length codes)) (spellAll textBytes codes ++ rest) e in
+      let l : at + 2 + length (spellAll textBytes codes) ≡ at + length (setBytes codes) = omega arith in
+      rw (read-two at (length codes) (spellAll textBytes codes ++ rest) e, t .0, read-row (text codeLimit) textBytes (textFits codeLimit) (read-text codeLimit) codes (at + 2) rest (t .1) f, l)
 
 -- ---- rules
 
@@ -129,7 +129,7 @@ rule-ten : (r : Rule) (name : List ℕ) (x y z : ℕ) → name ≡ x ∷ y ∷ z
     length (name ++ (r .place .field ∷ r .place .component ∷ kindByte (r .kind) ∷ severityByte (r .severity) ∷ lastBytes (r .kind))) ≡ ruleSize
 rule-ten r name x y z e = rw (e, last-three (r .kind))
 
-rule-back : (sets : ℕ) (r : Rule) (name : List ℕ) (x y z : ℕ) → name ≡ x ∷ y ∷ z ∷ [] → segmentOf x y z ≡ r .place .segment → ruleFits sets r ≡ true →
+rule-back : (sets : ℕ) (r : Rule) (name : List ℕ) (x y z : ℕ) → name ≡ x ∷ y ∷ z ∷ [] → nameOfLetters x y z ≡ r .place .segment → ruleFits sets r ≡ true →
     ruleOf sets (name ++ (r .place .field ∷ r .place .component ∷ kindByte (r .kind) ∷ severityByte (r .severity) ∷ lastBytes (r .kind))) ≡ RuleRead.Is r
 unfolding ruleOf
 rule-back sets r name x y z e s h =
@@ -156,8 +156,8 @@ module _ (b : List ℕ) where
   read-section at c rest h e =
       let n = length (c .rules) in
       let m = length (c .sets) in
-      let rs = joined ruleBytes (c .rules) in
-      let ss = joined setBytes (c .sets) in
+      let rs = spellAll ruleBytes (c .rules) in
+      let ss = spellAll setBytes (c .sets) in
       let t = and-both _ (each setFits (c .sets)) h in
       let u = and-both _ (each (ruleFits m) (c .rules)) (t .0) in
       let v = and-both (textFits keyLimit (c .key)) (leb n ruleLimit && leb m setLimit) (u .0) in
@@ -176,17 +176,17 @@ module _ (b : List ℕ) where
         rw (read-text b keyLimit at (c .key) (body ++ rest) (v .0) e1, read-two b k n _ e2, read-byte b (k + 2) m _ e3, v .1, rules, sets, l),
       )
 
-  read-sections : (cs : List Contents) (at : ℕ) → each sectionFits cs ≡ true → drop at b ≡ joined sectionBytes cs →
-      (all : List Sited) × (map (λ (s : Sited). s .contents) all ≡ cs) × (times (length cs) section b at ≡ found all (at + length (joined sectionBytes cs)))
+  read-sections : (cs : List Contents) (at : ℕ) → each sectionFits cs ≡ true → drop at b ≡ spellAll sectionBytes cs →
+      (all : List Sited) × (map (λ (s : Sited). s .contents) all ≡ cs) × (times (length cs) section b at ≡ found all (at + length (spellAll sectionBytes cs)))
   unfolding times
   read-sections [] at h e = ([], refl, rw add-zero)
   read-sections (c ∷ cs) at h e =
       let t = and-both (sectionFits c) (each sectionFits cs) h in
-      let f = read-section at c (joined sectionBytes cs) (t .0) e in
+      let f = read-section at c (spellAll sectionBytes cs) (t .0) e in
       let m = at + length (sectionBytes c) in
-      let i = read-sections cs m (t .1) (past b at (sectionBytes c) (joined sectionBytes cs) e) in
-      let l : m + length (joined sectionBytes cs) ≡ at + length (sectionBytes c ++ joined sectionBytes cs) =
-      omega (arith, length-append (sectionBytes c) (joined sectionBytes cs)) in
+      let i = read-sections cs m (t .1) (past b at (sectionBytes c) (spellAll sectionBytes cs) e) in
+      let l : m + length (spellAll sectionBytes cs) ≡ at + length (sectionBytes c ++ spellAll sectionBytes cs) =
+      omega (arith, length-append (sectionBytes c) (spellAll sectionBytes cs)) in
       (f .0 ∷ i .0, ap₂ _∷_ (f .1) (i .1), rw (f .2, i .2, l))
 
 -- what a well-formed list of sections asks
@@ -209,11 +209,11 @@ unfolding bookBytes sections
 read-book cs f =
     let b = bookBytes cs in
     let i = read-sections b cs (headSize + 1) (f .fit) refl in
-    let l : headSize + 1 + length (joined sectionBytes cs) ≡ length b = omega arith in
+    let l : headSize + 1 + length (spellAll sectionBytes cs) ≡ length b = omega arith in
     let d : distinct (keys (i .0)) ≡ true = rw (map-keys (i .0), i .1) (f .differ) in (
       i .0,
       i .1,
-      rw (read-byte b headSize (length cs) (joined sectionBytes cs) refl, f .few, i .2, l, eq-eqb (length b) (length b) refl, d),
+      rw (read-byte b headSize (length cs) (spellAll sectionBytes cs) refl, f .few, i .2, l, eq-eqb (length b) (length b) refl, d),
     )
 
 head-back : (cs : List Contents) → Formed cs → (headRight (bookBytes cs) ≡ true) × (eqb (version (bookBytes cs)) bookVersion ≡ true)

@@ -9,10 +9,10 @@ use native.Mathlib.Decide.{decLt}
 use lib.ListN.{length, getD, length-map, List·getD-eq-default}
 use lib.Dec.{T, eqb}
 use Rattle.hl7.specs.Place.{segmentsOf}
-use Rattle.grade.specs.Order.{counted, nameAt, nameOf, atEnd}
+use Rattle.grade.specs.Order.{counted, nameAt, nameOf, theEnd}
 use Rattle.grade.specs.Broken.{breaksRule}
 use Rattle.grade.specs.Strict.{Increasing, keep}
-use Rattle.grade.specs.Findings.{isAbout, Event, orderAt, ruleAt, Earlier, Breaks, BreaksAt, Demand3, breaks, breaksAt, turns, places, findings, findingOf, named, valuesAt, ruleOf}
+use Rattle.grade.specs.Findings.{isAbout, Event, orderAt, ruleAt, Earlier, Breaks, BreaksAt, Demand3, breaks, breaksAt, turns, places, findings, findingOf, named, valuesAt, ruleNumbered}
 use Rattle.grade.specs.declared.rule.Rule.{Rule}
 use Rattle.grade.specs.declared.finding.Finding.{Finding}
 use Rattle.grade.proofs.Increasing.{by-members, lex-asym, lt-asym, mem-keep, increasing-keep, mem-count, increasing-count, mem-pairs, increasing-pairs}
@@ -30,7 +30,7 @@ counted-within s n h = by (decLt n (length s))
   where
     by : Dec (n < length s) → n < length s
     by (yes p) = p
-    by (no p) = absurd (subst (λ (k : ℕ). T (counted k)) (List·getD-eq-default (map nameOf s) atEnd (subst (λ (k : ℕ). k ≤ n) (sym (length-map s nameOf)) (omega arith))) h)
+    by (no p) = absurd (subst (λ (k : ℕ). T (counted k)) (List·getD-eq-default (map nameOf s) theEnd (subst (λ (k : ℕ). k ≤ n) (sym (length-map s nameOf)) (omega arith))) h)
 
 module _ (o : ℕ → ℕ → Bool) (c : List Rule) (t : List (List (List ℕ))) (m : List ℕ) where
   places-increasing : Increasing Earlier (places o c t m)
@@ -52,7 +52,7 @@ module _ (o : ℕ → ℕ → Bool) (c : List Rule) (t : List (List (List ℕ)))
   unfolding Within
   breaks-by-test n zero r = (λ h. (h .0 .0, omega arith, h .1), λ h. ((h .0, omega arith, omega arith), h .2))
   breaks-by-test n (suc i) r =
-      let rule = ruleOf o c t m i in
+      let rule = ruleNumbered o c t m i in
       let name = named o c t m n in
       (λ h. (counted-within (segmentsOf m) n (T-fst (counted name) (eqb (rule .place .segment) name) (T-fst (isAbout rule name) (breaksRule t rule r (getD (valuesAt o c t m n i) r [])) (h .1))), h .0 .1, h .0 .2, h .1), λ h. ((omega arith, h .1, h .2), h .3))
 

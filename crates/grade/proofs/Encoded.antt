@@ -19,10 +19,10 @@ use Rattle.grade.specs.declared.rule.SeverityRead.{SeverityRead}
 use Rattle.grade.specs.declared.rule.KindRead.{KindRead}
 use Rattle.grade.specs.declared.rule.RuleRead.{RuleRead}
 use Rattle.grade.specs.Limits.{headSize, bookLimit, bookVersion, keyLimit, codeLimit, ruleSize}
-use Rattle.grade.specs.Reader.{Reading, fault, found, isFound, itemsOf, Reader, pair, times}
+use Rattle.grade.specs.Reader.{Parsed, fault, found, isFound, itemsOf, Reader, pair, times}
 use Rattle.grade.specs.Rule.{severityOf, unused, timeDigits, kindIf, kindOf, ruleOf, ruleFits}
 use Rattle.grade.specs.Book.{text, codeSet, ruleIn, Contents, Sited, section, sections, keys, headRight, version, malformed, otherVersion, decoded}
-use Rattle.grade.specs.Encoding.{twoBytesOf, joined, textBytes, setBytes, severityByte, kindByte, lastBytes, ruleBytes, sectionBytes, bookBytes, each, textFits, setFits, sectionFits, wellFormed}
+use Rattle.grade.specs.Encoding.{twoBytesOf, spellAll, textBytes, setBytes, severityByte, kindByte, lastBytes, ruleBytes, sectionBytes, bookBytes, each, textFits, setFits, sectionFits, wellFormed}
 use Rattle.grade.proofs.Readings.{found-same, row-found, row-length, cond-gave}
 use Rattle.grade.proofs.Naming.{name-letters}
 use Rattle.grade.proofs.Parts.{TextRead, text-read, set-is, rule-found, rule-made, read-fits, section-parts, set-count, BookParts, book-parts}
@@ -41,16 +41,16 @@ abbrev pub Spells : {A : Type 0} → List ℕ → Reader A → (A → List ℕ) 
 Spells {A} b p spell = (at : ℕ) (a : A) (end : ℕ) → p b at ≡ found a end → Spelt b at (spell a) end
 
 spells-row : {A : Type 0} (b : List ℕ) (p : Reader A) (spell : A → List ℕ) → Spells b p spell →
-    (n at : ℕ) (xs : List A) (end : ℕ) → times n p b at ≡ found xs end → Spelt b at (joined spell xs) end
+    (n at : ℕ) (xs : List A) (end : ℕ) → times n p b at ≡ found xs end → Spelt b at (spellAll spell xs) end
 unfolding times
 spells-row {A} b p spell f zero at xs end q =
     let w = found-same [] xs at end q in
-    record { left = ap (λ (k : ℕ). drop k b) (w .1) ∙ ap (λ (ys : List A). joined spell ys ++ drop end b) (w .0) }
+    record { left = ap (λ (k : ℕ). drop k b) (w .1) ∙ ap (λ (ys : List A). spellAll spell ys ++ drop end b) (w .0) }
 spells-row {A} b p spell f (suc n) at xs end q =
     let s = row-found p b (suc n) at xs end (omega arith) q in
     let m : suc n - 1 ≡ n = omega arith in
     let x = spells-row b p spell f n (s .1) (s .2) end (rw m at (s .4)) in
-    record { left = spelt-join (f at (s .0) (s .1) (s .3)) x .left ∙ ap (λ (ys : List A). joined spell ys ++ drop end b) (sym (s .5)) }
+    record { left = spelt-join (f at (s .0) (s .1) (s .3)) x .left ∙ ap (λ (ys : List A). spellAll spell ys ++ drop end b) (sym (s .5)) }
 
 -- a part, and what is left after it
 part-left : (b : List ℕ) (at n : ℕ) → drop at b ≡ slice at (at + n) b ++ drop (at + n) b
@@ -206,9 +206,9 @@ pub map-keys : (all : List Sited) → keys all ≡ map (λ (c : Contents). c .ke
 map-keys [] = refl
 map-keys (s ∷ rest) = ap (λ (ks : List (List ℕ)). s .contents .key ∷ ks) (map-keys rest)
 
-joined-map : (all : List Sited) → joined (λ (c : Sited). sectionBytes (c .contents)) all ≡ joined sectionBytes (map (λ (c : Sited). c .contents) all)
-joined-map [] = refl
-joined-map (c ∷ rest) = ap (λ (xs : List ℕ). sectionBytes (c .contents) ++ xs) (joined-map rest)
+spell-map : (all : List Sited) → spellAll (λ (c : Sited). sectionBytes (c .contents)) all ≡ spellAll sectionBytes (map (λ (c : Sited). c .contents) all)
+spell-map [] = refl
+spell-map (c ∷ rest) = ap (λ (xs : List ℕ). sectionBytes (c .contents) ++ xs) (spell-map rest)
 
 length-map : {A B : Type 0} (f : A → B) (xs : List A) → length (map f xs) ≡ length xs
 length-map f [] = refl
@@ -220,11 +220,11 @@ said = map (λ (c : Sited). c .contents)
 said-length : (b : List ℕ) (all : List Sited) → BookParts b all → length (said all) ≡ getD b headSize 0
 said-length b all p = length-map (λ (c : Sited). c .contents) all ∙ row-length section b (getD b headSize 0) (headSize + 1) all (length b) (p .read)
 
-sections-spelt : (b : List ℕ) → Bytes b → (all : List Sited) → BookParts b all → drop headSize b ≡ length (said all) ∷ joined sectionBytes (said all)
+sections-spelt : (b : List ℕ) → Bytes b → (all : List Sited) → BookParts b all → drop headSize b ≡ length (said all) ∷ spellAll sectionBytes (said all)
 sections-spelt b small all p =
     let x = spells-row b section (λ (c : Sited). sectionBytes (c .contents)) (spells-section b small) (getD b headSize 0) (headSize + 1) all (length b) (p .read) in
     rest-at b headSize (p .room)
-    ∙ ap₂ _∷_ (sym (said-length b all p)) (x .left ∙ ap₂ _++_ (joined-map all) (drop-length b) ∙ append-nil (joined sectionBytes (said all)))
+    ∙ ap₂ _∷_ (sym (said-length b all p)) (x .left ∙ ap₂ _++_ (spell-map all) (drop-length b) ∙ append-nil (spellAll sectionBytes (said all)))
 
 -- mark and version
 head-spelt : (b : List ℕ) → headRight b ≡ true → eqb (version b) bookVersion ≡ true → b ≡ bytes "VXB" ++ (twoBytesOf bookVersion ++ drop headSize b)
@@ -306,11 +306,11 @@ pub encoded : (b : List ℕ) → Bytes b → malformed b ≡ false → otherVers
 unfolding malformed otherVersion decoded bookBytes
 encoded b small m v = go (headRight b) (sections b headSize) refl refl (not-false (eqb (version b) bookVersion) v) m
   where
-    go : (t : Bool) (r : Reading (List Sited)) → headRight b ≡ t → sections b headSize ≡ r → eqb (version b) bookVersion ≡ true →
+    go : (t : Bool) (r : Parsed (List Sited)) → headRight b ≡ t → sections b headSize ≡ r → eqb (version b) bookVersion ≡ true →
         (not t || eqb (version b) bookVersion && not (isFound r)) ≡ false → Encoded b
     go true (found all end) h e v m =
         let p = book-parts b all end e in
-        let d : said all ≡ decoded b = ap (λ (r : Reading (List Sited)). said (itemsOf r)) (sym e) in
+        let d : said all ≡ decoded b = ap (λ (r : Parsed (List Sited)). said (itemsOf r)) (sym e) in
         let w = head-spelt b h v ∙ ap (λ (xs : List ℕ). bytes "VXB" ++ (twoBytesOf bookVersion ++ xs)) (sections-spelt b small all p) in
         record { is = w ∙ ap bookBytes d; fits = ap wellFormed (sym d) ∙ all-fit b all p h w }
     go true fault h e v m = absurd (false≢true (sym m ∙ rw v))

@@ -12,7 +12,7 @@ use Rattle.hl7.specs.Place.{delimsOf, segmentsOf, cutUnless, partOfField, isMsh
 use Rattle.hl7.specs.declared.place.Delims.{Delims}
 use Rattle.hl7.proofs.Cutting.{piece-stands}
 use Rattle.grade.specs.Strict.{keep, countFrom, pairsFrom}
-use Rattle.grade.specs.Findings.{valuesOf, breaks, turns, places, findings, ruleOf, segmentAt}
+use Rattle.grade.specs.Findings.{valuesOf, breaks, turns, places, findings, ruleNumbered, segmentAt}
 use Rattle.grade.specs.declared.rule.Rule.{Rule}
 
 -- ---- the lists that places are made of
@@ -85,7 +85,7 @@ module _ (o : ℕ → ℕ → Bool) (c : List Rule) (t : List (List (List ℕ)))
   turns-few : (n j : ℕ) → turns o c t m n j ≤ length m + 1
   turns-few n zero = omega arith
   turns-few n (suc i) =
-      omega (arith, values-few (delimsOf m) (ruleOf o c t m i) (segmentAt o c t m n), ended-short (cut 13 m) n, part-short 13 m n)
+      omega (arith, values-few (delimsOf m) (ruleNumbered o c t m i) (segmentAt o c t m n), ended-short (cut 13 m) n, part-short 13 m n)
 
   places-few : length (places o c t m) ≤ suc (length (segmentsOf m)) * (suc (length c) * (length m + 1))
   places-few = pairs-few _ _ _ _ (λ n. pairs-few _ _ _ _ (λ j. omega (arith, count-few 0 (turns o c t m n j), turns-few n j)))

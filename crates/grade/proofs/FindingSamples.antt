@@ -6,11 +6,11 @@ use Rattle.hl7.specs.Text.{bytes}
 use Rattle.hl7.specs.Bytes.{same, among, begins}
 use Rattle.hl7.specs.Cut.{cut, ahead, butLast, startAt}
 use Rattle.hl7.specs.Place.{delimsOf, nthOf, cutUnless, partOfField, neverCut, componentOf, repetitionsOf}
-use Rattle.grade.specs.Rule.{segmentNames, numberFrom, segmentOf, errorCode}
+use Rattle.grade.specs.Rule.{segmentNames, numberFrom, nameOfLetters, errorCode}
 use Rattle.grade.specs.Digits.{countWithin, digitRun}
 use Rattle.grade.specs.Calendar.{monthLength, isRealDate}
 use Rattle.grade.specs.Values.{isDate}
-use Rattle.grade.specs.Order.{msh, pid, pd1, nk1, pv1, orc, rxa, rxr, obx, nte, atEnd, nameOf, nameBefore, earlier, isIn, mayFollow}
+use Rattle.grade.specs.Order.{msh, pid, pd1, nk1, pv1, orc, rxa, rxr, obx, nte, theEnd, nameOf, nameBefore, earlier, isIn, mayFollow}
 use Rattle.grade.specs.Broken.{broken, judges, breaksRule, severityLetter}
 use Rattle.grade.specs.Strict.{keep, countFrom, pairsFrom}
 use Rattle.grade.specs.Findings.{findings}
@@ -26,7 +26,7 @@ names :
     map nameOf
     (bytes "MSH" ∷ bytes "PID" ∷ bytes "PD1" ∷ bytes "NK1" ∷ bytes "PV1" ∷ bytes "ORC" ∷ bytes "RXA" ∷ bytes "RXR" ∷ bytes "OBX" ∷ bytes "NTE" ∷ [])
     ≡ msh ∷ pid ∷ pd1 ∷ nk1 ∷ pv1 ∷ orc ∷ rxa ∷ rxr ∷ obx ∷ nte ∷ []
-unfolding segmentOf segmentNames numberFrom same
+unfolding nameOfLetters segmentNames numberFrom same
 names = refl
 
 -- the segments, each with its CR
@@ -39,14 +39,14 @@ rule segment field component kind severity = record { place = record { segment =
 
 -- the order finding of a segment by name and number, and of the end
 abbrev order : ℕ → ℕ → Finding
-order name number = record { name = name; number = number; field = 0; repetition = 0; component = 0; rule = 0; code = 100; severity = severityLetter Error }
+order name ordinal = record { name = name; ordinal = ordinal; field = 0; repetition = 0; component = 0; rule = 0; code = 100; severity = severityLetter Error }
 
 -- rule i is broken at a repetition of the number-th segment of its name
 abbrev breach : ℕ → ℕ → ℕ → Rule → Finding
-breach i number repetition r =
+breach i ordinal repetition r =
     record {
       name = r .place .segment;
-      number = number;
+      ordinal = ordinal;
       field = r .place .field;
       repetition = repetition;
       component = r .place .component;
@@ -91,12 +91,12 @@ sexed = rule pid 8 0 Required Warning
 abbrev table : List Sample
 table =
     unruled (bytes "MSH" ∷ bytes "PID" ∷ bytes "ORC" ∷ bytes "ORC" ∷ bytes "RXA" ∷ []) (order orc 2 ∷ [])
-    ∷ unruled (bytes "MSH" ∷ bytes "PID" ∷ bytes "ORC" ∷ []) (order atEnd 0 ∷ [])
+    ∷ unruled (bytes "MSH" ∷ bytes "PID" ∷ bytes "ORC" ∷ []) (order theEnd 0 ∷ [])
     ∷ unruled (bytes "MSH" ∷ bytes "ZZZ" ∷ bytes "PID" ∷ []) []
     ∷ unruled (bytes "MSH" ∷ bytes "PID" ∷ bytes "RXA" ∷ bytes "OBX" ∷ []) (order rxa 1 ∷ [])
     -- a later MSH is out of order, and PID may follow it
     ∷ unruled (bytes "MSH" ∷ bytes "PID" ∷ bytes "MSH" ∷ bytes "PID" ∷ []) (order msh 2 ∷ [])
-    ∷ unruled (bytes "MSH" ∷ []) (order atEnd 0 ∷ [])
+    ∷ unruled (bytes "MSH" ∷ []) (order theEnd 0 ∷ [])
     ∷ unruled [] []
     -- every bad repetition, by its own number; the empty one is not judged
     ∷ record { rules = long ∷ []; segments = bytes "MSH" ∷ bytes "PID|x~~y" ∷ []; gives = breach 1 1 1 long ∷ breach 1 1 3 long ∷ [] }
@@ -129,6 +129,6 @@ graded s = findings mayFollow (s .rules) ((bytes "A" ∷ bytes "B" ∷ []) ∷ [
 
 samples : map graded table ≡ map (λ (s : Sample). s .gives) table
 unfolding findings keep countFrom pairsFrom nameBefore earlier isIn mayFollow broken judges breaksRule
-    segmentNames numberFrom segmentOf same among begins cut ahead butLast startAt delimsOf nthOf cutUnless partOfField neverCut componentOf repetitionsOf
+    segmentNames numberFrom nameOfLetters same among begins cut ahead butLast startAt delimsOf nthOf cutUnless partOfField neverCut componentOf repetitionsOf
     countWithin digitRun monthLength isRealDate isDate
 samples = refl

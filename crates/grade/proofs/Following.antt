@@ -8,7 +8,7 @@ use borrow.Author.Tests.{ltb-true, leb-true}
 use lib.ListN.{getD}
 use lib.Dec.{leb}
 use Rattle.grade.specs.Strict.{countFrom}
-use Rattle.grade.specs.Order.{counted, atEnd, outOfOrder, tableOf, tableSays}
+use Rattle.grade.specs.Order.{counted, theEnd, outOfOrder, tableOf, tableSays}
 use Rattle.grade.specs.Book.{plain}
 use Rattle.grade.specs.Standing.{TellsPlain}
 
@@ -27,10 +27,10 @@ says-so follows before name h k =
 
 -- the order by its table is the order, at any two numbers
 pub by-table : (table : List (List Bool)) (follows : ℕ → ℕ → Bool) → table ≡ tableOf follows → outOfOrder (tableSays table) ≡ outOfOrder follows
-by-table table follows right = ap (λ (t : List (List Bool)). outOfOrder (tableSays t)) right ∙ (λ i before name. at before name (counted before) refl (leb name atEnd) refl i)
+by-table table follows right = ap (λ (t : List (List Bool)). outOfOrder (tableSays t)) right ∙ (λ i before name. at before name (counted before) refl (leb name theEnd) refl i)
   where
-    at : (before name : ℕ) (p : Bool) → counted before ≡ p → (q : Bool) → leb name atEnd ≡ q → outOfOrder (tableSays (tableOf follows)) before name ≡ outOfOrder follows before name
-    at before name true p true q = ap (λ (t : Bool). counted before && (leb name atEnd && not t)) (says-so follows before name (ltb-true before 10 p) (leb-true name 10 q))
+    at : (before name : ℕ) (p : Bool) → counted before ≡ p → (q : Bool) → leb name theEnd ≡ q → outOfOrder (tableSays (tableOf follows)) before name ≡ outOfOrder follows before name
+    at before name true p true q = ap (λ (t : Bool). counted before && (leb name theEnd && not t)) (says-so follows before name (ltb-true before 10 p) (leb-true name 10 q))
     at before name true p false q = rw (p, q)
     at before name false p q d = rw p
 

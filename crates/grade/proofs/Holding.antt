@@ -16,7 +16,7 @@ use Rattle.grade.specs.declared.rule.Rule.{Rule}
 use Rattle.grade.specs.declared.rule.RuleRead.{RuleRead}
 use Rattle.grade.specs.Limits.{ruleSize, segmentCount, fieldLimit, componentLimit}
 use Rattle.grade.specs.Reader.{found, itemsOf, times}
-use Rattle.grade.specs.Rule.{segmentOf, firstField, placeFits, kindFits, ruleOf, ruleFits}
+use Rattle.grade.specs.Rule.{nameOfLetters, firstField, placeFits, kindFits, ruleOf, ruleFits}
 use Rattle.grade.specs.Book.{ruleIn, codeSet}
 use Rattle.grade.specs.Standing.{rulesIn, setsIn, noRule, Holds}
 use Rattle.grade.proofs.Readings.{ended, row-at, row-length}
@@ -55,7 +55,7 @@ module _ (b : List ℕ) (s : Section) (h : Holds b s) where
 
     -- the three letters of its segment
     pub its-name :
-        segmentOf (getD b (s .«rules_at» + ruleSize * i) 0) (getD b (s .«rules_at» + ruleSize * i + 1) 0) (getD b (s .«rules_at» + ruleSize * i + 2) 0)
+        nameOfLetters (getD b (s .«rules_at» + ruleSize * i) 0) (getD b (s .«rules_at» + ruleSize * i + 1) 0) (getD b (s .«rules_at» + ruleSize * i + 2) 0)
         ≡ getD (rulesIn b s) i noRule .place .segment
     its-name =
         let at = s .«rules_at» + ruleSize * i in

@@ -75,12 +75,12 @@ always-cut sets rule seg fits named = by (isMsh seg) refl
     by false e = rw e (and-false (leb (rule .place .field) 2))
 
 -- ---- one rule at a segment of its name: the spot before its first repetition
-module _ (d : Delims) (b : List ℕ) (s : Section) (name number : ℕ) (seg : List ℕ) (rule : Rule) where
+module _ (d : Delims) (b : List ℕ) (s : Section) (name ordinal : ℕ) (seg : List ℕ) (rule : Rule) where
   abbrev fieldHere : List ℕ
   fieldHere = fieldOf d seg (rule .place .field) .bytes
 
   abbrev pub leftHere : Spot → List Finding
-  leftHere spot = leftOf d (setsIn b s) name number seg spot rule
+  leftHere spot = leftOf d (setsIn b s) name ordinal seg spot rule
 
   module _ (counts : name < segmentCount) (fits : ruleFits (s .«set_count») rule ≡ true) (about : rule .place .segment ≡ name) (named : isMsh seg ≡ eqb name msh) where
     values-cut : valuesOf d rule seg ≡ map (valueIn d false rule) (partsFrom (d .tilde) fieldHere 0)
@@ -90,25 +90,25 @@ module _ (d : Delims) (b : List ℕ) (s : Section) (name number : ℕ) (seg : Li
         ap (λ (n : Bool). map (valueIn d n rule) (cutUnless n (d .tilde) fieldHere)) never
         ∙ ap (map (valueIn d false rule)) (sym (parts-start (d .tilde) fieldHere))
 
-    pub rule-whole : (i : ℕ) → ofRule d (setsIn b s) name number seg (i + 1) rule ≡ leftHere (record { rule = i; at = 0; passed = 0; field = record { codes = 0; start = 0; end = 0 } })
+    pub rule-whole : (i : ℕ) → ofRule d (setsIn b s) name ordinal seg (i + 1) rule ≡ leftHere (record { rule = i; at = 0; passed = 0; field = record { codes = 0; start = 0; end = 0 } })
     rule-whole i =
         rw (lt-ltb name segmentCount counts, eq-eqb (rule .place .segment) name about)
-        (ap (λ (vs : List (List ℕ)). map (valueFinding name number rule (i + 1)) (brokenValues (breaksRule (setsIn b s) rule) 0 vs)) values-cut)
+        (ap (λ (vs : List (List ℕ)). map (valueFinding name ordinal rule (i + 1)) (brokenValues (breaksRule (setsIn b s) rule) 0 vs)) values-cut)
 
   -- what it still gives, in the words of the code
   pub left-as : (fld : List ℕ) → fieldHere ≡ fld → (codes : ℕ) → CodesAre b (setsIn b s) (rule .kind) codes → (spot : Spot)
-      → leftHere spot ≡ map (valueFinding name number rule (spot .rule + 1)) (brokenFrom d fld b rule codes (spot .at) (spot .passed))
+      → leftHere spot ≡ map (valueFinding name ordinal rule (spot .rule + 1)) (brokenFrom d fld b rule codes (spot .at) (spot .passed))
   left-as fld is-field codes are spot =
-      ap₂ (λ (test : ℕ → List ℕ → Bool) (f : List ℕ). map (valueFinding name number rule (spot .rule + 1)) (brokenValues test (spot .passed) (map (valueIn d false rule) (partsFrom (d .tilde) f (spot .at)))))
+      ap₂ (λ (test : ℕ → List ℕ → Bool) (f : List ℕ). map (valueFinding name ordinal rule (spot .rule + 1)) (brokenValues test (spot .passed) (map (valueIn d false rule) (partsFrom (d .tilde) f (spot .at)))))
       (sym (breaks-same b (setsIn b s) codes rule are)) is-field
 
 -- ---- the rules at a segment's bytes
-module _ (d : Delims) (b : List ℕ) (s : Section) (name number : ℕ) (seg : List ℕ) where
+module _ (d : Delims) (b : List ℕ) (s : Section) (name ordinal : ℕ) (seg : List ℕ) where
   abbrev pub ruleHere : ℕ → Rule → List Finding
-  ruleHere i rule = ofRule d (setsIn b s) name number seg i rule
+  ruleHere i rule = ofRule d (setsIn b s) name ordinal seg i rule
 
   abbrev pub rulesHere : ℕ → List Finding
-  rulesHere i = ofRules d (setsIn b s) name number seg i (drop i (rulesIn b s))
+  rulesHere i = ofRules d (setsIn b s) name ordinal seg i (drop i (rulesIn b s))
 
   -- a rule of another segment gives nothing
   pub other-rule : (i : ℕ) (rule : Rule) → eqb (rule .place .segment) name ≡ false → ruleHere i rule ≡ []
@@ -116,8 +116,8 @@ module _ (d : Delims) (b : List ℕ) (s : Section) (name number : ℕ) (seg : Li
 
   pub rules-next : (i : ℕ) → i < length (rulesIn b s) → rulesHere i ≡ ruleHere (i + 1) (getD (rulesIn b s) i noRule) ++ rulesHere (i + 1)
   unfolding ofRules
-  rules-next i h = rw (add-one i) (ap (ofRules d (setsIn b s) name number seg i) (drop-cons (rulesIn b s) i noRule h))
+  rules-next i h = rw (add-one i) (ap (ofRules d (setsIn b s) name ordinal seg i) (drop-cons (rulesIn b s) i noRule h))
 
   pub rules-end : (i : ℕ) → length (rulesIn b s) ≤ i → rulesHere i ≡ []
   unfolding ofRules
-  rules-end i h = ap (ofRules d (setsIn b s) name number seg i) (drop-of-length-le (rulesIn b s) h)
+  rules-end i h = ap (ofRules d (setsIn b s) name ordinal seg i) (drop-of-length-le (rulesIn b s) h)

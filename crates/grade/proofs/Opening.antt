@@ -13,7 +13,7 @@ use Rattle.grade.specs.declared.rule.Rule.{Rule}
 use Rattle.grade.specs.declared.walk.Section.{Section}
 use Rattle.grade.specs.declared.book.Opened.{Opened}
 use Rattle.grade.specs.Limits.{headSize, bookVersion, ruleLimit, setLimit}
-use Rattle.grade.specs.Reader.{Reading, fault, found, isFound, itemsOf, times}
+use Rattle.grade.specs.Reader.{Parsed, fault, found, isFound, itemsOf, times}
 use Rattle.grade.specs.Book.{Contents, Sited, section, distinct, keys, sections, headRight, version, sitedIn, decoded, under, malformed, otherVersion, noSection, siteOf, opened}
 use Rattle.grade.specs.Standing.{endOf, withKey, chosen, rulesIn, setsIn, Holds}
 use Rattle.grade.proofs.Readings.{found-same, row-found}
@@ -37,7 +37,7 @@ pub opened-walks : (b key : List ℕ) →
 unfolding opened malformed otherVersion noSection
 opened-walks b key = go (headRight b) (eqb (version b) bookVersion) (sections b headSize)
   where
-    go : (t u : Bool) (r : Reading (List Sited)) →
+    go : (t u : Bool) (r : Parsed (List Sited)) →
         cond (not t || u && not (isFound r)) Opened.Malformed
         (cond (not u) Opened.OtherVersion (cond (not (among key (keys (itemsOf r)))) Opened.NoSection (Opened.At (siteOf key (itemsOf r)))))
         ≡ cond t (cond u (chosen key r) Opened.OtherVersion) Opened.Malformed
@@ -176,9 +176,9 @@ opened-under b key s h =
     let w = subst (λ (o : Opened). Rows b key o) h (opened-rows b key) in
     go (sections b headSize) refl (not-false (among key (keys (sitedIn b))) (w .2)) (w .3)
   where
-    go : (r : Reading (List Sited)) → sections b headSize ≡ r → among key (keys (sitedIn b)) ≡ true → siteOf key (sitedIn b) ≡ s → Under b key s
+    go : (r : Parsed (List Sited)) → sections b headSize ≡ r → among key (keys (sitedIn b)) ≡ true → siteOf key (sitedIn b) ≡ s → Under b key s
     go fault e m p =
-        absurd (false≢true (ap (λ (x : Reading (List Sited)). among key (keys (itemsOf x))) (sym e) ∙ m))
+        absurd (false≢true (ap (λ (x : Parsed (List Sited)). among key (keys (itemsOf x))) (sym e) ∙ m))
     go (found all end) e m p =
         let q = book-parts b all end e in
         let l : sitedIn b ≡ all = ap itemsOf e in

@@ -20,9 +20,9 @@ use Rattle.grade.specs.declared.rule.SeverityRead.{SeverityRead}
 use Rattle.grade.specs.declared.rule.Rule.{Rule}
 use Rattle.grade.specs.declared.rule.RuleRead.{RuleRead}
 use Rattle.grade.specs.Limits.{headSize, sectionLimit, keyLimit, ruleLimit, ruleSize, setLimit, codeLimit, codeCountLimit}
-use Rattle.grade.specs.Reader.{Reading, fault, found, isFound, itemsOf, check, times, byte, run, pair, twoBytes}
-use Rattle.grade.specs.Rule.{segmentOf, unused, timeDigits, kindIf, kindOf, isKind, kindFits, severityOf, isSeverity, placeFits, placeOf, ruleWith, ruleOf, isRule, ruleFits}
-use Rattle.grade.specs.Book.{plain, keys, text, section, ruleIn, codeSet, Sited, ruleRead, distinct, atEnd, sections}
+use Rattle.grade.specs.Reader.{Parsed, fault, found, isFound, itemsOf, check, times, byte, run, pair, twoBytes}
+use Rattle.grade.specs.Rule.{nameOfLetters, unused, timeDigits, kindIf, kindOf, isKind, kindFits, severityOf, isSeverity, placeFits, placeOf, ruleWith, ruleOf, isRule, ruleFits}
+use Rattle.grade.specs.Book.{plain, keys, text, section, ruleIn, codeSet, Sited, ruleRead, distinct, nothingAfter, sections}
 use Rattle.grade.specs.Standing.{endOf, textAt, TextFits, standsAt, sitedOf, sitedAt, noRule, SetStands}
 use Rattle.grade.proofs.Readings.{then-found, found-same, check-found, byte-found, run-found, two-found, ended, is-found, row-end, row-inside, row-found, cond-gave}
 
@@ -91,7 +91,7 @@ set-is b at h =
     let v = check-found (within 1 codeCountLimit (s .0)) b (s .1) (t .0) (t .1) (t .2) in
     (u .0, λ count e. go (codeSet b at) (r .0) (r .1) (r .2) count (s .0) (t .1) (e ∙ sym (u .1)) (sym (v .1 ∙ u .2)) (t .3))
   where
-    go : (all : Reading (List (List ℕ))) (set : List (List ℕ)) (end : ℕ) → all ≡ found set end → (count n m : ℕ) → count ≡ n → at + 2 ≡ m →
+    go : (all : Parsed (List (List ℕ))) (set : List (List ℕ)) (end : ℕ) → all ≡ found set end → (count n m : ℕ) → count ≡ n → at + 2 ≡ m →
         times n (text codeLimit) b m ≡ found set end → all ≡ times count (text codeLimit) b (at + 2)
     go all set end a count n m e f q = a ∙ sym (rw (e, f) q)
 
@@ -133,7 +133,7 @@ slice-at b at n k h = getD-drop at (take (at + n) b) k 0 ∙ getD-take (at + n) 
 abbrev pub placeAt : List ℕ → ℕ → Place
 placeAt b at =
     record {
-      segment = segmentOf (getD b at 0) (getD b (at + 1) 0) (getD b (at + 2) 0);
+      segment = nameOfLetters (getD b at 0) (getD b (at + 1) 0) (getD b (at + 2) 0);
       field = getD b (at + 3) 0;
       component = getD b (at + 4) 0;
     }
@@ -284,14 +284,14 @@ section-parts b at c end h =
 pub stands-found : (b : List ℕ) (at : ℕ) → standsAt b at ≡ true → (end : ℕ) × (section b at ≡ found (sitedAt b at) end)
 stands-found b at h = go (section b at) h
   where
-    go : (r : Reading Sited) → isFound r ≡ true → (end : ℕ) × (r ≡ found (sitedOf r) end)
+    go : (r : Parsed Sited) → isFound r ≡ true → (end : ℕ) × (r ≡ found (sitedOf r) end)
     go fault h = absurd (false≢true h)
     go (found c end) h = (end, refl)
 
 pub ends-stands : (b : List ℕ) (at end : ℕ) → endOf (section b at) ≡ Next.At end → (standsAt b at ≡ true) × (section b at ≡ found (sitedAt b at) end)
 ends-stands b at end h = go (section b at) h
   where
-    go : (r : Reading Sited) → endOf r ≡ Next.At end → (isFound r ≡ true) × (r ≡ found (sitedOf r) end)
+    go : (r : Parsed Sited) → endOf r ≡ Next.At end → (isFound r ≡ true) × (r ≡ found (sitedOf r) end)
     go fault h = let z : _≡_ {A = ℕ} 0 1 = cc in absurd (omega arith)
     go (found c e) h = (refl, cc)
 
@@ -359,7 +359,7 @@ book-parts b all end h =
     let s = then-found (byte b headSize) _ all end h in
     let t = then-found (check (within 1 sectionLimit (s .0)) b (s .1)) _ all end (s .3) in
     let u = then-found (times (s .0) section b (t .1)) _ all end (t .3) in
-    let v = then-found (atEnd b (u .1)) _ all end (u .3) in
+    let v = then-found (nothingAfter b (u .1)) _ all end (u .3) in
     let w = then-found (check (distinct (keys (u .0))) b (v .1)) _ all end (v .3) in
     put (s .0) (s .1) (t .1) (u .1) (u .0) (byte-found b headSize (s .0) (s .1) (s .2)) (check-found (within 1 sectionLimit (s .0)) b (s .1) (t .0) (t .1) (t .2)) (u .2)
     (eqb-true (u .1) (length b) (check-found (eqb (u .1) (length b)) b (u .1) (v .0) (v .1) (v .2) .0))

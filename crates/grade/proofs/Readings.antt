@@ -11,24 +11,24 @@ use lib.ListN.{length, getD}
 use lib.Seq.{slice}
 use Rattle.grade.specs.Standing.{endOf}
 use Rattle.grade.specs.declared.walk.Next.{Next}
-use Rattle.grade.specs.Reader.{Reading, fault, found, isFound, itemsOf, Reader, andThen, check, byte, pair, twoBytes, run, times}
+use Rattle.grade.specs.Reader.{Parsed, fault, found, isFound, itemsOf, Reader, andThen, check, byte, pair, twoBytes, run, times}
 
 -- what is given after a reading does not move its end
-pub end-given : {A B : Type 0} (r : Reading A) (f : A → B) → endOf (andThen r (λ a after. found (f a) after)) ≡ endOf r
+pub end-given : {A B : Type 0} (r : Parsed A) (f : A → B) → endOf (andThen r (λ a after. found (f a) after)) ≡ endOf r
 end-given fault f = refl
 end-given (found a after) f = refl
 
 module _ {A : Type 0} where
   -- a reading that ends somewhere has found something there
-  pub ended : (r : Reading A) (e : ℕ) → endOf r ≡ Next.At e → (a : A) × (r ≡ found a e)
+  pub ended : (r : Parsed A) (e : ℕ) → endOf r ≡ Next.At e → (a : A) × (r ≡ found a e)
   ended fault e h = let z : _≡_ {A = ℕ} 0 1 = cc in absurd (omega arith)
   ended (found a after) e h = (a, cc)
 
-  pub is-found : (r : Reading A) → isFound r ≡ true → (a : A) × (e : ℕ) × (r ≡ found a e)
+  pub is-found : (r : Parsed A) → isFound r ≡ true → (a : A) × (e : ℕ) × (r ≡ found a e)
   is-found fault h = absurd (false≢true h)
   is-found (found a e) h = (a, e, refl)
 
-  pub faulted : (r : Reading A) → endOf r ≡ Next.Fault → r ≡ fault
+  pub faulted : (r : Parsed A) → endOf r ≡ Next.Fault → r ≡ fault
   faulted fault h = refl
   faulted (found a after) h = let z : _≡_ {A = ℕ} 0 1 = cc in absurd (omega arith)
 
@@ -61,7 +61,7 @@ module _ {A : Type 0} where
 -- ---- inversion: what was found tells what its readers found
 
 -- two readings one after the other
-pub then-found : {A B : Type 0} (r : Reading A) (k : A → ℕ → Reading B) (v : B) (e : ℕ) → andThen r k ≡ found v e →
+pub then-found : {A B : Type 0} (r : Parsed A) (k : A → ℕ → Parsed B) (v : B) (e : ℕ) → andThen r k ≡ found v e →
     (a : A) × (m : ℕ) × (r ≡ found a m) × (k a m ≡ found v e)
 then-found fault k v e h = let z : _≡_ {A = ℕ} 0 1 = cc in absurd (omega arith)
 then-found (found a m) k v e h = (a, m, refl, h)
@@ -75,7 +75,7 @@ cond-gave true x y v f g h = f refl h
 cond-gave false x y v f g h = g h
 
 -- a reading under a test
-pub cond-found : {A : Type 0} (t : Bool) (r : Reading A) (v : A) (e : ℕ) → cond t r fault ≡ found v e → (t ≡ true) × (r ≡ found v e)
+pub cond-found : {A : Type 0} (t : Bool) (r : Parsed A) (v : A) (e : ℕ) → cond t r fault ≡ found v e → (t ≡ true) × (r ≡ found v e)
 cond-found true r v e h = (refl, h)
 cond-found false r v e h = let z : _≡_ {A = ℕ} 0 1 = cc in absurd (omega arith)
 
@@ -102,14 +102,14 @@ run-found n b at v e h =
 -- ---- a row of readings, with those that were read before it
 
 module _ {A : Type 0} where
-  abbrev pub after : List A → Reading (List A) → Reading (List A)
+  abbrev pub after : List A → Parsed (List A) → Parsed (List A)
   after done r = andThen r (λ items end. found (done ++ items) end)
 
-  pub after-nil : (r : Reading (List A)) → after [] r ≡ r
+  pub after-nil : (r : Parsed (List A)) → after [] r ≡ r
   after-nil fault = refl
   after-nil (found items end) = refl
 
-  after-cons : (done : List A) (a : A) (r : Reading (List A)) → after done (andThen r (λ rest end. found (a ∷ rest) end)) ≡ after (done ++ (a ∷ [])) r
+  after-cons : (done : List A) (a : A) (r : Parsed (List A)) → after done (andThen r (λ rest end. found (a ∷ rest) end)) ≡ after (done ++ (a ∷ [])) r
   after-cons done a fault = refl
   after-cons done a (found rest end) = rw append-assoc
 

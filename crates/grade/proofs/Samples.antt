@@ -10,11 +10,11 @@ use Rattle.hl7.specs.Bytes.{same, begins}
 use Rattle.hl7.specs.Cut.{cut, ahead, butLast, startAt}
 use Rattle.hl7.specs.Place.{delimsOf, nthOf, cutUnless, partOfField, neverCut, componentOf, repetitionsOf}
 use Rattle.hl7.specs.Refusals.{Told, firstRow, wrongBytes, hasForm, wrongSegments, formRows, messageRows}
-use Rattle.grade.specs.Rule.{segmentNames, numberFrom, segmentOf}
+use Rattle.grade.specs.Rule.{segmentNames, numberFrom, nameOfLetters}
 use Rattle.grade.specs.Digits.{countWithin, digitRun}
 use Rattle.grade.specs.Calendar.{monthLength, isRealDate}
 use Rattle.grade.specs.Values.{isUnsigned, isNumber, isDate}
-use Rattle.grade.specs.Order.{orc, atEnd, nameBefore, earlier, isIn, mayFollow}
+use Rattle.grade.specs.Order.{orc, theEnd, nameBefore, earlier, isIn, mayFollow}
 use Rattle.grade.specs.Broken.{broken, judges, breaksRule}
 use Rattle.grade.specs.Strict.{keep, countFrom, pairsFrom}
 use Rattle.grade.specs.Findings.{findings}
@@ -35,7 +35,7 @@ message (name ∷ names) = bytes name ++ (13 ∷ message names)
 -- the list has one finding, about the order, at the number-th segment of a name
 isOrder : List Finding → ℕ → ℕ → Bool
 isOrder [] name number = false
-isOrder (f ∷ []) name number = eqb (f .code) 100 && eqb (f .name) name && eqb (f .number) number
+isOrder (f ∷ []) name number = eqb (f .code) 100 && eqb (f .name) name && eqb (f .ordinal) number
 isOrder (f ∷ (g ∷ fs)) name number = false
 
 right : Sample → Bool
@@ -62,9 +62,9 @@ samples =
     ∷ breaks Number "+"
     ∷ breaks Number "1.2.3"
     ∷ gives ("MSH" ∷ "PID" ∷ "ORC" ∷ "ORC" ∷ "RXA" ∷ []) orc 2
-    ∷ gives ("MSH" ∷ "PID" ∷ "ORC" ∷ []) atEnd 0
+    ∷ gives ("MSH" ∷ "PID" ∷ "ORC" ∷ []) theEnd 0
     ∷ []
 
 samples-hold : allRight samples ≡ true
-unfolding samples allRight right isOrder message same begins cut ahead butLast startAt delimsOf nthOf cutUnless partOfField neverCut componentOf repetitionsOf firstRow wrongBytes hasForm wrongSegments formRows messageRows segmentNames numberFrom segmentOf countWithin digitRun monthLength isRealDate isUnsigned isNumber isDate nameBefore earlier isIn mayFollow broken judges breaksRule keep countFrom pairsFrom findings
+unfolding samples allRight right isOrder message same begins cut ahead butLast startAt delimsOf nthOf cutUnless partOfField neverCut componentOf repetitionsOf firstRow wrongBytes hasForm wrongSegments formRows messageRows segmentNames numberFrom nameOfLetters countWithin digitRun monthLength isRealDate isUnsigned isNumber isDate nameBefore earlier isIn mayFollow broken judges breaksRule keep countFrom pairsFrom findings
 samples-hold = refl

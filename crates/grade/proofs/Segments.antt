@@ -16,12 +16,12 @@ use Rattle.hl7.specs.Place.{delimsOf, carriageReturn, isMsh}
 use Rattle.hl7.specs.declared.place.Delims.{Delims}
 use Rattle.hl7.proofs.Walking.{ended-step, ended-stop}
 use Rattle.grade.specs.Limits.{segmentCount}
-use Rattle.grade.specs.Rule.{segmentNames, numberFrom, segmentOf, otherNumber}
+use Rattle.grade.specs.Rule.{segmentNames, numberFrom, nameOfLetters, otherNumber}
 use Rattle.grade.specs.Standing.{Holds, rulesIn, setsIn, noRule}
 use Rattle.grade.specs.Linked.{nextAbout, Linked}
-use Rattle.grade.specs.Order.{msh, atEnd, nameOf, outOfOrder}
+use Rattle.grade.specs.Order.{msh, theEnd, nameOf, outOfOrder}
 use Rattle.grade.specs.Findings.{findings}
-use Rattle.grade.specs.Rest.{HereStands, Parted, SpotStands, segmentRest, rulesFrom, orderFinding, ofOrder, ofSegment, NextWithin, walk, walkFrom, CountsStand, rest, Stands, betweenAt, endBy, endOpened, enteredAt, EnteredAt, Enters, Opens, Steps}
+use Rattle.grade.specs.Rest.{HereStands, Parted, SpotStands, segmentRest, rulesFrom, orderFinding, ofOrder, ofSegment, NextWithin, gradeSegments, gradeFrom, CountsStand, rest, Stands, betweenAt, endBy, endOpened, enteredAt, EnteredAt, Enters, Opens, Steps}
 use Rattle.grade.specs.declared.walk.Section.{Section}
 use Rattle.grade.specs.declared.finding.Finding.{Finding}
 use Rattle.grade.specs.declared.within.Here.{Here}
@@ -53,7 +53,7 @@ first-is true r e = refl
 first-is false r e = sym e
 
 msh-named : (seg : List ℕ) → isMsh seg ≡ eqb (nameOf seg) msh
-unfolding begins segmentOf segmentNames numberFrom same
+unfolding begins nameOfLetters segmentNames numberFrom same
 msh-named [] = refl
 msh-named (x ∷ []) = first-is _ _ (later 0 (x ∷ (0 ∷ (0 ∷ []))) (drop 1 segmentNames))
 msh-named (x ∷ (y ∷ [])) = first-is _ _ (later 0 (x ∷ (y ∷ (0 ∷ []))) (drop 1 segmentNames))
@@ -75,7 +75,7 @@ module _ (follows : ℕ → ℕ → Bool) (d : Delims) (m b : List ℕ) (s : Sec
   out = outOfOrder follows
 
   abbrev from : ℕ → ℕ → List ℕ → List Finding
-  from at last counts = walkFrom out d m b s at last counts
+  from at last counts = gradeFrom out d m b s at last counts
 
   -- ---- between two segments
   module _ (holds : Holds b s) (next last : ℕ) where
@@ -96,24 +96,24 @@ module _ (follows : ℕ → ℕ → Bool) (d : Delims) (m b : List ℕ) (s : Sec
 
   -- ---- the end
   after-end : (counts : List ℕ) → from (length m) otherNumber counts ≡ []
-  unfolding walk cut butLast
-  after-end counts = ap (λ (l : List ℕ). walk out d (rulesIn b s) (setsIn b s) counts otherNumber (butLast (cut carriageReturn l))) (drop-length m)
+  unfolding gradeSegments cut butLast
+  after-end counts = ap (λ (l : List ℕ). gradeSegments out d (rulesIn b s) (setsIn b s) counts otherNumber (butLast (cut carriageReturn l))) (drop-length m)
 
-  pub walk-end : (at last : ℕ) (counts : List ℕ) → length m ≤ endFrom carriageReturn m at → from at last counts ≡ ofOrder out last atEnd 0
-  unfolding walk
-  walk-end at last counts h = ap (walk out d (rulesIn b s) (setsIn b s) counts last) (ended-stop carriageReturn m at h)
+  pub walk-end : (at last : ℕ) (counts : List ℕ) → length m ≤ endFrom carriageReturn m at → from at last counts ≡ ofOrder out last theEnd 0
+  unfolding gradeSegments
+  walk-end at last counts h = ap (gradeSegments out d (rulesIn b s) (setsIn b s) counts last) (ended-stop carriageReturn m at h)
 
   pub no-segment : (begin at last : ℕ) (starts counts : List ℕ) (l : List Finding) → Holds b s → CountsStand m at counts → l ≡ from at last counts → length m ≤ endFrom carriageReturn m at
       → (r : Opened) → r ≡ endOpened out (s .«rule_count») (length m) last → Opens out d m b s starts counts begin l r
   no-segment begin at last starts counts l holds stands passed h r e =
-      subst⁻¹ (Opens out d m b s starts counts begin l) e (by (out last atEnd) refl)
+      subst⁻¹ (Opens out d m b s starts counts begin l) e (by (out last theEnd) refl)
     where
       c : Cursor
       c = betweenAt (s .«rule_count») (length m) otherNumber
 
-      by : (broken : Bool) → out last atEnd ≡ broken → Opens out d m b s starts counts begin l (endBy broken c)
+      by : (broken : Bool) → out last theEnd ≡ broken → Opens out d m b s starts counts begin l (endBy broken c)
       by true e = (
-        passed ∙ walk-end at last counts h ∙ rw e (ap (λ (k : List Finding). orderFinding atEnd 0 ∷ k) (sym (between-list holds (length m) otherNumber counts ∙ after-end counts))),
+        passed ∙ walk-end at last counts h ∙ rw e (ap (λ (k : List Finding). orderFinding theEnd 0 ∷ k) (sym (between-list holds (length m) otherNumber counts ∙ after-end counts))),
         between-stands holds (length m) otherNumber starts counts (counts-later (length m) stands (stands .inside) (omega arith)),
       )
       by false e = passed ∙ walk-end at last counts h ∙ rw e
@@ -123,39 +123,39 @@ module _ (follows : ℕ → ℕ → Bool) (d : Delims) (m b : List ℕ) (s : Sec
     abbrev segment : List ℕ
     segment = between m at stop
 
-    one-segment : from at last counts ≡ walk out d (rulesIn b s) (setsIn b s) counts last (segment ∷ butLast (cut carriageReturn (drop (stop + 1) m)))
+    one-segment : from at last counts ≡ gradeSegments out d (rulesIn b s) (setsIn b s) counts last (segment ∷ butLast (cut carriageReturn (drop (stop + 1) m)))
     one-segment =
-        ap (walk out d (rulesIn b s) (setsIn b s) counts last)
+        ap (gradeSegments out d (rulesIn b s) (setsIn b s) counts last)
         (subst⁻¹ (λ (x : ℕ). butLast (cut carriageReturn (drop at m)) ≡ between m at x ∷ butLast (cut carriageReturn (drop (x + 1) m))) is-end (ended-step carriageReturn m at (omega arith)))
 
     module _ (name : ℕ) (named : name ≡ nameOf segment) where
       -- a name that does not count
       pub other-one : 10 ≤ name → from at last counts ≡ from (stop + 1) last counts
-      unfolding walk
+      unfolding gradeSegments
       other-one h = one-segment ∙ rw (← named, le-ltb name 10 h)
 
       -- a counted one
-      abbrev number : ℕ
-      number = getD counts name 0 + 1
+      abbrev ordinal : ℕ
+      ordinal = getD counts name 0 + 1
 
-      pub counts-more : CountsStand m (stop + 1) (set counts name number)
+      pub counts-more : CountsStand m (stop + 1) (set counts name ordinal)
       counts-more = record {
         inside = omega arith;
-        counted = set-bound counts name number (stop + 1) (omega (arith, stands .counted name)) (λ k. omega (arith, stands .counted k));
+        counted = set-bound counts name ordinal (stop + 1) (omega (arith, stands .counted name)) (λ k. omega (arith, stands .counted k));
       }
 
       module _ (count : ℕ) (single : Bool) where
         abbrev this : Here
-        this = record { start = at; end = stop; name = name; number = number; count = count; single = single }
+        this = record { start = at; end = stop; name = name; ordinal = ordinal; count = count; single = single }
 
         pub this-stands : name < 10 → HereStands m this
         this-stands h = record { forward = omega arith; inside = omega arith; counts = h; named = msh-named segment ∙ ap (λ (n : ℕ). eqb n msh) (sym named) }
 
-        pub counted-one : name < 10 → from at last counts ≡ ofSegment out d m b s this last ++ from (stop + 1) name (set counts name number)
-        unfolding walk
+        pub counted-one : name < 10 → from at last counts ≡ ofSegment out d m b s this last ++ from (stop + 1) name (set counts name ordinal)
+        unfolding gradeSegments
         counted-one h =
             one-segment
-            ∙ rw (← named, lt-ltb name 10 h, ← add-one (getD counts name 0)) (sym (append-assoc (ofOrder out last name number) (rulesFrom d m b s this 0) (from (stop + 1) name (set counts name number))))
+            ∙ rw (← named, lt-ltb name 10 h, ← add-one (getD counts name 0)) (sym (append-assoc (ofOrder out last name ordinal) (rulesFrom d m b s this 0) (from (stop + 1) name (set counts name ordinal))))
 
       -- its cursor, before its rules
       module _ (begin : ℕ) (l : List Finding) (passed : l ≡ from at last counts) (ahead : begin ≤ at) (holds : Holds b s) {links : List ℕ} (linked : Linked (rulesIn b s) links)
@@ -167,21 +167,21 @@ module _ (follows : ℕ → ℕ → Bool) (d : Delims) (m b : List ℕ) (s : Sec
         is-about = rw is-first (about-next name (rulesIn b s) 0)
 
         abbrev after : List ℕ
-        after = set counts name number
+        after = set counts name ordinal
 
-        entered-list : (count : ℕ) (single : Bool) → rest out d m b s after (enteredAt at stop name number first count single) ≡ rulesFrom d m b s (this count single) 0 ++ from (stop + 1) name after
+        entered-list : (count : ℕ) (single : Bool) → rest out d m b s after (enteredAt at stop name ordinal first count single) ≡ rulesFrom d m b s (this count single) 0 ++ from (stop + 1) name after
         entered-list count single =
             ap (λ (k : List Finding). k ++ from (stop + 1) name after)
             (ap (λ (i : ℕ). segmentRest d m b s (this count single) (record { rule = i; at = 0; passed = 0; field = record { codes = 0; start = 0; end = 0 } })) is-first ∙ spot-begin d m b s (this count single) holds (this-stands count single few))
 
-        entered-stands : (count : ℕ) (single : Bool) → (first < s .«rule_count» → Parted d segment starts count single) → Stands d m b s starts after (enteredAt at stop name number first count single)
+        entered-stands : (count : ℕ) (single : Bool) → (first < s .«rule_count» → Parted d segment starts count single) → Stands d m b s starts after (enteredAt at stop name ordinal first count single)
         entered-stands count single parted = record {
           here = this-stands count single few;
           spot = record { passed = omega arith; about = λ h. is-about (omega (arith, rules-length b s holds)); parted = parted; known = λ h. absurd (omega arith) };
           passed = counts-more;
         }
 
-        pub opened : (r : Opened) → Enters out d m starts (s .«rule_count») first at stop name number last r → Opens out d m b s starts after begin l r
+        pub opened : (r : Opened) → Enters out d m starts (s .«rule_count») first at stop name ordinal last r → Opens out d m b s starts after begin l r
         opened (Opened.Order f c) (e, made, it) =
             subst⁻¹ (λ (x : Cursor). (l ≡ f ∷ rest out d m b s after x) × Stands d m b s starts after x) (it .is)
             (passed ∙ counted-one (it .count) (it .single) few ∙ rw e (λ i. sym made i ∷ sym (entered-list (it .count) (it .single)) i), entered-stands (it .count) (it .single) (it .parted))
@@ -223,10 +223,10 @@ module _ (follows : ℕ → ℕ → Bool) (d : Delims) (m b : List ℕ) (s : Sec
 pub start-counts : (m : List ℕ) → CountsStand m 0 (replicate 10 0)
 start-counts m = record { inside = omega arith; counted = λ k. omega (arith, zeros 10 k) }
 
-pub start-list : (follows : ℕ → ℕ → Bool) (m b : List ℕ) (s : Section) → walkFrom (outOfOrder follows) (delimsOf m) m b s 0 otherNumber (replicate 10 0) ≡ findings follows (rulesIn b s) (setsIn b s) m
+pub start-list : (follows : ℕ → ℕ → Bool) (m b : List ℕ) (s : Section) → gradeFrom (outOfOrder follows) (delimsOf m) m b s 0 otherNumber (replicate 10 0) ≡ findings follows (rulesIn b s) (setsIn b s) m
 start-list follows m b s = walk-all follows (rulesIn b s) (setsIn b s) m
 
 -- ---- another order that says the same, other delimiters that are the same
 pub list-as : (m b : List ℕ) (s : Section) {out : ℕ → ℕ → Bool} {d : Delims} (follows : ℕ → ℕ → Bool) → out ≡ outOfOrder follows → d ≡ delimsOf m
-    → walkFrom out d m b s 0 otherNumber (replicate 10 0) ≡ findings follows (rulesIn b s) (setsIn b s) m
-list-as m b s follows e f = ap₂ (λ (o : ℕ → ℕ → Bool) (x : Delims). walkFrom o x m b s 0 otherNumber (replicate 10 0)) e f ∙ start-list follows m b s
+    → gradeFrom out d m b s 0 otherNumber (replicate 10 0) ≡ findings follows (rulesIn b s) (setsIn b s) m
+list-as m b s follows e f = ap₂ (λ (o : ℕ → ℕ → Bool) (x : Delims). gradeFrom o x m b s 0 otherNumber (replicate 10 0)) e f ∙ start-list follows m b s

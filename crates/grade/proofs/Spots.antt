@@ -104,22 +104,22 @@ module _ (d : Delims) (m b : List ℕ) (s : Section) (here : Here) (holds : Hold
     fld = between m (f .start) (f .end)
 
     abbrev left : Spot → List Finding
-    left at = leftOf d (setsIn b s) (here .name) (here .number) seg at (getD (rulesIn b s) (spot .rule) noRule)
+    left at = leftOf d (setsIn b s) (here .name) (here .ordinal) seg at (getD (rulesIn b s) (spot .rule) noRule)
 
     abbrev told : Value → Type 0
     told v = NextValue d fld b rule (f .codes) (brokenFrom d fld b rule (f .codes) (spot .at) (spot .passed)) v
 
     abbrev make : ℕ → Finding
-    make = valueFinding (here .name) (here .number) rule (spot .rule + 1)
+    make = valueFinding (here .name) (here .ordinal) rule (spot .rule + 1)
 
     pub codes-known : CodesAre b (setsIn b s) (rule .kind) (f .codes)
     codes-known = subst⁻¹ (λ (r : Rule). CodesAre b (setsIn b s) (r .kind) (f .codes)) is-it (known .codes)
 
     left-is : (at : Spot) → at .rule ≡ spot .rule → left at ≡ map make (brokenFrom d fld b rule (f .codes) (at .at) (at .passed))
     left-is at e =
-        ap (leftOf d (setsIn b s) (here .name) (here .number) seg at) (sym is-it)
-        ∙ left-as d b s (here .name) (here .number) seg rule fld (ap (λ (r : Rule). fieldOf d seg (r .place .field) .bytes) is-it ∙ known .bytes) (f .codes) codes-known at
-        ∙ ap (λ (n : ℕ). map (valueFinding (here .name) (here .number) rule (n + 1)) (brokenFrom d fld b rule (f .codes) (at .at) (at .passed))) e
+        ap (leftOf d (setsIn b s) (here .name) (here .ordinal) seg at) (sym is-it)
+        ∙ left-as d b s (here .name) (here .ordinal) seg rule fld (ap (λ (r : Rule). fieldOf d seg (r .place .field) .bytes) is-it ∙ known .bytes) (f .codes) codes-known at
+        ∙ ap (λ (n : ℕ). map (valueFinding (here .name) (here .ordinal) rule (n + 1)) (brokenFrom d fld b rule (f .codes) (at .at) (at .passed))) e
 
     pub rule-found : {r : Value} → told r → (k next : ℕ) (x : Finding) → r ≡ Broken k next → x ≡ make k → NextOfRule d m b s here spot (Judged.Found x (record { rule = spot .rule; at = next; passed = k; field = f }))
     rule-found h k next x e made =
@@ -139,7 +139,7 @@ module _ (d : Delims) (m b : List ℕ) (s : Section) (here : Here) (holds : Hold
 -- ---- the rules from a spot on
 module _ (d : Delims) (m b : List ℕ) (s : Section) (here : Here) where
   abbrev thisLeft : Spot → List Finding
-  thisLeft spot = leftOf d (setsIn b s) (here .name) (here .number) (bytesOf m here) spot (getD (rulesIn b s) (spot .rule) noRule)
+  thisLeft spot = leftOf d (setsIn b s) (here .name) (here .ordinal) (bytesOf m here) spot (getD (rulesIn b s) (spot .rule) noRule)
 
   abbrev restAt : Spot → List Finding
   restAt = segmentRest d m b s here
@@ -147,12 +147,12 @@ module _ (d : Delims) (m b : List ℕ) (s : Section) (here : Here) where
   left-next : (spot : Spot) → spot .rule < length (rulesIn b s) → restAt spot ≡ thisLeft spot ++ rulesFrom d m b s here (spot .rule + 1)
   unfolding leftFrom
   left-next spot h =
-      ap (leftFrom d (setsIn b s) (here .name) (here .number) (bytesOf m here) spot) (drop-cons (rulesIn b s) (spot .rule) noRule h)
-      ∙ ap (λ (n : ℕ). thisLeft spot ++ ofRules d (setsIn b s) (here .name) (here .number) (bytesOf m here) (spot .rule + 1) (drop n (rulesIn b s))) (sym (add-one (spot .rule)))
+      ap (leftFrom d (setsIn b s) (here .name) (here .ordinal) (bytesOf m here) spot) (drop-cons (rulesIn b s) (spot .rule) noRule h)
+      ∙ ap (λ (n : ℕ). thisLeft spot ++ ofRules d (setsIn b s) (here .name) (here .ordinal) (bytesOf m here) (spot .rule + 1) (drop n (rulesIn b s))) (sym (add-one (spot .rule)))
 
   pub left-over : (spot : Spot) → length (rulesIn b s) ≤ spot .rule → restAt spot ≡ []
   unfolding leftFrom
-  left-over spot h = ap (leftFrom d (setsIn b s) (here .name) (here .number) (bytesOf m here) spot) (drop-of-length-le (rulesIn b s) h)
+  left-over spot h = ap (leftFrom d (setsIn b s) (here .name) (here .ordinal) (bytesOf m here) spot) (drop-of-length-le (rulesIn b s) h)
 
   abbrev first : ℕ → Spot
   first i = record { rule = i; at = 0; passed = 0; field = record { codes = 0; start = 0; end = 0 } }
@@ -166,15 +166,15 @@ module _ (d : Delims) (m b : List ℕ) (s : Section) (here : Here) where
         by (yes l) =
             left-next (first i) l
             ∙ ap (λ (k : List Finding). k ++ rulesFrom d m b s here (i + 1))
-            (sym (rule-whole d b s (here .name) (here .number) (bytesOf m here) (getD (rulesIn b s) i noRule) (stands .counts) (rule-fits b s holds i (omega (arith, rules-length b s holds))) (about l) (stands .named) i))
-            ∙ sym (rules-next d b s (here .name) (here .number) (bytesOf m here) i l)
-        by (no l) = left-over (first i) (omega arith) ∙ sym (rules-end d b s (here .name) (here .number) (bytesOf m here) i (omega arith))
+            (sym (rule-whole d b s (here .name) (here .ordinal) (bytesOf m here) (getD (rulesIn b s) i noRule) (stands .counts) (rule-fits b s holds i (omega (arith, rules-length b s holds))) (about l) (stands .named) i))
+            ∙ sym (rules-next d b s (here .name) (here .ordinal) (bytesOf m here) i l)
+        by (no l) = left-over (first i) (omega arith) ∙ sym (rules-end d b s (here .name) (here .ordinal) (bytesOf m here) i (omega arith))
 
     -- the first rule about the segment
     pub spot-begin : restAt (first (nextAbout (here .name) 0 (rulesIn b s))) ≡ rulesFrom d m b s here 0
     spot-begin =
         spot-first (nextAbout (here .name) 0 (rulesIn b s)) (about-next (here .name) (rulesIn b s) 0)
-        ∙ sym (rules-skip d b s (here .name) (here .number) (bytesOf m here) 0)
+        ∙ sym (rules-skip d b s (here .name) (here .ordinal) (bytesOf m here) 0)
 
     module _ {starts : List ℕ} (spot : Spot) (at : SpotStands d m b s starts here spot) (few : spot .rule < s .«rule_count») where
       within : spot .rule < length (rulesIn b s)
@@ -185,7 +185,7 @@ module _ (d : Delims) (m b : List ℕ) (s : Section) (here : Here) where
           let got = subst (NextOfRule d m b s here spot) e h in
           let in-it : then .rule < length (rulesIn b s) = omega (arith, got .1, within) in (
             same ∙ left-next spot within ∙ ap (λ (k : List Finding). k ++ rulesFrom d m b s here (spot .rule + 1)) (got .0)
-                ∙ ap (λ (n : ℕ). f ∷ (leftOf d (setsIn b s) (here .name) (here .number) (bytesOf m here) then (getD (rulesIn b s) n noRule) ++ rulesFrom d m b s here (n + 1))) (sym (got .1))
+                ∙ ap (λ (n : ℕ). f ∷ (leftOf d (setsIn b s) (here .name) (here .ordinal) (bytesOf m here) then (getD (rulesIn b s) n noRule) ++ rulesFrom d m b s here (n + 1))) (sym (got .1))
                 ∙ ap (λ (k : List Finding). f ∷ k) (sym (left-next then in-it)),
             record {
               passed = got .2;
@@ -213,7 +213,7 @@ module _ (d : Delims) (m b : List ℕ) (s : Section) (here : Here) where
         then-none h e =
             left-next spot within
             ∙ ap (λ (l : List Finding). l ++ rulesFrom d m b s here (spot .rule + 1)) (subst (NextOfRule d m b s here spot) e h)
-            ∙ rules-skip d b s (here .name) (here .number) (bytesOf m here) (spot .rule + 1)
+            ∙ rules-skip d b s (here .name) (here .ordinal) (bytesOf m here) (spot .rule + 1)
             ∙ ap (rulesFrom d m b s here) (sym next-is)
             ∙ sym (spot-first k next-about)
 
@@ -221,6 +221,6 @@ module _ (d : Delims) (m b : List ℕ) (s : Section) (here : Here) where
         then-last same h f e = (
           same ∙ left-next spot within
               ∙ ap (λ (l : List Finding). l ++ rulesFrom d m b s here (spot .rule + 1)) (subst (NextOfRule d m b s here spot) e h)
-              ∙ ap (λ (l : List Finding). f ∷ l) (rules-skip d b s (here .name) (here .number) (bytesOf m here) (spot .rule + 1) ∙ ap (rulesFrom d m b s here) (sym next-is) ∙ sym (spot-first k next-about)),
+              ∙ ap (λ (l : List Finding). f ∷ l) (rules-skip d b s (here .name) (here .ordinal) (bytesOf m here) (spot .rule + 1) ∙ ap (rulesFrom d m b s here) (sym next-is) ∙ sym (spot-first k next-about)),
           next-stands,
         )

@@ -11,7 +11,7 @@ use Rattle.grade.specs.Rule.{otherNumber}
 use Rattle.grade.specs.Standing.{Holds, rulesIn, setsIn}
 use Rattle.grade.specs.Order.{mayFollow, outOfOrder}
 use Rattle.grade.specs.Findings.{findings}
-use Rattle.grade.specs.Rest.{walkFrom, rest, Stands, Steps, betweenAt}
+use Rattle.grade.specs.Rest.{gradeFrom, rest, Stands, Steps, betweenAt}
 use Rattle.grade.specs.declared.walk.Section.{Section}
 use Rattle.grade.specs.declared.finding.Finding.{Finding}
 use Rattle.grade.specs.declared.step.Cursor.{Cursor}
@@ -27,7 +27,7 @@ module _ (follows : ℕ → ℕ → Bool) (d : Delims) (m b : List ℕ) (s : Sec
 
   -- ---- before the first step
   module _ (holds : Holds b s) {c : Cursor} (begins : c ≡ betweenAt (s .«rule_count») 0 otherNumber) where
-    pub start-left : left (replicate 10 0) c ≡ walkFrom (outOfOrder follows) d m b s 0 otherNumber (replicate 10 0)
+    pub start-left : left (replicate 10 0) c ≡ gradeFrom (outOfOrder follows) d m b s 0 otherNumber (replicate 10 0)
     start-left = ap (left (replicate 10 0)) begins ∙ between-list follows d m b s holds 0 otherNumber (replicate 10 0)
 
     pub start-stands : (starts : List ℕ) → Stands d m b s starts (replicate 10 0) c

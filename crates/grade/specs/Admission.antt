@@ -5,7 +5,7 @@ use mathlib.Core.List.{List, [], _∷_, _++_}
 use lib.ListN.{length}
 use Rattle.hl7.specs.Bytes.{within}
 use Rattle.hl7.specs.Place.{delimsOf, fieldOf}
-use Rattle.hl7.specs.Refusals.{Told, told, Row, row, firstRow, messageRows, paper, readingOf, isSound}
+use Rattle.hl7.specs.Refusals.{Told, told, Row, row, firstRow, messageRows, readingTold, readingOf, isSound}
 use Rattle.hl7.specs.declared.place.Delims.{Delims}
 use Rattle.grade.specs.Book.{malformed, otherVersion, noSection, opened}
 use Rattle.grade.specs.Header.{mshOf, mshAt, headerOf}
@@ -35,7 +35,7 @@ bookRows d msh b =
 unfoldable pub admitRows : List ℕ → List ℕ → List Row
 admitRows m b = messageRows m ++ bookRows (delimsOf m) (mshOf m) b
 
--- ---- the code's answer, and what it is on paper
+-- ---- the code's answer, and what it is on readingTold
 abbrev pub bySection : Opened → Header → Admitted
 bySection (Opened.At section) header = By section header
 bySection Opened.Malformed header = MalformedBook
@@ -48,10 +48,10 @@ admittedBy d msh b = cond (hasControlId d msh) (bySection (opened b (keyOf d msh
 unfoldable pub admitted : List ℕ → List ℕ → Admitted
 admitted m b = cond (isSound m) (admittedBy (delimsOf m) (mshOf m) b) (Unreadable (readingOf (firstRow (messageRows m))))
 
-abbrev pub admittedPaper : Admitted → Told
-admittedPaper (Unreadable reading) = paper reading
-admittedPaper NoControlId = told 6 0
-admittedPaper MalformedBook = told 7 0
-admittedPaper OtherVersion = told 8 0
-admittedPaper NoSection = told 9 0
-admittedPaper (By section header) = told 0 0
+abbrev pub admittedTold : Admitted → Told
+admittedTold (Unreadable reading) = readingTold reading
+admittedTold NoControlId = told 6 0
+admittedTold MalformedBook = told 7 0
+admittedTold OtherVersion = told 8 0
+admittedTold NoSection = told 9 0
+admittedTold (By section header) = told 0 0

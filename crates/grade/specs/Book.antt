@@ -90,8 +90,8 @@ abbrev pub keys : List Sited → List (List ℕ)
 keys = map (λ (s : Sited). s .contents .key)
 
 -- nothing comes after
-abbrev pub atEnd : Reader (Unit {0})
-atEnd b at = check (eqb at (length b)) b at
+abbrev pub nothingAfter : Reader (Unit {0})
+nothingAfter b at = check (eqb at (length b)) b at
 
 -- what follows the head: one byte of section count, the sections, and nothing after them; keys differ pairwise
 unfoldable pub sections : Reader (List Sited)
@@ -99,7 +99,7 @@ sections = do
   count ← byte
   check (within 1 sectionLimit count)
   all ← times count section
-  atEnd
+  nothingAfter
   check (distinct (keys all))
   give all
 

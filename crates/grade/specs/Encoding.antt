@@ -21,15 +21,15 @@ use Rattle.grade.specs.Book.{plain, Contents, distinct}
 abbrev pub twoBytesOf : ℕ → List ℕ
 twoBytesOf n = n / 256 ∷ n % 256 ∷ []
 
-abbrev pub joined : {A : Type 0} → (A → List ℕ) → List A → List ℕ
-joined spell [] = []
-joined spell (x ∷ xs) = spell x ++ joined spell xs
+abbrev pub spellAll : {A : Type 0} → (A → List ℕ) → List A → List ℕ
+spellAll spell [] = []
+spellAll spell (x ∷ xs) = spell x ++ spellAll spell xs
 
 abbrev pub textBytes : List ℕ → List ℕ
 textBytes letters = length letters ∷ letters
 
 abbrev pub setBytes : List (List ℕ) → List ℕ
-setBytes codes = twoBytesOf (length codes) ++ joined textBytes codes
+setBytes codes = twoBytesOf (length codes) ++ spellAll textBytes codes
 
 abbrev pub severityByte : Severity → ℕ
 severityByte Severity.Error = code "E"
@@ -60,11 +60,11 @@ ruleBytes r =
 
 abbrev pub sectionBytes : Contents → List ℕ
 sectionBytes c =
-    textBytes (c .key) ++ (twoBytesOf (length (c .rules)) ++ (length (c .sets) ∷ (joined ruleBytes (c .rules) ++ joined setBytes (c .sets))))
+    textBytes (c .key) ++ (twoBytesOf (length (c .rules)) ++ (length (c .sets) ∷ (spellAll ruleBytes (c .rules) ++ spellAll setBytes (c .sets))))
 
 -- mark, version, section count, sections
 unfoldable pub bookBytes : List Contents → List ℕ
-bookBytes contents = bytes "VXB" ++ (twoBytesOf bookVersion ++ (length contents ∷ joined sectionBytes contents))
+bookBytes contents = bytes "VXB" ++ (twoBytesOf bookVersion ++ (length contents ∷ spellAll sectionBytes contents))
 
 -- ---- limits
 

@@ -48,8 +48,8 @@ Earlier = Lex (Lex _<_)
 
 -- ---- when an event is one: by which name may follow which, the section's rules, the codes of its sets, and the message
 module _ (follows : ℕ → ℕ → Bool) (rules : List Rule) (sets : List (List (List ℕ))) (m : List ℕ) where
-  abbrev pub ruleOf : ℕ → Rule
-  ruleOf i = getD rules i noRule
+  abbrev pub ruleNumbered : ℕ → Rule
+  ruleNumbered i = getD rules i noRule
 
   abbrev pub segmentAt : ℕ → List ℕ
   segmentAt n = getD (segmentsOf m) n []
@@ -58,13 +58,13 @@ module _ (follows : ℕ → ℕ → Bool) (rules : List Rule) (sets : List (List
   named n = nameAt (segmentsOf m) n
 
   abbrev pub valuesAt : ℕ → ℕ → List (List ℕ)
-  valuesAt n i = valuesOf (delimsOf m) (ruleOf i) (segmentAt n)
+  valuesAt n i = valuesOf (delimsOf m) (ruleNumbered i) (segmentAt n)
 
   abbrev pub orderBroken : ℕ → Bool
   orderBroken n = outOfOrder follows (nameBefore (segmentsOf m) n) (named n)
 
   abbrev pub ruleBroken : ℕ → ℕ → ℕ → Bool
-  ruleBroken n i r = isAbout (ruleOf i) (named n) && breaksRule sets (ruleOf i) r (getD (valuesAt n i) r [])
+  ruleBroken n i r = isAbout (ruleNumbered i) (named n) && breaksRule sets (ruleNumbered i) r (getD (valuesAt n i) r [])
 
   abbrev pub BreaksAt : ℕ → ℕ → ℕ → Type 0
   BreaksAt n zero r = (n ≤ length (segmentsOf m)) × (r ≡ 0) × T (orderBroken n)
@@ -75,13 +75,13 @@ module _ (follows : ℕ → ℕ → Bool) (rules : List Rule) (sets : List (List
 
   -- ---- the finding of an event
   -- the number of segment n among the segments of its name; the end has none
-  abbrev pub numberAt : ℕ → ℕ
-  numberAt n = cond (counted (named n)) (suc (earlier (segmentsOf m) (named n) n)) 0
+  abbrev pub ordinalAt : ℕ → ℕ
+  ordinalAt n = cond (counted (named n)) (suc (earlier (segmentsOf m) (named n) n)) 0
 
   abbrev pub findingAt : ℕ → ℕ → ℕ → Finding
   findingAt n zero r = record {
     name = named n;
-    number = numberAt n;
+    ordinal = ordinalAt n;
     field = 0;
     repetition = 0;
     component = 0;
@@ -91,13 +91,13 @@ module _ (follows : ℕ → ℕ → Bool) (rules : List Rule) (sets : List (List
   }
   findingAt n (suc i) r = record {
     name = named n;
-    number = numberAt n;
-    field = ruleOf i .place .field;
+    ordinal = ordinalAt n;
+    field = ruleNumbered i .place .field;
     repetition = suc r;
-    component = ruleOf i .place .component;
+    component = ruleNumbered i .place .component;
     rule = suc i;
-    code = errorCode (ruleOf i .kind);
-    severity = severityLetter (ruleOf i .severity);
+    code = errorCode (ruleNumbered i .kind);
+    severity = severityLetter (ruleNumbered i .severity);
   }
 
   abbrev pub findingOf : Event → Finding

@@ -34,8 +34,8 @@ headerOf d msh =
 
 -- a header finding is an E at the first MSH
 abbrev pub headerFinding : ℕ → ℕ → ℕ → Finding
-headerFinding number field component =
-    record { name = 0; number = 1; field = field; repetition = 1; component = component; rule = 0; code = number; severity = code "E" }
+headerFinding error field component =
+    record { name = 0; ordinal = 1; field = field; repetition = 1; component = component; rule = 0; code = error; severity = code "E" }
 
 abbrev pub onlyIf : Bool → Finding → List Finding
 onlyIf test finding = cond test (finding ∷ []) []

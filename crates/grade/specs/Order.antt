@@ -5,7 +5,7 @@ use mathlib.Core.List.{List, [], _∷_, map}
 use lib.ListN.{getD}
 use lib.Dec.{eqb, leb, ltb}
 use Rattle.grade.specs.Limits.{segmentCount}
-use Rattle.grade.specs.Rule.{segmentOf, endNumber, otherNumber}
+use Rattle.grade.specs.Rule.{nameOfLetters, endNumber, otherNumber}
 use Rattle.grade.specs.Strict.{countFrom}
 
 -- ---- names
@@ -40,19 +40,19 @@ obx = 8
 abbrev pub nte : ℕ
 nte = 9
 
-abbrev pub atEnd : ℕ
-atEnd = endNumber
+abbrev pub theEnd : ℕ
+theEnd = endNumber
 
 abbrev pub counted : ℕ → Bool
 counted name = ltb name segmentCount
 
 -- a segment's name is its first three bytes
 abbrev pub nameOf : List ℕ → ℕ
-nameOf seg = segmentOf (getD seg 0 0) (getD seg 1 0) (getD seg 2 0)
+nameOf seg = nameOfLetters (getD seg 0 0) (getD seg 1 0) (getD seg 2 0)
 
 -- the name that stands at place n, the end's after the last segment
 abbrev pub nameAt : List (List ℕ) → ℕ → ℕ
-nameAt segments n = getD (map nameOf segments) n atEnd
+nameAt segments n = getD (map nameOf segments) n theEnd
 
 -- the last counted name before place n, in order itself or not; none is like a name that does not count
 unfoldable pub nameBefore : List (List ℕ) → ℕ → ℕ
@@ -69,13 +69,13 @@ earlier segments name (suc n) = cond (eqb (nameAt segments n) name) (suc (earlie
 abbrev pub followers : ℕ → List ℕ
 followers name =
     cond (eqb name msh) (pid ∷ [])
-    (cond (eqb name pid) (pd1 ∷ nk1 ∷ pv1 ∷ orc ∷ atEnd ∷ [])
-    (cond (eqb name pd1 || eqb name nk1) (nk1 ∷ pv1 ∷ orc ∷ atEnd ∷ [])
-    (cond (eqb name pv1) (orc ∷ atEnd ∷ [])
+    (cond (eqb name pid) (pd1 ∷ nk1 ∷ pv1 ∷ orc ∷ theEnd ∷ [])
+    (cond (eqb name pd1 || eqb name nk1) (nk1 ∷ pv1 ∷ orc ∷ theEnd ∷ [])
+    (cond (eqb name pv1) (orc ∷ theEnd ∷ [])
     (cond (eqb name orc) (rxa ∷ [])
-    (cond (eqb name rxa) (rxr ∷ obx ∷ orc ∷ atEnd ∷ [])
-    (cond (eqb name rxr) (obx ∷ orc ∷ atEnd ∷ [])
-    (cond (eqb name obx || eqb name nte) (obx ∷ nte ∷ orc ∷ atEnd ∷ [])
+    (cond (eqb name rxa) (rxr ∷ obx ∷ orc ∷ theEnd ∷ [])
+    (cond (eqb name rxr) (obx ∷ orc ∷ theEnd ∷ [])
+    (cond (eqb name obx || eqb name nte) (obx ∷ nte ∷ orc ∷ theEnd ∷ [])
     [])))))))
 
 -- n is one of the list
@@ -88,7 +88,7 @@ mayFollow before name = isIn name (followers before)
 
 -- a counted segment after the first, or the end, breaks the order when it may not follow the counted one before it
 abbrev pub outOfOrder : (ℕ → ℕ → Bool) → ℕ → ℕ → Bool
-outOfOrder follows before name = counted before && (leb name atEnd && not (follows before name))
+outOfOrder follows before name = counted before && (leb name theEnd && not (follows before name))
 
 -- ---- the follow table: ten rows, one for each name, and eleven columns, one for each name and the end
 abbrev pub tableOf : (ℕ → ℕ → Bool) → List (List Bool)

@@ -7,23 +7,23 @@ use lib.ListN.{length, getD}
 use lib.Seq.{slice}
 
 -- a value and the position after it, or a fault
-pub data Reading (A : Type 0) : Type 0 where
-  fault : Reading A
-  found : A → ℕ → Reading A
+pub data Parsed (A : Type 0) : Type 0 where
+  fault : Parsed A
+  found : A → ℕ → Parsed A
 
-abbrev pub isFound : {A : Type 0} → Reading A → Bool
+abbrev pub isFound : {A : Type 0} → Parsed A → Bool
 isFound fault = false
 isFound (found a after) = true
 
 -- what was read, nothing where it was a fault
-abbrev pub itemsOf : {A : Type 0} → Reading (List A) → List A
+abbrev pub itemsOf : {A : Type 0} → Parsed (List A) → List A
 itemsOf fault = []
 itemsOf (found items after) = items
 
 abbrev pub Reader : Type 0 → Type 0
-Reader A = List ℕ → ℕ → Reading A
+Reader A = List ℕ → ℕ → Parsed A
 
-abbrev pub andThen : {A B : Type 0} → Reading A → (A → ℕ → Reading B) → Reading B
+abbrev pub andThen : {A B : Type 0} → Parsed A → (A → ℕ → Parsed B) → Parsed B
 andThen fault k = fault
 andThen (found a after) k = k a after
 

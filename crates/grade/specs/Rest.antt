@@ -17,7 +17,7 @@ use Rattle.grade.specs.Limits.{segmentCount}
 use Rattle.grade.specs.Rule.{errorCode, otherNumber}
 use Rattle.grade.specs.Standing.{noRule, rulesIn, setsIn, Holds, Placed, SetStands, codesAt}
 use Rattle.grade.specs.Linked.{Linked}
-use Rattle.grade.specs.Order.{msh, counted, nameOf, atEnd}
+use Rattle.grade.specs.Order.{msh, counted, nameOf, theEnd}
 use Rattle.grade.specs.Broken.{judges, broken, breaksRule, severityLetter}
 use Rattle.grade.specs.Findings.{isAbout, valueIn, valuesOf}
 use Rattle.grade.specs.declared.rule.Kind.{Kind}
@@ -82,10 +82,10 @@ NextValue d fld b rule codes l Fine = l ≡ []
 
 -- the finding of rule i (from 1) at repetition k of the number-th segment of that name
 abbrev pub valueFinding : ℕ → ℕ → Rule → ℕ → ℕ → Finding
-valueFinding name number rule i k =
+valueFinding name ordinal rule i k =
     record {
       name = name;
-      number = number;
+      ordinal = ordinal;
       field = rule .place .field;
       repetition = k;
       component = rule .place .component;
@@ -96,26 +96,26 @@ valueFinding name number rule i k =
 
 -- what one rule gives at a segment, and what the rules give of which i came before
 abbrev pub ofRule : Delims → List (List (List ℕ)) → ℕ → ℕ → List ℕ → ℕ → Rule → List Finding
-ofRule d sets name number segment i rule =
-    cond (isAbout rule name) (map (valueFinding name number rule i) (brokenValues (breaksRule sets rule) 0 (valuesOf d rule segment))) []
+ofRule d sets name ordinal segment i rule =
+    cond (isAbout rule name) (map (valueFinding name ordinal rule i) (brokenValues (breaksRule sets rule) 0 (valuesOf d rule segment))) []
 
 unfoldable pub ofRules : Delims → List (List (List ℕ)) → ℕ → ℕ → List ℕ → ℕ → List Rule → List Finding
-ofRules d sets name number segment i [] = []
-ofRules d sets name number segment i (rule ∷ rules) =
-    ofRule d sets name number segment (suc i) rule ++ ofRules d sets name number segment (suc i) rules
+ofRules d sets name ordinal segment i [] = []
+ofRules d sets name ordinal segment i (rule ∷ rules) =
+    ofRule d sets name ordinal segment (suc i) rule ++ ofRules d sets name ordinal segment (suc i) rules
 
 -- what a rule still gives from a spot on, where so many repetitions were passed
 abbrev pub leftOf : Delims → List (List (List ℕ)) → ℕ → ℕ → List ℕ → Spot → Rule → List Finding
-leftOf d sets name number segment spot rule =
-    map (valueFinding name number rule (spot .rule + 1))
+leftOf d sets name ordinal segment spot rule =
+    map (valueFinding name ordinal rule (spot .rule + 1))
     (brokenValues (breaksRule sets rule) (spot .passed)
     (map (valueIn d false rule) (partsFrom (d .tilde) (fieldOf d segment (rule .place .field) .bytes) (spot .at))))
 
 -- and the rules after it
 unfoldable pub leftFrom : Delims → List (List (List ℕ)) → ℕ → ℕ → List ℕ → Spot → List Rule → List Finding
-leftFrom d sets name number segment spot [] = []
-leftFrom d sets name number segment spot (rule ∷ rules) =
-    leftOf d sets name number segment spot rule ++ ofRules d sets name number segment (spot .rule + 1) rules
+leftFrom d sets name ordinal segment spot [] = []
+leftFrom d sets name ordinal segment spot (rule ∷ rules) =
+    leftOf d sets name ordinal segment spot rule ++ ofRules d sets name ordinal segment (spot .rule + 1) rules
 
 -- ---- one segment
 abbrev pub bytesOf : List ℕ → Here → List ℕ
@@ -157,31 +157,31 @@ pub record Given (m b : List ℕ) (s : Section) (sets links : List ℕ) : Type 0
 
 -- what the rules give of which i came before
 abbrev pub rulesFrom : Delims → List ℕ → List ℕ → Section → Here → ℕ → List Finding
-rulesFrom d m b s here i = ofRules d (setsIn b s) (here .name) (here .number) (bytesOf m here) i (drop i (rulesIn b s))
+rulesFrom d m b s here i = ofRules d (setsIn b s) (here .name) (here .ordinal) (bytesOf m here) i (drop i (rulesIn b s))
 
 -- what a segment still gives from a spot on
 abbrev pub segmentRest : Delims → List ℕ → List ℕ → Section → Here → Spot → List Finding
-segmentRest d m b s here spot = leftFrom d (setsIn b s) (here .name) (here .number) (bytesOf m here) spot (drop (spot .rule) (rulesIn b s))
+segmentRest d m b s here spot = leftFrom d (setsIn b s) (here .name) (here .ordinal) (bytesOf m here) spot (drop (spot .rule) (rulesIn b s))
 
 abbrev pub orderFinding : ℕ → ℕ → Finding
-orderFinding name number =
-    record { name = name; number = number; field = 0; repetition = 0; component = 0; rule = 0; code = 100; severity = severityLetter Error }
+orderFinding name ordinal =
+    record { name = name; ordinal = ordinal; field = 0; repetition = 0; component = 0; rule = 0; code = 100; severity = severityLetter Error }
 
 -- what the order gives at a name after the counted name `last`; `out` says whether it is broken there
 abbrev pub ofOrder : (ℕ → ℕ → Bool) → ℕ → ℕ → ℕ → List Finding
-ofOrder out last name number = cond (out last name) (orderFinding name number ∷ []) []
+ofOrder out last name ordinal = cond (out last name) (orderFinding name ordinal ∷ []) []
 
 abbrev pub ofSegment : (ℕ → ℕ → Bool) → Delims → List ℕ → List ℕ → Section → Here → ℕ → List Finding
-ofSegment out d m b s here last = ofOrder out last (here .name) (here .number) ++ rulesFrom d m b s here 0
+ofSegment out d m b s here last = ofOrder out last (here .name) (here .ordinal) ++ rulesFrom d m b s here 0
 
 -- r is the first finding that the rule at a spot still gives, and where the others are found, if there are any
 abbrev pub NextOfRule : Delims → List ℕ → List ℕ → Section → Here → Spot → Judged → Type 0
 NextOfRule d m b s here spot (Judged.Found f then) =
-    (leftOf d (setsIn b s) (here .name) (here .number) (bytesOf m here) spot (getD (rulesIn b s) (spot .rule) noRule)
-    ≡ f ∷ leftOf d (setsIn b s) (here .name) (here .number) (bytesOf m here) then (getD (rulesIn b s) (spot .rule) noRule))
+    (leftOf d (setsIn b s) (here .name) (here .ordinal) (bytesOf m here) spot (getD (rulesIn b s) (spot .rule) noRule)
+    ≡ f ∷ leftOf d (setsIn b s) (here .name) (here .ordinal) (bytesOf m here) then (getD (rulesIn b s) (spot .rule) noRule))
     × (then .rule ≡ spot .rule) × (then .passed ≤ then .at) × Fielded d m b s here (spot .rule) (then .field)
-NextOfRule d m b s here spot (Judged.Last f) = leftOf d (setsIn b s) (here .name) (here .number) (bytesOf m here) spot (getD (rulesIn b s) (spot .rule) noRule) ≡ f ∷ []
-NextOfRule d m b s here spot Judged.Nothing = leftOf d (setsIn b s) (here .name) (here .number) (bytesOf m here) spot (getD (rulesIn b s) (spot .rule) noRule) ≡ []
+NextOfRule d m b s here spot (Judged.Last f) = leftOf d (setsIn b s) (here .name) (here .ordinal) (bytesOf m here) spot (getD (rulesIn b s) (spot .rule) noRule) ≡ f ∷ []
+NextOfRule d m b s here spot Judged.Nothing = leftOf d (setsIn b s) (here .name) (here .ordinal) (bytesOf m here) spot (getD (rulesIn b s) (spot .rule) noRule) ≡ []
 
 abbrev pub NextWithin : Delims → List ℕ → List ℕ → Section → List ℕ → Here → List Finding → Within → Type 0
 NextWithin d m b s starts here l (Found f then) = (l ≡ f ∷ segmentRest d m b s here then) × SpotStands d m b s starts here then
@@ -189,18 +189,18 @@ NextWithin d m b s starts here l Nothing = l ≡ []
 
 -- ---- the segments
 -- counts and last stand for the segments before: how many there were of each name, and the last counted name
-unfoldable pub walk : (ℕ → ℕ → Bool) → Delims → List Rule → List (List (List ℕ)) → List ℕ → ℕ → List (List ℕ) → List Finding
-walk out d rules sets counts last [] = ofOrder out last atEnd 0
-walk out d rules sets counts last (segment ∷ segments) =
+unfoldable pub gradeSegments : (ℕ → ℕ → Bool) → Delims → List Rule → List (List (List ℕ)) → List ℕ → ℕ → List (List ℕ) → List Finding
+gradeSegments out d rules sets counts last [] = ofOrder out last theEnd 0
+gradeSegments out d rules sets counts last (segment ∷ segments) =
     cond (counted (nameOf segment))
     (ofOrder out last (nameOf segment) (suc (getD counts (nameOf segment) 0))
     ++ (ofRules d sets (nameOf segment) (suc (getD counts (nameOf segment) 0)) segment 0 rules
-    ++ walk out d rules sets (set counts (nameOf segment) (suc (getD counts (nameOf segment) 0))) (nameOf segment) segments))
-    (walk out d rules sets counts last segments)
+    ++ gradeSegments out d rules sets (set counts (nameOf segment) (suc (getD counts (nameOf segment) 0))) (nameOf segment) segments))
+    (gradeSegments out d rules sets counts last segments)
 
 -- what the segments give that begin at `at` or later
-abbrev pub walkFrom : (ℕ → ℕ → Bool) → Delims → List ℕ → List ℕ → Section → ℕ → ℕ → List ℕ → List Finding
-walkFrom out d m b s at last counts = walk out d (rulesIn b s) (setsIn b s) counts last (butLast (cut carriageReturn (drop at m)))
+abbrev pub gradeFrom : (ℕ → ℕ → Bool) → Delims → List ℕ → List ℕ → Section → ℕ → ℕ → List ℕ → List Finding
+gradeFrom out d m b s at last counts = gradeSegments out d (rulesIn b s) (setsIn b s) counts last (butLast (cut carriageReturn (drop at m)))
 
 -- no more segments were counted than bytes passed, so a count fits
 pub record CountsStand (m : List ℕ) (at : ℕ) (counts : List ℕ) : Type 0 where
@@ -210,7 +210,7 @@ pub record CountsStand (m : List ℕ) (at : ℕ) (counts : List ℕ) : Type 0 wh
 -- ---- the cursor
 -- what is still to come: of the present segment, then of the segments after it, those before having been counted
 abbrev pub rest : (ℕ → ℕ → Bool) → Delims → List ℕ → List ℕ → Section → List ℕ → Cursor → List Finding
-rest out d m b s counts c = segmentRest d m b s (c .here) (c .spot) ++ walkFrom out d m b s (c .next) (c .last) counts
+rest out d m b s counts c = segmentRest d m b s (c .here) (c .spot) ++ gradeFrom out d m b s (c .next) (c .last) counts
 
 -- a cursor that `start` and `next` hand out, with what they leave in what is lent to them
 pub record Stands (d : Delims) (m b : List ℕ) (s : Section) (starts counts : List ℕ) (c : Cursor) : Type 0 where
@@ -222,7 +222,7 @@ pub record Stands (d : Delims) (m b : List ℕ) (s : Section) (starts counts : L
 abbrev pub betweenAt : ℕ → ℕ → ℕ → Cursor
 betweenAt count next last =
     record {
-      here = record { start = 0; end = 0; name = 1; number = 0; count = 0; single = false };
+      here = record { start = 0; end = 0; name = 1; ordinal = 0; count = 0; single = false };
       spot = record { rule = count; at = 0; passed = 0; field = record { codes = 0; start = 0; end = 0 } };
       next = next;
       last = last;
@@ -230,34 +230,34 @@ betweenAt count next last =
 
 -- what opening gives at the end of the message, after the counted name `last`
 abbrev pub endBy : Bool → Cursor → Opened
-endBy true c = Opened.Order (orderFinding atEnd 0) c
+endBy true c = Opened.Order (orderFinding theEnd 0) c
 endBy false c = Opened.End
 
 abbrev pub endOpened : (ℕ → ℕ → Bool) → ℕ → ℕ → ℕ → Opened
-endOpened out count at last = endBy (out last atEnd) (betweenAt count at otherNumber)
+endOpened out count at last = endBy (out last theEnd) (betweenAt count at otherNumber)
 
 -- a cursor in the segment from `at` to `stop`, before its first rule
 abbrev pub enteredAt : ℕ → ℕ → ℕ → ℕ → ℕ → ℕ → Bool → Cursor
-enteredAt at stop name number first count single =
+enteredAt at stop name ordinal first count single =
     record {
-      here = record { start = at; end = stop; name = name; number = number; count = count; single = single };
+      here = record { start = at; end = stop; name = name; ordinal = ordinal; count = count; single = single };
       spot = record { rule = first; at = 0; passed = 0; field = record { codes = 0; start = 0; end = 0 } };
       next = stop + 1;
       last = name;
     }
 
 -- it is that cursor, and where the segment has rules its parts are noted
-pub record EnteredAt (d : Delims) (m starts : List ℕ) (rules first at stop name number : ℕ) (c : Cursor) : Type 0 where
+pub record EnteredAt (d : Delims) (m starts : List ℕ) (rules first at stop name ordinal : ℕ) (c : Cursor) : Type 0 where
   pub count : ℕ
   pub single : Bool
-  pub is : c ≡ enteredAt at stop name number first count single
+  pub is : c ≡ enteredAt at stop name ordinal first count single
   pub parted : first < rules → Parted d (between m at stop) starts count single
 
 abbrev pub Enters : (ℕ → ℕ → Bool) → Delims → List ℕ → List ℕ → ℕ → ℕ → ℕ → ℕ → ℕ → ℕ → ℕ → Opened → Type 0
-Enters out d m starts rules first at stop name number last (Opened.Order f c) =
-    (out last name ≡ true) × (f ≡ orderFinding name number) × EnteredAt d m starts rules first at stop name number c
-Enters out d m starts rules first at stop name number last (Opened.Rules c) = (out last name ≡ false) × EnteredAt d m starts rules first at stop name number c
-Enters out d m starts rules first at stop name number last Opened.End = ⊥
+Enters out d m starts rules first at stop name ordinal last (Opened.Order f c) =
+    (out last name ≡ true) × (f ≡ orderFinding name ordinal) × EnteredAt d m starts rules first at stop name ordinal c
+Enters out d m starts rules first at stop name ordinal last (Opened.Rules c) = (out last name ≡ false) × EnteredAt d m starts rules first at stop name ordinal c
+Enters out d m starts rules first at stop name ordinal last Opened.End = ⊥
 
 -- the next counted segment after `from` was opened, or the end, where l is still to come
 abbrev pub Opens : (ℕ → ℕ → Bool) → Delims → List ℕ → List ℕ → Section → List ℕ → List ℕ → ℕ → List Finding → Opened → Type 0

@@ -42,8 +42,8 @@ numberFrom n name [] = otherNumber
 numberFrom n name (text ∷ texts) = cond (same name text) n (numberFrom (suc n) name texts)
 
 -- the number of the name with these three letters
-unfoldable pub segmentOf : ℕ → ℕ → ℕ → ℕ
-segmentOf a b c = numberFrom 0 (a ∷ b ∷ c ∷ []) segmentNames
+unfoldable pub nameOfLetters : ℕ → ℕ → ℕ → ℕ
+nameOfLetters a b c = numberFrom 0 (a ∷ b ∷ c ∷ []) segmentNames
 
 -- ---- places
 
@@ -129,7 +129,7 @@ ruleWith false place severity kind = RuleRead.Fault
 -- segment name (3), field, component
 abbrev pub placeOf : List ℕ → Place
 placeOf ten =
-    record { segment = segmentOf (getD ten 0 0) (getD ten 1 0) (getD ten 2 0); field = getD ten 3 0; component = getD ten 4 0 }
+    record { segment = nameOfLetters (getD ten 0 0) (getD ten 1 0) (getD ten 2 0); field = getD ten 3 0; component = getD ten 4 0 }
 
 -- the place, then kind, severity, set number, low, high
 unfoldable pub ruleOf : ℕ → List ℕ → RuleRead

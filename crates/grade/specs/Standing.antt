@@ -7,7 +7,7 @@ use lib.ListN.{length, getD, take}
 use lib.Seq.{slice}
 use Rattle.hl7.specs.Bytes.{all, same}
 use Rattle.grade.specs.Limits.{ruleLimit, setLimit}
-use Rattle.grade.specs.Reader.{Reading, fault, found, isFound, itemsOf, times}
+use Rattle.grade.specs.Reader.{Parsed, fault, found, isFound, itemsOf, times}
 use Rattle.grade.specs.Book.{plain, ruleIn, codeSet, Sited, section}
 use Rattle.grade.specs.declared.rule.Severity.{Severity}
 use Rattle.grade.specs.declared.rule.Kind.{Kind}
@@ -17,11 +17,11 @@ use Rattle.grade.specs.declared.walk.Section.{Section}
 use Rattle.grade.specs.declared.book.Opened.{Opened}
 
 -- three letters as one number
-abbrev pub nameNumber : ℕ → ℕ → ℕ → ℕ
-nameNumber a b c = a * 65536 + b * 256 + c
+abbrev pub lettersNumber : ℕ → ℕ → ℕ → ℕ
+lettersNumber a b c = a * 65536 + b * 256 + c
 
 -- where a reading ends
-abbrev pub endOf : {A : Type 0} → Reading A → Next
+abbrev pub endOf : {A : Type 0} → Parsed A → Next
 endOf fault = Next.Fault
 endOf (found a after) = Next.At after
 
@@ -46,7 +46,7 @@ pub record TextFits (b : List ℕ) (at : ℕ) : Type 0 where
 abbrev pub standsAt : List ℕ → ℕ → Bool
 standsAt b at = isFound (section b at)
 
-abbrev pub sitedOf : Reading Sited → Sited
+abbrev pub sitedOf : Parsed Sited → Sited
 sitedOf fault =
     record {
       contents = record { key = []; rules = []; sets = [] };
@@ -70,7 +70,7 @@ unfoldable pub withKey : List ℕ → List Sited → Opened
 withKey key [] = Opened.NoSection
 withKey key (s ∷ rest) = cond (same key (s .contents .key)) (Opened.At (s .place)) (withKey key rest)
 
-abbrev pub chosen : List ℕ → Reading (List Sited) → Opened
+abbrev pub chosen : List ℕ → Parsed (List Sited) → Opened
 chosen key fault = Opened.Malformed
 chosen key (found all after) = withKey key all
 

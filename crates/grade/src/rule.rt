@@ -10,8 +10,8 @@ ghost use Rattle.grade.specs.declared.rule.KindRead.{KindRead};
 ghost use Rattle.grade.specs.declared.rule.Rule.{Rule};
 ghost use Rattle.grade.specs.declared.rule.RuleRead.{RuleRead};
 ghost use Rattle.grade.specs.Limits.{ruleSize};
-ghost use Rattle.grade.specs.Rule.{segmentOf, firstField, placeFits, severityOf, isSeverity, kindOf, isKind, errorCode, ruleOf, isRule};
-ghost use Rattle.grade.specs.Standing.{nameNumber};
+ghost use Rattle.grade.specs.Rule.{nameOfLetters, firstField, placeFits, severityOf, isSeverity, kindOf, isKind, errorCode, ruleOf, isRule};
+ghost use Rattle.grade.specs.Standing.{lettersNumber};
 use crate::limits::COMPONENT_LIMIT;
 use crate::limits::FIELD_LIMIT;
 use crate::limits::SEGMENT_COUNT;
@@ -63,14 +63,14 @@ pub enum RuleRead {
 
 // Three letters as one number.
 pub fn letters(a: u8, b: u8, c: u8) -> u32
-    ensures { λ r. ⌜ r ≡ nameNumber a b c ⌝ }
+    ensures { λ r. ⌜ r ≡ lettersNumber a b c ⌝ }
 {
     (a as u32) * 65536 + (b as u32) * 256 + (c as u32)
 }
 
 // The number of a segment's name.
 pub fn segment_of(a: u8, b: u8, c: u8) -> u8
-    ensures { λ r. ⌜ (r ≡ segmentOf a b c) × (r ≤ 11) ⌝ }
+    ensures { λ r. ⌜ (r ≡ nameOfLetters a b c) × (r ≤ 11) ⌝ }
 {
     match letters(a, b, c) {
         0x4D5348 => 0,

@@ -28,7 +28,7 @@ ghost use Rattle.grade.specs.Limits.{fieldPlaces, segmentCount};
 ghost use Rattle.grade.specs.Standing.{Holds, rulesIn};
 ghost use Rattle.grade.specs.Linked.{Linked};
 ghost use Rattle.grade.specs.Order.{nameOf, outOfOrder, tableSays};
-ghost use Rattle.grade.specs.Rest.{Given, Parted, walkFrom, CountsStand, rest, Stands, betweenAt, endOpened, Enters, Opens, Steps};
+ghost use Rattle.grade.specs.Rest.{Given, Parted, gradeFrom, CountsStand, rest, Stands, betweenAt, endOpened, Enters, Opens, Steps};
 
 // Where the grader stands: in a segment, at a spot of it; then where the next segment begins, and the last counted name.
 pub struct Cursor {
@@ -73,7 +73,7 @@ fn between(section: Section, next: usize, last: usize) -> Cursor
             start: 0,
             end: 0,
             name: 1,
-            number: 0,
+            ordinal: 0,
             count: 0,
             single: false,
         },
@@ -138,11 +138,11 @@ fn enter(
     at: usize,
     stop: usize,
     name: usize,
-    number: u32,
+    ordinal: u32,
     last: usize,
 ) -> Opened
     requires { ⌜ (at ≤ stop) × (stop < length (now m)) × (1 ≤ length (now starts)) × (name < segmentCount) ⌝ }
-    ensures { λ r. ⌜ Enters (outOfOrder (tableSays (now (table .entry)))) d (now (m .entry)) (now (starts .exit)) rules first at stop name number last r ⌝ }
+    ensures { λ r. ⌜ Enters (outOfOrder (tableSays (now (table .entry)))) d (now (m .entry)) (now (starts .exit)) rules first at stop name ordinal last r ⌝ }
 {
     let marks = note_segment(d, &m[at..stop], first < rules, starts);
     let cursor = Cursor {
@@ -150,7 +150,7 @@ fn enter(
             start: at,
             end: stop,
             name,
-            number,
+            ordinal,
             count: marks.count,
             single: marks.single,
         },
@@ -168,7 +168,7 @@ fn enter(
         last: name,
     };
     if out_of_order(table, last, name) {
-        return Opened::Order(order_finding(name, number), cursor);
+        return Opened::Order(order_finding(name, ordinal), cursor);
     }
     Opened::Rules(cursor)
 }
@@ -187,7 +187,7 @@ fn open_segment(
     last: usize,
 ) -> Opened
     requires { ⌜ (length (now m) ≤ messageLimit) × Holds (now book) section × Linked (rulesIn (now book) section) (now links) × CountsStand (now m) from (now counts) × (fieldPlaces ≤ length (now starts)) ⌝ }
-    ensures { λ r. ⌜ Opens (outOfOrder (tableSays (now (table .entry)))) d (now (m .entry)) (now (book .entry)) section (now (starts .exit)) (now (counts .exit)) from (walkFrom (outOfOrder (tableSays (now (table .entry)))) d (now (m .entry)) (now (book .entry)) section from last (now (counts .entry))) r ⌝ }
+    ensures { λ r. ⌜ Opens (outOfOrder (tableSays (now (table .entry)))) d (now (m .entry)) (now (book .entry)) section (now (starts .exit)) (now (counts .exit)) from (gradeFrom (outOfOrder (tableSays (now (table .entry)))) d (now (m .entry)) (now (book .entry)) section from last (now (counts .entry))) r ⌝ }
 {
     let end = m.len();
     let mut at = from;
@@ -198,8 +198,8 @@ fn open_segment(
         }
         let name = name_of(&m[at..stop]);
         if name < 10 {
-            let number = counts[name] + 1;
-            counts[name] = number;
+            let ordinal = counts[name] + 1;
+            counts[name] = ordinal;
             let first = link_at(links, name);
             return enter(
                 table,
@@ -211,7 +211,7 @@ fn open_segment(
                 at,
                 stop,
                 name,
-                number,
+                ordinal,
                 last,
             );
         }

@@ -26,7 +26,7 @@ ghost use Rattle.hl7.specs.Refusals.{messageLimit};
 ghost use Rattle.grade.specs.Limits.{fieldPlaces, ruleLimit, segmentCount};
 ghost use Rattle.grade.specs.Rule.{kindFits};
 ghost use Rattle.grade.specs.Standing.{Holds, Placed, rulesIn, setsIn, noRule};
-ghost use Rattle.grade.specs.Order.{atEnd};
+ghost use Rattle.grade.specs.Order.{theEnd};
 ghost use Rattle.grade.specs.Broken.{severityLetter};
 ghost use Rattle.grade.specs.Rest.{CodesStand, CodesAre, brokenFrom, NextValue, valueFinding, bytesOf, HereStands, Parted, Fielded, SpotStands, Given, segmentRest, orderFinding, NextOfRule, NextWithin};
 
@@ -36,7 +36,7 @@ pub struct Here {
     pub start: usize,
     pub end: usize,
     pub name: usize,
-    pub number: u32,
+    pub ordinal: u32,
     pub count: usize,
     pub single: bool,
 }
@@ -126,19 +126,19 @@ fn severity_letter(severity: Severity) -> u8
     }
 }
 
-pub fn value_finding(here: Here, rule: Rule, number: usize, repetition: u32) -> Finding
-    requires { ⌜ (here .name < segmentCount) × (number ≤ ruleLimit) ⌝ }
-    ensures { λ r. ⌜ r ≡ valueFinding (here .name) (here .number) rule number repetition ⌝ }
+pub fn value_finding(here: Here, rule: Rule, i: usize, repetition: u32) -> Finding
+    requires { ⌜ (here .name < segmentCount) × (i ≤ ruleLimit) ⌝ }
+    ensures { λ r. ⌜ r ≡ valueFinding (here .name) (here .ordinal) rule i repetition ⌝ }
 {
     let kind = rule.kind;
     let severity = rule.severity;
     Finding {
         name: here.name as u8,
-        number: here.number,
+        ordinal: here.ordinal,
         field: rule.place.field,
         repetition,
         component: rule.place.component,
-        rule: number as u16,
+        rule: i as u16,
         code: error_code(kind),
         severity: severity_letter(severity),
     }
@@ -334,13 +334,13 @@ pub(crate) fn next_within(
     Within::Nothing
 }
 
-pub fn order_finding(name: usize, number: u32) -> Finding
-    requires { ⌜ name ≤ atEnd ⌝ }
-    ensures { λ r. ⌜ r ≡ orderFinding name number ⌝ }
+pub fn order_finding(name: usize, ordinal: u32) -> Finding
+    requires { ⌜ name ≤ theEnd ⌝ }
+    ensures { λ r. ⌜ r ≡ orderFinding name ordinal ⌝ }
 {
     Finding {
         name: name as u8,
-        number,
+        ordinal,
         field: 0,
         repetition: 0,
         component: 0,

@@ -20,7 +20,7 @@ use Rattle.hl7.specs.Bytes.{all, begins}
 use Rattle.hl7.specs.Cut.{cut, partAt, endFrom, butLast}
 use Rattle.hl7.specs.Place.{delimsOf, carriageReturn, segmentsOf, segmentOf, isMsh, nthOf, cutUnless, place}
 use Rattle.hl7.specs.Spans.{between}
-use Rattle.hl7.specs.Refusals.{Told, told, Row, row, rowAt, firstRow, holdsAt, First, messageLimit, allowed, wrongBytes, header, hasForm, wrongSegments, formRows, messageRows, firstOf, isSome, paper, readsSound, readingOf, isSound, located}
+use Rattle.hl7.specs.Refusals.{Told, told, Row, row, rowAt, firstRow, holdsAt, First, messageLimit, allowed, wrongBytes, nineBytes, hasForm, wrongSegments, formRows, messageRows, firstOf, isSome, readingTold, readsSound, readingOf, isSound, located}
 use Rattle.hl7.proofs.Comparing.{rest-at, none-of, and-both, begins-less}
 use Rattle.hl7.proofs.Cutting.{first, first-at, first-begins, cut-some, parts-more, parts-last}
 use Rattle.hl7.proofs.Walking.{ended-same}
@@ -168,7 +168,7 @@ unfolding wrongSegments cut
 segments-over d m at h = rw (drop-of-length-le m h)
 
 -- ---- one answer
-reading-paper : (r : Reading) → readingOf (paper r) ≡ r
+reading-paper : (r : Reading) → readingOf (readingTold r) ≡ r
 unfolding readingOf
 reading-paper Sound = refl
 reading-paper Empty = refl
@@ -178,16 +178,16 @@ reading-paper NoHeader = refl
 reading-paper (WrongSegment start) = refl
 
 -- the contract of `check` fixes its answer
-pub reading-is : (m : List ℕ) {r : Reading} → paper r ≡ firstRow (messageRows m) → r ≡ readingOf (firstRow (messageRows m))
+pub reading-is : (m : List ℕ) {r : Reading} → readingTold r ≡ firstRow (messageRows m) → r ≡ readingOf (firstRow (messageRows m))
 reading-is m {r} e = sym (reading-paper r) ∙ ap readingOf e
 
 -- and the other way round
-pub paper-reading : (m : List ℕ) → paper (readingOf (firstRow (messageRows m))) ≡ firstRow (messageRows m)
+pub paper-reading : (m : List ℕ) → readingTold (readingOf (firstRow (messageRows m))) ≡ firstRow (messageRows m)
 unfolding readingOf messageRows formRows firstRow
-paper-reading m = by (eqb (length m) 0) (ltb messageLimit (length m)) (wrongBytes 0 m) (begins header m) (wrongSegments (delimsOf m) 0 (cut carriageReturn m))
+paper-reading m = by (eqb (length m) 0) (ltb messageLimit (length m)) (wrongBytes 0 m) (begins nineBytes m) (wrongSegments (delimsOf m) 0 (cut carriageReturn m))
   where
     by : (empty long : Bool) (bytes : List ℕ) (headed : Bool) (segments : List ℕ) →
-        let a = firstRow (row 1 empty ∷ row 2 long ∷ rowAt 3 bytes ∷ row 4 (not headed) ∷ rowAt 5 segments ∷ []) in paper (readingOf a) ≡ a
+        let a = firstRow (row 1 empty ∷ row 2 long ∷ rowAt 3 bytes ∷ row 4 (not headed) ∷ rowAt 5 segments ∷ []) in readingTold (readingOf a) ≡ a
     by true long bytes headed segments = refl
     by false true bytes headed segments = refl
     by false false (x ∷ bytes) headed segments = refl
@@ -196,7 +196,7 @@ paper-reading m = by (eqb (length m) 0) (ltb messageLimit (length m)) (wrongByte
     by false false [] true [] = refl
 
 -- any two answers that the contract of `check` allows are equal
-pub check-once : (m : List ℕ) {r q : Reading} → paper r ≡ firstRow (messageRows m) → paper q ≡ firstRow (messageRows m) → r ≡ q
+pub check-once : (m : List ℕ) {r q : Reading} → readingTold r ≡ firstRow (messageRows m) → readingTold q ≡ firstRow (messageRows m) → r ≡ q
 check-once m e f = reading-is m e ∙ sym (reading-is m f)
 
 -- ---- rows 1 to 5
@@ -210,11 +210,11 @@ refusal-exactly m = row-exactly (messageRows m) (message-numbered m)
 
 -- the same in the code's words: the tests that it made on the way
 module _ (m : List ℕ) where
-  pub form-none : begins header m ≡ false → told 4 0 ≡ firstRow (formRows m)
+  pub form-none : begins nineBytes m ≡ false → told 4 0 ≡ firstRow (formRows m)
   unfolding firstRow formRows
   form-none e = rw e
 
-  module _ (e : begins header m ≡ true) where
+  module _ (e : begins nineBytes m ≡ true) where
     form-passed : firstRow (formRows m) ≡ firstRow (rowAt 5 (wrongSegments (delimsOf m) 0 (cut carriageReturn m)) ∷ [])
     unfolding firstRow formRows
     form-passed = rw e
@@ -247,7 +247,7 @@ module _ (m : List ℕ) where
       message-form f = sym (lengths-passed ∙ position-none 3 (wrongBytes 0 m) (formRows m) f)
 
 -- ---- sound messages
-reads-sound : (r : Reading) → readsSound r ≡ eqb (paper r .number) 0
+reads-sound : (r : Reading) → readsSound r ≡ eqb (readingTold r .number) 0
 reads-sound Sound = refl
 reads-sound Empty = refl
 reads-sound TooLong = refl
@@ -255,7 +255,7 @@ reads-sound (WrongByte at) = refl
 reads-sound NoHeader = refl
 reads-sound (WrongSegment start) = refl
 
-pub sound-is : (m : List ℕ) (r : Reading) → paper r ≡ firstRow (messageRows m) → readsSound r ≡ isSound m
+pub sound-is : (m : List ℕ) (r : Reading) → readingTold r ≡ firstRow (messageRows m) → readsSound r ≡ isSound m
 unfolding isSound
 sound-is m r e = reads-sound r ∙ ap (λ (a : Told). eqb (a .number) 0) e
 
@@ -268,14 +268,14 @@ pub sound-short : (m : List ℕ) → isSound m ≡ true → length m ≤ message
 unfolding messageRows
 sound-short m e = ltb-false messageLimit (length m) (sound-none m e 1)
 
-pub sound-begins : (m : List ℕ) → isSound m ≡ true → begins header m ≡ true
+pub sound-begins : (m : List ℕ) → isSound m ≡ true → begins nineBytes m ≡ true
 unfolding messageRows formRows
 sound-begins m e = not-false _ (sound-none m e 3)
 
 -- so its first segment is MSH
 pub sound-msh : (m : List ℕ) → isSound m ≡ true → isMsh (segmentOf m 1 .bytes) ≡ true
 unfolding nthOf cutUnless all
-sound-msh m e = begins-less (bytes "MSH") (bytes "|^~\\&|") _ (first-begins carriageReturn header m refl (sound-begins m e))
+sound-msh m e = begins-less (bytes "MSH") (bytes "|^~\\&|") _ (first-begins carriageReturn nineBytes m refl (sound-begins m e))
 
 -- every byte is allowed, and every segment has its form and its CR
 none-at : (positions : List ℕ) → isSome positions ≡ false → positions ≡ []

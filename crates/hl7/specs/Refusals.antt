@@ -1,4 +1,4 @@
--- Refusals as a table: each row a condition, a number and a detail, tried in the paper's order. Rows 1 to 5 are about the message's bytes.
+-- Refusals as a table: each row a condition, a number and a detail, tried in the readingTold's order. Rows 1 to 5 are about the message's bytes.
 -- Assumes nothing.
 use Prim.Native.Nat.{ℕ, suc, _+_, _<_}
 use Prim.Native.Char.{code}
@@ -18,7 +18,7 @@ use Rattle.hl7.specs.declared.refusal.Reading.{Reading}
 use Rattle.hl7.specs.declared.refusal.Reading.the-variants.{Sound, Empty, TooLong, WrongByte, NoHeader, WrongSegment}
 
 -- ---- tables of refusals
--- an answer on paper: a number and a detail
+-- an answer on readingTold: a number and a detail
 pub record Told : Type 0 where
   pub number : ℕ
   pub detail : ℕ
@@ -71,8 +71,8 @@ wrongBytes at [] = []
 wrongBytes at (x ∷ s) = cond (allowed x) (wrongBytes (suc at) s) (at ∷ wrongBytes (suc at) s)
 
 -- M, S, H, bar, caret, tilde, backslash, ampersand, bar
-abbrev pub header : List ℕ
-header = bytes "MSH|^~\\&|"
+abbrev pub nineBytes : List ℕ
+nineBytes = bytes "MSH|^~\\&|"
 
 abbrev pub isUpper : ℕ → Bool
 isUpper x = within 65 90 x
@@ -94,23 +94,23 @@ wrongSegments d at (p ∷ (q ∷ ps)) =
     cond (hasForm d p) (wrongSegments d (at + length p + 1) (q ∷ ps)) (at ∷ wrongSegments d (at + length p + 1) (q ∷ ps))
 
 unfoldable pub formRows : List ℕ → List Row
-formRows m = row 4 (not (begins header m)) ∷ rowAt 5 (wrongSegments (delimsOf m) 0 (cut carriageReturn m)) ∷ []
+formRows m = row 4 (not (begins nineBytes m)) ∷ rowAt 5 (wrongSegments (delimsOf m) 0 (cut carriageReturn m)) ∷ []
 
 unfoldable pub messageRows : List ℕ → List Row
 messageRows m = row 1 (eqb (length m) 0) ∷ row 2 (ltb messageLimit (length m)) ∷ rowAt 3 (wrongBytes 0 m) ∷ formRows m
 
--- ---- the code's answers on paper
+-- ---- the code's answers on readingTold
 abbrev pub firstOf : List ℕ → Found
 firstOf [] = Nothing
 firstOf (x ∷ l) = At x
 
-abbrev pub paper : Reading → Told
-paper Sound = told 0 0
-paper Empty = told 1 0
-paper TooLong = told 2 0
-paper (WrongByte at) = told 3 at
-paper NoHeader = told 4 0
-paper (WrongSegment start) = told 5 start
+abbrev pub readingTold : Reading → Told
+readingTold Sound = told 0 0
+readingTold Empty = told 1 0
+readingTold TooLong = told 2 0
+readingTold (WrongByte at) = told 3 at
+readingTold NoHeader = told 4 0
+readingTold (WrongSegment start) = told 5 start
 
 abbrev pub readsSound : Reading → Bool
 readsSound Sound = true
@@ -120,7 +120,7 @@ readsSound (WrongByte at) = false
 readsSound NoHeader = false
 readsSound (WrongSegment start) = false
 
--- what a paper's answer about a message is in the code's words: the other way round
+-- what a readingTold's answer about a message is in the code's words: the other way round
 unfoldable pub readingOf : Told → Reading
 readingOf a =
     cond (eqb (a .number) 0) Sound

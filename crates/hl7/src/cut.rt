@@ -1,4 +1,4 @@
-// Cutting bytes at a delimiter: one part by its number, or the parts one after the other.
+// Cutting bytes at a delimiter: where a part ends, and one part by its number.
 use crate::bytes::wide;
 ghost use mathlib.Core.Path.{_≡_};
 ghost use mathlib.Core.Bool.{cond};
@@ -7,7 +7,6 @@ ghost use lib.ListN.{length};
 ghost use Rattle.hl7.specs.Bytes.{all, differs, occurrences};
 ghost use Rattle.hl7.specs.Cut.{cut, endFrom, pieceAt};
 ghost use Rattle.hl7.specs.Spans.{Spans, pieceFrom};
-ghost use Rattle.hl7.specs.Walk.{stepAt};
 
 // Bytes that are looked at together.
 const BLOCK: usize = 16;
@@ -142,38 +141,5 @@ pub fn part(s: &[u8], d: u8, k: usize) -> Span
     Span {
         start,
         end: find(s, d, start),
-    }
-}
-
-// Where the next part begins; past the end of the bytes when there is none left.
-pub struct Cursor {
-    pub at: usize,
-}
-
-pub enum Step {
-    // The bytes from start to end, and where to go on.
-    Part {
-        start: usize,
-        end: usize,
-        next: Cursor,
-    },
-    Done,
-}
-
-impl Cursor {
-    // The next part of s cut at d. It costs the length of that part.
-    pub fn next(self, s: &[u8], d: u8) -> Step
-        ensures { λ r. ⌜ r ≡ stepAt d (now (s .entry)) (self .at) ⌝ }
-    {
-        let at = self.at;
-        if s.len() < at {
-            return Step::Done;
-        }
-        let end = find(s, d, at);
-        Step::Part {
-            start: at,
-            end,
-            next: Cursor { at: end + 1 },
-        }
     }
 }

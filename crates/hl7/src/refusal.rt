@@ -8,11 +8,11 @@ ghost use mathlib.Core.Path.{_≡_};
 ghost use Rattle.hl7.specs.Bytes.{all};
 ghost use Rattle.hl7.specs.Cut.{cut};
 ghost use Rattle.hl7.specs.Place.{carriageReturn};
-ghost use Rattle.hl7.specs.Refusals.{allowed, wrongBytes, isUpper, isUpperOrDigit, hasForm, wrongSegments, formRows, messageRows, firstRow, firstOf, paper, readsSound, isSound};
+ghost use Rattle.hl7.specs.Refusals.{allowed, wrongBytes, isUpper, isUpperOrDigit, hasForm, wrongSegments, formRows, messageRows, firstRow, firstOf, readingTold, readsSound, isSound};
 
 const MESSAGE_LIMIT: usize = 32768;
 
-// What a message is on reading: sound, or which of refusals 1 to 5 it meets, with the position where the paper gives one.
+// What a message is on reading: sound, or which of refusals 1 to 5 it meets, with the position where the readingTold gives one.
 pub enum Reading {
     Sound,
     Empty,
@@ -113,7 +113,7 @@ fn wrong_segment(d: Delims, m: &[u8]) -> Found
 
 // Rows 4 and 5.
 fn check_form(m: &[u8]) -> Reading
-    ensures { λ r. ⌜ paper r ≡ firstRow (formRows (now (m .entry))) ⌝ }
+    ensures { λ r. ⌜ readingTold r ≡ firstRow (formRows (now (m .entry))) ⌝ }
 {
     if begins_with(m, b"MSH|^~\\&|") {
         match wrong_segment(delims_of(m), m) {
@@ -127,7 +127,7 @@ fn check_form(m: &[u8]) -> Reading
 
 // Whether a message can be read, or which of refusals 1 to 5 it meets.
 pub fn check(m: &[u8]) -> Reading
-    ensures { λ r. ⌜ paper r ≡ firstRow (messageRows (now (m .entry))) ⌝ }
+    ensures { λ r. ⌜ readingTold r ≡ firstRow (messageRows (now (m .entry))) ⌝ }
 {
     let n = m.len();
     if n == 0 {

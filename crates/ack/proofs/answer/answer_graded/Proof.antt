@@ -27,7 +27,7 @@ add-need c =
     let at-errs = c .before .before .before .before .before .before .before in
     let begin = at-errs .before .before .before .before .before .before .before .before .before .before .before .before in
     let a = begin .args in
-    record { fits = omega (arith, need-fits (a .d) (a .head .now) (a .stamp .now) (a .control) _ (a .out .now) (begin .pre .2) (begin .pre .3) (begin .pre .4) (c .heading-length .ensures) (whole-is (at-errs .put-errs .ensures) (begin .pre .4))) }
+    record { fits = omega (arith, need-fits (a .d) (a .msh .now) (a .stamp .now) (a .control) _ (a .out .now) (begin .pre .2) (begin .pre .3) (begin .pre .4) (c .heading-length .ensures) (whole-is (at-errs .put-errs .ensures) (begin .pre .4))) }
 
 returns : tie.Need-returns
 returns c =

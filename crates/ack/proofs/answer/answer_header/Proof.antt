@@ -12,7 +12,7 @@ add-whole c =
     let at-start = c .before .before .before .before .before .before .before .before .before in
     let a = at-start .args in
     let few = header-few (a .header) in
-    record { fits = omega (arith, need-fits (a .d) (a .head .now) (a .stamp .now) (a .control) _ (a .out .now) (at-start .pre .0) (at-start .pre .1) (omega arith) (c .before .heading-length .ensures) (c .header-length .ensures)) }
+    record { fits = omega (arith, need-fits (a .d) (a .msh .now) (a .stamp .now) (a .control) _ (a .out .now) (at-start .pre .0) (at-start .pre .1) (omega arith) (c .before .heading-length .ensures) (c .header-length .ensures)) }
 
 returns : tie.Need-returns
 returns c =

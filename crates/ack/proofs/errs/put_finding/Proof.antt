@@ -6,7 +6,7 @@ use Rattle.ack.proofs.errs.put_finding.Statement.{statement}
 use Rattle.ack.proofs.errs.put_finding.Tie as tie
 
 returns : tie.Need-returns
-returns c = wrote-past (omega arith) (omega arith) (omega (arith, c .counted .ensures, c .before .err-length .ensures .0 (c .before .before .before .before .args .d)))
+returns c = wrote-past (omega arith) (omega arith) (omega (arith, c .advanced .ensures, c .before .err-length .ensures .0 (c .before .before .before .before .args .d)))
 
 pub put-finding-spec : {M : Type 1} → statement M
 put-finding-spec =

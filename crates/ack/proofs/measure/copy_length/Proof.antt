@@ -17,7 +17,7 @@ returns c =
     let a = begin .args in
     let span = spans-as (field-msh _ _ {f = a .k} (begin .pre .0 .named) (omega arith) (omega arith)) (c .before .noted-part .ensures) in
     let is-length = sym (spans-length span) ∙ ap length (span .bytes) in
-    (is-length, omega (arith, is-length, copied-short (a .d) (a .head .now) (a .k), begin .pre .1))
+    (is-length, omega (arith, is-length, copied-short (a .d) (a .msh .now) (a .k), begin .pre .1))
 
 pub copy-length-spec : {M : Type 1} → statement M
 copy-length-spec = tie.close (tie.spec (λ c. search needs) (λ c κs. search needs) (λ c. search needs) returns)

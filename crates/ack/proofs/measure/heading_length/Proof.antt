@@ -11,7 +11,7 @@ returns c = λ second.
     let a = c .before .before .before .before .before .before .before .before .before .before .before .args in
     omega (
       arith,
-      heading-whole (a .d) (a .head .now) (a .stamp .now) (a .control) second,
+      heading-whole (a .d) (a .msh .now) (a .stamp .now) (a .control) second,
       at-decimal .decimal-length .ensures .0,
       decimal-as (at-decimal .before .wide32 .ensures),
       c .before .before .before .before .before .copy-length .ensures .0,

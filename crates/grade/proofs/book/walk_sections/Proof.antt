@@ -11,7 +11,7 @@ use denote.Ref.{now}
 use lib.ListN.{length, length-set, take, set}
 use lib.Seq.{take-suc-set}
 use Rattle.grade.specs.declared.walk.Next.{Next}
-use Rattle.grade.specs.Reader.{Reading, fault, found, times}
+use Rattle.grade.specs.Reader.{Parsed, fault, found, times}
 use Rattle.hl7.specs.Bytes.{all}
 use Rattle.hl7.proofs.Comparing.{all-snoc}
 use Rattle.grade.specs.Book.{Sited, section}
@@ -30,7 +30,7 @@ abbrev μ-loop : tie.MeasureT-loop
 μ-loop table book at count starts₀ from₀ i₀ starts from i = count - i
 
 -- one section more, over plain variables
-step : (b : List ℕ) (count i from : ℕ) (starts : List ℕ) (end : ℕ) (whole : Reading (List Sited)) →
+step : (b : List ℕ) (count i from : ℕ) (starts : List ℕ) (end : ℕ) (whole : Parsed (List Sited)) →
     i < count → i < length starts → endOf (section b from) ≡ Next.At end →
     all (standsAt b) (take i starts) ≡ true →
     whole ≡ after (map (sitedAt b) (take i starts)) (times (count - i) section b from) →

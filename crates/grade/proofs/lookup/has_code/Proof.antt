@@ -5,7 +5,7 @@ use Prim.Native.Nat.{ℕ}
 use native.Mathlib.Omega.{arith}
 use denote.Ref.{now}
 use Rattle.hl7.specs.Bytes.{among}
-use Rattle.grade.specs.Reader.{Reading, isFound, itemsOf}
+use Rattle.grade.specs.Reader.{Parsed, isFound, itemsOf}
 use Rattle.grade.proofs.Parts.{set-is}
 use Rattle.grade.proofs.lookup.has_code.Statement.{statement}
 use Rattle.grade.proofs.lookup.has_code.Tie as tie
@@ -25,7 +25,7 @@ returns : tie.Need-returns
 returns c =
     let s = c .before .before .before .before in
     c .among-codes .ensures
-    ∙ ap (λ (r : Reading (List (List ℕ))). among (now (s .args .value)) (itemsOf r))
+    ∙ ap (λ (r : Parsed (List (List ℕ))). among (now (s .args .value)) (itemsOf r))
     (sym (set-is (now (s .args .book)) (s .args .at) (s .pre) .1 _ (c .before .pair-at .ensures)))
 
 pub has-code-spec : {M : Type 1} → statement M

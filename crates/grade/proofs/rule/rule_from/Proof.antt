@@ -6,7 +6,7 @@ use denote.Ref.{now}
 use lib.ListN.{getD}
 use lib.Seq.{slice}
 use Rattle.grade.specs.Limits.{ruleSize}
-use Rattle.grade.specs.Rule.{segmentOf, severityOf, kindOf, ruleOf}
+use Rattle.grade.specs.Rule.{nameOfLetters, severityOf, kindOf, ruleOf}
 use Rattle.grade.specs.declared.rule.Severity.{Severity}
 use Rattle.grade.specs.declared.rule.SeverityRead.{SeverityRead}
 use Rattle.grade.specs.declared.rule.Kind.{Kind}
@@ -86,7 +86,7 @@ kind-at-requires c κs = search needs
 
 -- the calls' answers put together, over plain variables
 joined : (b : List ℕ) (at segment : ℕ) (severity : Severity) (kind : Kind) →
-    segment ≡ segmentOf (getD b at 0) (getD b (at + 1) 0) (getD b (at + 2) 0) →
+    segment ≡ nameOfLetters (getD b at 0) (getD b (at + 1) 0) (getD b (at + 2) 0) →
     ((s : Severity) → severityOf (getD b (at + 6) 0) ≡ SeverityRead.Is s → severity ≡ s) →
     ((sets : ℕ) (k : Kind) → kindOf (getD b (at + 5) 0) sets (getD b (at + 7) 0) (getD b (at + 8) 0) (getD b (at + 9) 0) ≡ KindRead.Is k → kind ≡ k) →
     (sets : ℕ) (rule : Rule) → ruleOf sets (slice at (at + ruleSize) b) ≡ RuleRead.Is rule →

@@ -7,7 +7,7 @@ use denote.Ref.{now}
 use lib.ListN.{getD}
 use lib.Seq.{slice}
 use Rattle.grade.specs.Limits.{ruleSize}
-use Rattle.grade.specs.Rule.{segmentOf, severityOf, isSeverity, kindOf, isKind, placeFits, ruleOf, isRule}
+use Rattle.grade.specs.Rule.{nameOfLetters, severityOf, isSeverity, kindOf, isKind, placeFits, ruleOf, isRule}
 use Rattle.grade.proofs.Parts.{placeAt, rule-there, with-is}
 use borrow.Author.Needs.{needs}
 use Rattle.grade.proofs.rule.rule_stands.Statement.{statement}
@@ -84,7 +84,7 @@ severity-stands-requires c κs = search needs
 
 -- the calls' answers put together, over plain variables
 joined : (sets : ℕ) (b : List ℕ) (at segment : ℕ) (fits severity kind : Bool) →
-    segment ≡ segmentOf (getD b at 0) (getD b (at + 1) 0) (getD b (at + 2) 0) →
+    segment ≡ nameOfLetters (getD b at 0) (getD b (at + 1) 0) (getD b (at + 2) 0) →
     fits ≡ placeFits (record { segment = segment; field = getD b (at + 3) 0; component = getD b (at + 4) 0 }) →
     severity ≡ isSeverity (severityOf (getD b (at + 6) 0)) →
     kind ≡ isKind (kindOf (getD b (at + 5) 0) sets (getD b (at + 7) 0) (getD b (at + 8) 0) (getD b (at + 9) 0)) →

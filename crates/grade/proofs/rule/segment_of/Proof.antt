@@ -2,7 +2,7 @@
 use mathlib.Core.Path.{sym, _∙_}
 use native.Mathlib.Omega.{arith}
 use lib.Dec.{lit<, lit≤}
-use Rattle.grade.specs.Rule.{segmentNames, numberFrom, segmentOf}
+use Rattle.grade.specs.Rule.{segmentNames, numberFrom, nameOfLetters}
 use Rattle.grade.proofs.Naming.{number-name, other-name}
 use borrow.Author.Needs.{needs}
 use Rattle.grade.proofs.rule.segment_of.Statement.{statement}
@@ -42,7 +42,7 @@ returns-10 : tie.Need-returns-10
 returns-10 c = let a = c .before .before .args in (sym (number-name (a .a) (a .b) (a .c) 9 (omega arith) (omega arith) (omega arith) (lit< tt) (sym (c .before .letters .ensures) ∙ c .match .keys10)), lit≤ tt)
 
 returns-11 : tie.Need-returns-11
-unfolding segmentOf segmentNames numberFrom
+unfolding nameOfLetters segmentNames numberFrom
 returns-11 c =
     let x = c .before .before .args .a in
     let y = c .before .before .args .b in

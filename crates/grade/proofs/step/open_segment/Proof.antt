@@ -5,7 +5,7 @@ use native.Mathlib.Omega.{arith}
 use borrow.Author.Needs.{needs}
 use lib.ListN.{length}
 use Rattle.grade.specs.Order.{outOfOrder, tableSays}
-use Rattle.grade.specs.Rest.{CountsStand, walkFrom}
+use Rattle.grade.specs.Rest.{CountsStand, gradeFrom}
 use Rattle.grade.proofs.Segments.{no-segment, other-one, counts-later, opened}
 use Rattle.grade.proofs.step.open_segment.Statement.{statement}
 use Rattle.grade.proofs.step.open_segment.Tie as tie
@@ -13,7 +13,7 @@ use Rattle.grade.proofs.step.open_segment.Tie as tie
 abbrev Inv-loop : tie.InvT-loop
 Inv-loop table d m book section links starts₀ counts₀ from last end at₀ starts counts at =
     (length starts ≡ length starts₀) × (counts ≡ counts₀) × CountsStand m at counts × (end ≡ length m) × (from ≤ at)
-    × (walkFrom (outOfOrder (tableSays table)) d m book section from last counts₀ ≡ walkFrom (outOfOrder (tableSays table)) d m book section at last counts)
+    × (gradeFrom (outOfOrder (tableSays table)) d m book section from last counts₀ ≡ gradeFrom (outOfOrder (tableSays table)) d m book section at last counts)
 
 abbrev μ-loop : tie.MeasureT-loop
 μ-loop table d m book section links starts₀ counts₀ from last end at₀ starts counts at = end - at
@@ -52,14 +52,14 @@ part-name-of-end c = search needs
 name-of-requires : tie.Need-name-of-requires Inv-loop μ-loop
 name-of-requires c κs = tt
 
-mul-number : tie.Need-mul-number Inv-loop μ-loop
-mul-number c = search needs
+mul-ordinal : tie.Need-mul-ordinal Inv-loop μ-loop
+mul-ordinal c = search needs
 
-element-copy-out-number : tie.Need-element-copy-out-number Inv-loop μ-loop
-element-copy-out-number c = search needs
+element-copy-out-ordinal : tie.Need-element-copy-out-ordinal Inv-loop μ-loop
+element-copy-out-ordinal c = search needs
 
-add-number : tie.Need-add-number Inv-loop μ-loop
-add-number c =
+add-ordinal : tie.Need-add-ordinal Inv-loop μ-loop
+add-ordinal c =
     let at-loop = c .before .before .before .before .before .before in
     let begin = at-loop .before .before .before .before in
     let a = begin .args in
@@ -135,9 +135,9 @@ open-segment-spec =
     part-name-of-start
     part-name-of-end
     name-of-requires
-    mul-number
-    element-copy-out-number
-    add-number
+    mul-ordinal
+    element-copy-out-ordinal
+    add-ordinal
     mul-counts
     element-write-counts
     link-at-requires

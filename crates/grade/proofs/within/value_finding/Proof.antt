@@ -20,11 +20,11 @@ returns c =
     let a = c .before .before .before .args in
     λ i. record {
       name = a .here .name;
-      number = a .here .number;
+      ordinal = a .here .ordinal;
       field = a .rule .place .field;
       repetition = a .repetition;
       component = a .rule .place .component;
-      rule = a .number;
+      rule = a .i;
       code = c .before .error-code .ensures i;
       severity = c .severity-letter .ensures i;
     }
