@@ -8,7 +8,7 @@ use lib.Dec.{eqb}
 use lib.ListN.{length, take, drop, length-take, length-drop}
 use borrow.Author.Tests.{eqb-true, eqb-false}
 use Rattle.hl7.specs.Place.{delimsOf, isMsh}
-use Rattle.hl7.specs.Refusals.{messageLimit, Told, firstRow, messageRows, readingOf, isSound}
+use Rattle.hl7.specs.Refusals.{messageLimit, Told, told, firstRow, messageRows, readingOf, isSound}
 use Rattle.hl7.specs.Refusals as refusals
 use Rattle.hl7.specs.declared.refusal.Reading.{Reading}
 use Rattle.hl7.proofs.Comparing.{and-both}
@@ -20,10 +20,10 @@ use Rattle.grade.specs.Header.{mshOf, headerOf, anyWrong, headerFindings}
 use Rattle.grade.specs.Admission.{hasControlId, keyOf, bySection, admitRows, admittedBy, admitted, admittedTold}
 use Rattle.grade.specs.Order.{mayFollow}
 use Rattle.grade.specs.Findings.{findings}
-use Rattle.grade.specs.Grading.{listedFor}
+use Rattle.grade.specs.Grading.{findingsFor}
 use Rattle.grade.specs.Standing.{Holds, rulesIn, setsIn}
 use Rattle.grade.specs.declared.finding.Finding.{Finding}
-use Rattle.grade.proofs.Admitting.{admit-paper, admit-numbered}
+use Rattle.grade.proofs.Admitting.{admit-paper}
 use Rattle.grade.proofs.Grading.{listed-header, listed-graded}
 use Rattle.grade.proofs.Opening.{opened-under}
 use Rattle.grade.proofs.Stepping.{all-few}
@@ -33,11 +33,10 @@ use Rattle.grade.specs.declared.walk.Section.{Section}
 use Rattle.grade.specs.declared.admit.Admitted.{Admitted}
 use Rattle.grade.specs.declared.admit.Admitted.the-variants.{Unreadable, NoControlId, OtherVersion, NoSection, By}
 use Rattle.ack.specs.Layout.{ackBytes}
-use Rattle.ack.specs.Pieces.{findingLimit}
-use Rattle.ack.specs.Answers.{paper, Answered, ackFor, Answers}
+use Rattle.ack.specs.Pieces.{findingLimit, shortOr}
+use Rattle.ack.specs.Answers.{outcome, answerOf, paper, Gives}
 use Rattle.ack.specs.declared.refusal.Answer.{Answer}
-use Rattle.ack.specs.declared.refusal.Answer.the-variants.{Refused}
-use Rattle.ack.proofs.Answering.{admission-refused, stamp-refused, answered-last}
+use Rattle.ack.proofs.Answering.{write-stamp, write-right, answer-admitted, answer-stopped}
 
 -- two different variants are not equal
 apart : {A : Type 0} → _≡_ {A = ℕ} 0 1 → A
@@ -112,29 +111,31 @@ module _ (m b : List ℕ) {s : Section} {h : Header} (is : By s h ≡ admitted m
 -- ---- the ways out of the call
 module _ (m b stamp : List ℕ) (control : ℕ) (out : List ℕ) where
   -- refusals 1 to 9
-  pub answer-refused : {r : Admitted} (a : Answer) → r ≡ admitted m b → paper a ≡ admittedTold r → (admittedTold r .number ≡ 0 → ⊥) → Answers m b stamp control out a out
+  pub answer-refused : {r : Admitted} (a : Answer) → r ≡ admitted m b → paper a ≡ admittedTold r → (admittedTold r .number ≡ 0 → ⊥) → Gives a out (answerOf m b stamp control out)
   answer-refused a is e some =
-      admission-refused (admitRows m b) (not (isStamp stamp)) (ackFor m b stamp control) out (admit-numbered m b) a
-      (λ z. some (sym (ap (λ (x : Told). x .number) e) ∙ z)) (e ∙ ap admittedTold is ∙ admit-paper m b)
+      let first : paper a ≡ firstRow (admitRows m b) = e ∙ ap admittedTold is ∙ admit-paper m b in
+      ap (λ (t : Told). outcome t out) first
+      ∙ sym (answer-stopped m b stamp control out (λ z. some (sym (ap (λ (x : Told). x .number) e) ∙ ap (λ (x : Told). x .number) first ∙ z)))
 
   module _ {s : Section} {h : Header} (is : By s h ≡ admitted m b) where
     -- refusal 10
-    pub answer-stamp : isStamp stamp ≡ false → Answers m b stamp control out (Refused 10 0) out
-    answer-stamp e =
-        stamp-refused (admitRows m b) (not (isStamp stamp)) (ackFor m b stamp control) out (admit-numbered m b) (passed m b is) (rw e)
+    pub answer-stamp : {a : Answer} → isStamp stamp ≡ false → paper a ≡ told 10 0 → Gives a out (answerOf m b stamp control out)
+    answer-stamp e p =
+        ap (λ (t : Told). outcome t out) p ∙ sym (answer-admitted m b stamp control out (passed m b is) ∙ write-stamp m (findingsFor m b) stamp control out e)
 
     -- refusal 11, or the ACK
-    last : {d : Delims} {msh after : List ℕ} {listed : List Finding} {a : Answer} → isStamp stamp ≡ true → d ≡ delimsOf m → msh ≡ mshOf m → listed ≡ listedFor m b
-        → Answered [] false (ackBytes d msh stamp control listed) out a after → Answers m b stamp control out a after
-    last e own first all w = answered-last (admit-numbered m b) (passed m b is) (rw e) (rw (← own, ← first, ← all) w)
+    last : {d : Delims} {msh after : List ℕ} {listed : List Finding} {a : Answer} → isStamp stamp ≡ true → d ≡ delimsOf m → msh ≡ mshOf m → listed ≡ findingsFor m b
+        → Gives a after (shortOr (ackBytes d msh stamp control listed) out) → Gives a after (answerOf m b stamp control out)
+    last e own first all w =
+        (rw (own, first, all) at w) ∙ sym (answer-admitted m b stamp control out (passed m b is) ∙ write-right m (findingsFor m b) stamp control out e)
 
     module _ {d : Delims} {msh after : List ℕ} {a : Answer} (right : isStamp stamp ≡ true) (own : d ≡ delimsOf m) (first : msh ≡ mshOf m) where
-      pub answer-by-header : anyWrong h ≡ true → Answered [] false (ackBytes d msh stamp control (headerFindings h)) out a after → Answers m b stamp control out a after
+      pub answer-by-header : anyWrong h ≡ true → Gives a after (shortOr (ackBytes d msh stamp control (headerFindings h)) out) → Gives a after (answerOf m b stamp control out)
       answer-by-header wrong w =
           let by = admitted-by m b is in
           last right own first (ap headerFindings (by .reads) ∙ sym (listed-header m b s (by .opens) (rw (← by .reads) wrong))) w
 
-      pub answer-by-grading : anyWrong h ≡ false → Answered [] false (ackBytes d msh stamp control (findings mayFollow (rulesIn b s) (setsIn b s) m)) out a after → Answers m b stamp control out a after
+      pub answer-by-grading : anyWrong h ≡ false → Gives a after (shortOr (ackBytes d msh stamp control (findings mayFollow (rulesIn b s) (setsIn b s) m)) out) → Gives a after (answerOf m b stamp control out)
       answer-by-grading fine w =
           let by = admitted-by m b is in
           last right own first (sym (listed-graded m b s (by .opens) (rw (← by .reads) fine))) w

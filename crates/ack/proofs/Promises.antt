@@ -1,24 +1,22 @@
--- What the promise of `answer` says of the bytes that were written: read by the definitions for any message, they are MSH, MSA and one ERR for each finding
--- that the section has, in order, and MSA-1 is AA exactly when no finding is E or W. Assumes nothing.
-use mathlib.Core.Path.{_≡_, refl, sym, ap, ap₂, subst, subst⁻¹, _∙_}
-use mathlib.Core.Bool.{Bool, true, false, cond, not, _||_, true≢false}
+-- What `answerOf` says: each refusal exactly when its row is the first to hold; and of the bytes that are written, read by the definitions for any message,
+-- that they are MSH, MSA and one ERR for each finding that the section has, in order, with AA in MSA-1 exactly when no finding is E or W. Assumes nothing.
+use mathlib.Core.Path.{_≡_, refl, sym, ap, subst, subst⁻¹, _∙_}
+use mathlib.Core.Bool.{Bool, true, false, cond, _||_, true≢false}
 use mathlib.Core.Logic.{_↔_}
 use mathlib.Core.List.{List, [], _∷_, _++_, map}
-use Prim.Native.Nat.{ℕ, zero, suc, _+_, _*_, _^_, min}
+use Prim.Native.Nat.{ℕ, zero, suc, _+_, _<_}
 use Prim.Native.Char.{code}
 use native.Mathlib.Omega.{arith}
 use native.Mathlib.Numerals.{one-add}
 use lib.Dec.{eqb}
 use lib.ListN.{length, getD, take, drop, length-drop}
 use lib.Seq.{split-at, take-at, drop-at, take-all}
-use borrow.Author.Tests.{eq-eqb, ne-eqb, eqb-true, leb-true, not-false}
+use borrow.Author.Tests.{ne-eqb, eqb-true, leb-true, not-false}
 use Rattle.hl7.specs.Text.{bytes}
-use Rattle.hl7.specs.Bytes.{all}
-use Rattle.hl7.specs.Cut.{Piece}
+use Rattle.hl7.specs.Bytes.{all, isIn}
 use Rattle.hl7.specs.Place.{carriageReturn, delimsOf, nthOf, cutUnless, segmentsOf, place}
-use Rattle.hl7.specs.Refusals.{Told, Row, firstRow, holdsAt, First, messageRows, formRows}
+use Rattle.hl7.specs.Refusals.{told, firstRow, numbersOf, apart, holdsAt, First, messageRows, formRows}
 use Rattle.hl7.proofs.Comparing.{and-both, all-append}
-use Rattle.hl7.proofs.Cutting.{spans-one}
 use Rattle.grade.specs.Digits.{isDigit, isSign, digitRun}
 use Rattle.grade.specs.Values.{isStamp}
 use Rattle.grade.specs.Broken.{severityLetter}
@@ -27,20 +25,16 @@ use Rattle.grade.specs.Order.{mayFollow}
 use Rattle.grade.specs.Findings.{Event, ruleNumbered, findingAt, findingOf, breaks, places, findings, Demand3}
 use Rattle.grade.specs.Header.{mshOf, headerOf, anyWrong, headerFinding, onlyIf, headerFindings}
 use Rattle.grade.specs.Admission.{bookRows, admitRows}
-use Rattle.grade.specs.Grading.{sectionFor, listedBy, listedFor}
+use Rattle.grade.specs.Grading.{sectionFor, findingsBy, findingsFor}
 use Rattle.grade.specs.declared.rule.Severity.{Severity}
 use Rattle.grade.specs.declared.rule.Rule.{Rule}
 use Rattle.grade.specs.declared.header.Header.{Header}
 use Rattle.grade.specs.declared.finding.Finding.{Finding}
-use Rattle.grade.proofs.Admitting.{admit-numbered}
 use Rattle.grade.proofs.Demand3.{findings-meet}
-use Rattle.ack.specs.Layout.{has, isHeader, isFault, ackLines}
-use Rattle.ack.specs.Answers.{paper, answerRows, ackFor, Answers}
-use Rattle.ack.specs.Exports.{packedSpan, Exported, PackedPlace}
-use Rattle.ack.specs.declared.refusal.Answer.{Answer}
-use Rattle.ack.specs.declared.refusal.Answer.the-variants.{Written}
-use Rattle.ack.proofs.Listing.{has-none, graded-plain}
-use Rattle.ack.proofs.Answering.{number-is, answered-once, refused-exactly, written-exactly}
+use Rattle.ack.specs.Layout.{has, isHeader, isFault, mshLine, msaLine, errLine, ackLines}
+use Rattle.ack.specs.Answers.{Outcome, outcome, ackFor, answerRows, answerOf}
+use Rattle.ack.proofs.Listing.{has-none, graded-plain, header-verdict}
+use Rattle.ack.proofs.Answering.{number-is, refused-is, written-is as ack-is, table-exactly, table-none}
 use Rattle.ack.proofs.Reading.{isNot, clean, Fine, Apart, part-without, ack-segments, ar-exactly, ae-exactly, aa-exactly}
 
 -- ---- what is listed
@@ -96,16 +90,16 @@ unfolding headerFindings four
 header-errors h = four-errors (h .«type_wrong») (h .«event_wrong») (h .«processing_wrong») (h .«version_wrong»)
 
 module _ (m b : List ℕ) where
-  listed-letters : has (λ f. eqb (f .severity) carriageReturn) (listedFor m b) ≡ false
-  unfolding listedBy
+  listed-letters : has (λ f. eqb (f .severity) carriageReturn) (findingsFor m b) ≡ false
+  unfolding findingsBy
   listed-letters = of (anyWrong (headerOf (delimsOf m) (mshOf m)))
     where
       of : (wrong : Bool) → has (λ f. eqb (f .severity) carriageReturn) (cond wrong (headerFindings (headerOf (delimsOf m) (mshOf m))) (findings mayFollow (sectionFor m b .rules) (sectionFor m b .sets) m)) ≡ false
       of true = header-letters (headerOf (delimsOf m) (mshOf m))
       of false = graded-letters mayFollow (sectionFor m b .rules) (sectionFor m b .sets) m
 
-  listed-errors : has isHeader (listedFor m b) ≡ true → has isFault (listedFor m b) ≡ true
-  unfolding listedBy
+  listed-errors : has isHeader (findingsFor m b) ≡ true → has isFault (findingsFor m b) ≡ true
+  unfolding findingsBy
   listed-errors = of (anyWrong (headerOf (delimsOf m) (mshOf m)))
     where
       listed : Bool → List Finding
@@ -150,26 +144,35 @@ stamp-clean v e =
     let zone : clean (drop 15 v) = subst clean (take-all 4 (drop 15 v) (omega (arith, length-drop 15 v))) zone-run in
     subst clean (sym (split-at v 14 0 (omega arith))) (all-append (isNot carriageReturn) (take 14 v) (getD v 14 0 ∷ drop 15 v) time (rw (sign-fine (getD v 14 0) (signed .1)) zone))
 
--- ---- exactly one result, and which
--- any two results that the promise allows have the same number, detail and output
-pub answers-once : (m b stamp : List ℕ) (control : ℕ) (out : List ℕ) {after after′ : List ℕ} {a a′ : Answer} → Answers m b stamp control out a after → Answers m b stamp control out a′ after′
-    → (paper a .number ≡ paper a′ .number) × (paper a .detail ≡ paper a′ .detail) × (after ≡ after′)
-answers-once m b stamp control out w v = answered-once w v
+-- ---- which result
+module _ (m b stamp : List ℕ) (control : ℕ) (out : List ℕ) where
+  -- the eleven rows, by their numbers
+  pub rows-numbers : numbersOf (answerRows m b stamp control out) ≡ 1 ∷ 2 ∷ 3 ∷ 4 ∷ 5 ∷ 6 ∷ 7 ∷ 8 ∷ 9 ∷ 10 ∷ 11 ∷ []
+  unfolding admitRows messageRows formRows bookRows numbersOf
+  rows-numbers = refl
 
-module _ (m b stamp : List ℕ) (control : ℕ) (out : List ℕ) {a : Answer} {after : List ℕ} (w : Answers m b stamp control out a after) where
-  -- the eleven rows
-  abbrev pub rowsOf : List Row
-  rowsOf = answerRows (admitRows m b) (not (isStamp stamp)) (ackFor m b stamp control) out
+  rows-apart : apart (numbersOf (answerRows m b stamp control out)) ≡ true
+  unfolding apart isIn
+  rows-apart = rw rows-numbers
 
   -- the number is k + 1 exactly when row k, from 0, is the first of the eleven to hold
-  pub refusal-exactly : (k : ℕ) → (paper a .number ≡ suc k) ↔ First rowsOf k
-  unfolding admitRows messageRows formRows bookRows
-  refusal-exactly = refused-exactly (admitRows m b) (not (isStamp stamp)) (ackFor m b stamp control) out (admit-numbered m b) refl w
+  pub refusal-exactly : (k : ℕ) → k < 11 → (answerOf m b stamp control out .told .number ≡ getD (1 ∷ 2 ∷ 3 ∷ 4 ∷ 5 ∷ 6 ∷ 7 ∷ 8 ∷ 9 ∷ 10 ∷ 11 ∷ []) k 0) ↔ First (answerRows m b stamp control out) k
+  unfolding answerOf admitRows messageRows formRows bookRows numbersOf
+  refusal-exactly k h = table-exactly (answerRows m b stamp control out) rows-apart (ackFor m b stamp control) out k h
 
   -- and 0 exactly when none holds
-  pub answered-exactly : (paper a .number ≡ 0) ↔ ((i : ℕ) → holdsAt rowsOf i ≡ false)
-  unfolding admitRows messageRows formRows bookRows
-  answered-exactly = written-exactly (admitRows m b) (not (isStamp stamp)) (ackFor m b stamp control) out (admit-numbered m b) refl w
+  pub answered-exactly : (answerOf m b stamp control out .told .number ≡ 0) ↔ ((i : ℕ) → holdsAt (answerRows m b stamp control out) i ≡ false)
+  unfolding answerOf
+  answered-exactly = table-none (answerRows m b stamp control out) rows-apart (ackFor m b stamp control) out
+
+  first-number : answerOf m b stamp control out .told .number ≡ firstRow (answerRows m b stamp control out) .number
+  unfolding answerOf
+  first-number = number-is (firstRow (answerRows m b stamp control out)) (ackFor m b stamp control) out
+
+  -- a refusal alters no byte
+  pub refusal-alters-nothing : (answerOf m b stamp control out .told .number ≡ 0 → ⊥) → answerOf m b stamp control out .output ≡ out
+  unfolding answerOf
+  refusal-alters-nothing some = ap (λ (o : Outcome). o .output) (refused-is (firstRow (answerRows m b stamp control out)) (ackFor m b stamp control) out (λ e. some (first-number ∙ e)))
 
 -- ---- what was written
 fine-own : (m : List ℕ) → Fine (delimsOf m)
@@ -180,73 +183,73 @@ apart-own : (m : List ℕ) → Apart (delimsOf m)
 unfolding delimsOf all
 apart-own m = (refl, refl)
 
-head-clean : (m : List ℕ) → clean (mshOf m)
+msh-clean : (m : List ℕ) → clean (mshOf m)
 unfolding nthOf cutUnless
-head-clean m = part-without carriageReturn m 0
+msh-clean m = part-without carriageReturn m 0
 
-module _ (m b stamp : List ℕ) (control : ℕ) (out : List ℕ) {n : ℕ} {after : List ℕ} (w : Answers m b stamp control out (Written n) after) where
-  none-held : firstRow (answerRows (admitRows m b) (not (isStamp stamp)) (ackFor m b stamp control) out) .number ≡ 0
-  none-held = sym (number-is (admitRows m b) (not (isStamp stamp)) (ackFor m b stamp control) out w)
+-- the bytes that hold the ACK: the first of the output, as many as the detail says
+abbrev pub writtenOf : Outcome → List ℕ
+writtenOf o = take (o .told .detail) (o .output)
 
+module _ (m b stamp : List ℕ) (control : ℕ) (out : List ℕ) (answered : answerOf m b stamp control out .told .number ≡ 0) where
   stamp-right : isStamp stamp ≡ true
   unfolding admitRows messageRows formRows bookRows
-  stamp-right =
-      not-false (isStamp stamp)
-      (answered-exactly m b stamp control out w .0 refl 9)
+  stamp-right = not-false (isStamp stamp) (answered-exactly m b stamp control out .0 answered 9)
 
-  -- the first n bytes are the ACK, and all later ones are as they were
-  pub written-is : (take n after ≡ ackFor m b stamp control) × (drop n after ≡ drop n out)
-  written-is =
-      let passed = eq-eqb _ 0 none-held in
-      let long : n ≡ length (ackFor m b stamp control) = ap (λ (t : Told). t .detail) (rw passed at (w .toldIs)) in
-      let whole : after ≡ ackFor m b stamp control ++ drop (length (ackFor m b stamp control)) out = rw passed at (w .outputIs) in
-      (rw whole (take-at (ackFor m b stamp control) _ n (sym long)), rw whole (drop-at (ackFor m b stamp control) _ n (sym long)) ∙ ap (λ (k : ℕ). drop k out) (sym long))
+  whole : answerOf m b stamp control out ≡ outcome (told 0 (length (ackFor m b stamp control))) (ackFor m b stamp control ++ drop (length (ackFor m b stamp control)) out)
+  unfolding answerOf
+  whole = ack-is (firstRow (answerRows m b stamp control out)) (ackFor m b stamp control) out (sym (first-number m b stamp control out) ∙ answered)
+
+  -- the first bytes are the ACK, and all later ones are as they were
+  pub written-is : (writtenOf (answerOf m b stamp control out) ≡ ackFor m b stamp control) × (drop (answerOf m b stamp control out .told .detail) (answerOf m b stamp control out .output) ≡ drop (length (ackFor m b stamp control)) out)
+  written-is = (rw whole (take-at (ackFor m b stamp control) _ _ refl), rw whole (drop-at (ackFor m b stamp control) _ _ refl))
 
   -- its segments are MSH, MSA and one ERR for each finding, in order
-  pub written-segments : segmentsOf (take n after) ≡ ackLines (delimsOf m) (mshOf m) stamp control (listedFor m b)
+  pub written-segments : segmentsOf (writtenOf (answerOf m b stamp control out)) ≡ ackLines (delimsOf m) (mshOf m) stamp control (findingsFor m b)
   written-segments =
       ap segmentsOf (written-is .0)
-      ∙ ack-segments (delimsOf m) (fine-own m) (mshOf m) stamp control (listedFor m b) (head-clean m) (stamp-clean stamp stamp-right) (listed-letters m b)
+      ∙ ack-segments (delimsOf m) (fine-own m) (mshOf m) stamp control (findingsFor m b) (msh-clean m) (stamp-clean stamp stamp-right) (listed-letters m b)
 
   -- MSA-1, read as the first field of the second segment
-  pub written-aa : (place (delimsOf m) (take n after) 2 1 1 0 .bytes ≡ bytes "AA") ↔ (has isFault (listedFor m b) ≡ false)
+  pub written-aa : (place (delimsOf m) (writtenOf (answerOf m b stamp control out)) 2 1 1 0 .bytes ≡ bytes "AA") ↔ (has isFault (findingsFor m b) ≡ false)
   written-aa =
       rw (written-is .0)
-      (aa-exactly (delimsOf m) (fine-own m) (apart-own m) (mshOf m) stamp control (listedFor m b) (head-clean m) (stamp-clean stamp stamp-right) (listed-letters m b) (listed-errors m b))
+      (aa-exactly (delimsOf m) (fine-own m) (apart-own m) (mshOf m) stamp control (findingsFor m b) (msh-clean m) (stamp-clean stamp stamp-right) (listed-letters m b) (listed-errors m b))
 
-  pub written-ar : (place (delimsOf m) (take n after) 2 1 1 0 .bytes ≡ bytes "AR") ↔ (has isHeader (listedFor m b) ≡ true)
+  pub written-ar : (place (delimsOf m) (writtenOf (answerOf m b stamp control out)) 2 1 1 0 .bytes ≡ bytes "AR") ↔ (has isHeader (findingsFor m b) ≡ true)
   written-ar =
       rw (written-is .0)
-      (ar-exactly (delimsOf m) (fine-own m) (apart-own m) (mshOf m) stamp control (listedFor m b) (head-clean m) (stamp-clean stamp stamp-right) (listed-letters m b))
+      (ar-exactly (delimsOf m) (fine-own m) (apart-own m) (mshOf m) stamp control (findingsFor m b) (msh-clean m) (stamp-clean stamp stamp-right) (listed-letters m b))
 
-  pub written-ae : (place (delimsOf m) (take n after) 2 1 1 0 .bytes ≡ bytes "AE") ↔ ((has isHeader (listedFor m b) ≡ false) × (has isFault (listedFor m b) ≡ true))
+  pub written-ae : (place (delimsOf m) (writtenOf (answerOf m b stamp control out)) 2 1 1 0 .bytes ≡ bytes "AE") ↔ ((has isHeader (findingsFor m b) ≡ false) × (has isFault (findingsFor m b) ≡ true))
   written-ae =
       rw (written-is .0)
-      (ae-exactly (delimsOf m) (fine-own m) (apart-own m) (mshOf m) stamp control (listedFor m b) (head-clean m) (stamp-clean stamp stamp-right) (listed-letters m b))
+      (ae-exactly (delimsOf m) (fine-own m) (apart-own m) (mshOf m) stamp control (findingsFor m b) (msh-clean m) (stamp-clean stamp stamp-right) (listed-letters m b))
+
+  -- where a header check fails, the ACK is MSH, MSA with AR, and one ERR for each check that fails, in order
+  pub refused-header : anyWrong (headerOf (delimsOf m) (mshOf m)) ≡ true
+      → segmentsOf (writtenOf (answerOf m b stamp control out))
+      ≡ mshLine (delimsOf m) (mshOf m) stamp control ∷ msaLine (delimsOf m) (mshOf m) (code "R") ∷ map (errLine (delimsOf m)) (headerFindings (headerOf (delimsOf m) (mshOf m)))
+  unfolding findingsBy
+  refused-header wrong =
+      let all : findingsFor m b ≡ headerFindings (headerOf (delimsOf m) (mshOf m)) = rw wrong in
+      written-segments ∙ rw (all, header-verdict (headerOf (delimsOf m) (mshOf m)) wrong)
 
 -- ---- demand 3
 -- where the header is accepted, the ACK's segments after MSH and MSA are one ERR for each event that breaks the order or a rule of the section that the
 -- message names: none left out, none twice, none besides, in order
-pub record Listed (m b stamp : List ℕ) (control : ℕ) (ack : List ℕ) : Type 0 where
+pub record MeetsDemand3 (m b stamp : List ℕ) (control : ℕ) (ack : List ℕ) : Type 0 where
   pub found : List Finding
   pub segments : segmentsOf ack ≡ ackLines (delimsOf m) (mshOf m) stamp control found
   pub demand : Demand3 mayFollow (sectionFor m b .rules) (sectionFor m b .sets) m found
 
-pub demand-3 : (m b stamp : List ℕ) (control : ℕ) (out : List ℕ) {n : ℕ} {after : List ℕ} → Answers m b stamp control out (Written n) after → anyWrong (headerOf (delimsOf m) (mshOf m)) ≡ false → Listed m b stamp control (take n after)
-unfolding listedBy
-demand-3 m b stamp control out w accepted =
-    let graded : listedFor m b ≡ findings mayFollow (sectionFor m b .rules) (sectionFor m b .sets) m = rw accepted in
+pub demand-3 : (m b stamp : List ℕ) (control : ℕ) (out : List ℕ) → answerOf m b stamp control out .told .number ≡ 0 → anyWrong (headerOf (delimsOf m) (mshOf m)) ≡ false
+    → MeetsDemand3 m b stamp control (writtenOf (answerOf m b stamp control out))
+unfolding findingsBy
+demand-3 m b stamp control out answered accepted =
+    let graded : findingsFor m b ≡ findings mayFollow (sectionFor m b .rules) (sectionFor m b .sets) m = rw accepted in
     record {
-      found = listedFor m b;
-      segments = written-segments m b stamp control out w;
+      found = findingsFor m b;
+      segments = written-segments m b stamp control out answered;
       demand = subst⁻¹ (Demand3 mayFollow (sectionFor m b .rules) (sectionFor m b .sets) m) graded (findings-meet mayFollow (sectionFor m b .rules) (sectionFor m b .sets) m);
     }
-
--- ---- the calls for other languages: one answer each
-pub exported-once : (m b stamp : List ℕ) (control : ℕ) (out : List ℕ) {after after′ : List ℕ} {c c′ : ℕ} → Exported m b stamp control out c after → Exported m b stamp control out c′ after′ → (c ≡ c′) × (after ≡ after′)
-exported-once m b stamp control out p q =
-    let same = answers-once m b stamp control out (p .answers) (q .answers) in
-    (p .packs ∙ ap₂ (λ (number detail : ℕ). min detail (2 ^ 55) * 256 + number) (same .0) (same .1) ∙ sym (q .packs), same .2)
-
-pub place-once : {m : List ℕ} {p : Piece} {c c′ : ℕ} → PackedPlace m p c → PackedPlace m p c′ → c ≡ c′
-place-once p q = p .packs ∙ ap packedSpan (spans-one (p .stands) (q .stands)) ∙ sym (q .packs)

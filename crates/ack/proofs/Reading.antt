@@ -153,8 +153,8 @@ copied-clean d msh k e = of (isMsh msh) k
         let p = pieceAt (cut (d .bar) msh) j in
         subst clean (piece-stands (d .bar) msh j) (part-clean (length (p .bytes)) (p .start) msh e)
 
-    of : (msh : Bool) (k : ℕ) → clean (partOfField msh (d .bar) msh k .bytes)
-    of msh zero = refl
+    of : (named : Bool) (k : ℕ) → clean (partOfField named (d .bar) msh k .bytes)
+    of named zero = refl
     of true (suc zero) = part-clean 1 3 msh e
     of true (suc (suc k)) = piece (suc k)
     of false (suc k) = piece (suc k)

@@ -89,8 +89,8 @@ copied-short d msh k = of (isMsh msh) k
         let p = pieceAt (cut (d .bar) msh) j in
         subst (λ (l : List ℕ). length l ≤ length msh) (piece-stands (d .bar) msh j) (part (length (p .bytes)) (p .start))
 
-    of : (msh : Bool) (k : ℕ) → length (partOfField msh (d .bar) msh k .bytes) ≤ length msh
-    of msh zero = omega arith
+    of : (named : Bool) (k : ℕ) → length (partOfField named (d .bar) msh k .bytes) ≤ length msh
+    of named zero = omega arith
     of true (suc zero) = part 1 3
     of true (suc (suc k)) = piece (suc k)
     of false (suc k) = piece (suc k)

@@ -1,7 +1,7 @@
--- What the call that answers promises: number, detail and the output afterwards, for every input. Assumes nothing.
+-- What the calls give: number, detail and the output afterwards, for every input. Assumes nothing.
 use Prim.Native.Nat.{ℕ}
 use mathlib.Core.Path.{_≡_}
-use mathlib.Core.Bool.{Bool, cond, not}
+use mathlib.Core.Bool.{cond, not}
 use mathlib.Core.List.{List, [], _∷_, _++_}
 use lib.Dec.{eqb, ltb}
 use lib.ListN.{length, drop}
@@ -10,45 +10,64 @@ use Rattle.hl7.specs.Place.{delimsOf}
 use Rattle.grade.specs.Values.{isStamp}
 use Rattle.grade.specs.Header.{mshOf}
 use Rattle.grade.specs.Admission.{admitRows}
-use Rattle.grade.specs.Grading.{listedFor}
+use Rattle.grade.specs.Grading.{findingsFor, Graded}
+use Rattle.grade.specs.declared.finding.Finding.{Finding}
 use Rattle.ack.specs.Layout.{ackBytes}
 use Rattle.ack.specs.declared.refusal.Answer.{Answer}
-use Rattle.ack.specs.declared.refusal.Answer.the-variants.{Written, Refused}
 
--- an answer on paper: a number and a detail
-abbrev pub paper : Answer → Told
-paper (Written length) = told 0 length
-paper (Refused number detail) = told number detail
+-- number and detail, and the output afterwards
+pub record Outcome : Type 0 where
+  pub told : Told
+  pub output : List ℕ
+
+abbrev pub outcome : Told → List ℕ → Outcome
+outcome t out = record { told = t; output = out }
+
+-- with number 0 the detail is the ACK's length, the first bytes of the output hold the ACK and all later ones keep their values; on a refusal the whole
+-- output keeps its values
+abbrev pub outcomeBy : Told → (ack out : List ℕ) → Outcome
+outcomeBy t ack out = cond (eqb (t .number) 0) (outcome (told 0 (length ack)) (ack ++ drop (length ack) out)) (outcome t out)
+
+-- the first row of a table that holds decides
+abbrev pub byRows : List Row → (ack out : List ℕ) → Outcome
+byRows rows ack out = outcomeBy (firstRow rows) ack out
 
 -- row 11: the output is shorter than the ACK; its detail is the length needed
 abbrev pub shortRow : (ack out : List ℕ) → Row
-shortRow ack out = record { holds = ltb (length out) (length ack); answer = told 11 (length ack) }
+shortRow ack out = record { holds = ltb (length out) (length ack); tells = told 11 (length ack) }
 
--- the eleven rows, in the order in which they are tried: 1 to 9 about the message and the book, 10 about the stamp, 11 about the output
-abbrev pub answerRows : List Row → Bool → (ack out : List ℕ) → List Row
-answerRows admission wrongStamp ack out = admission ++ (row 10 wrongStamp ∷ shortRow ack out ∷ [])
+-- rows 10 and 11, about the stamp and the output
+abbrev pub writeRows : (stamp ack out : List ℕ) → List Row
+writeRows stamp ack out = row 10 (not (isStamp stamp)) ∷ shortRow ack out ∷ []
 
--- no row holds
-abbrev pub passes : List Row → Bool
-passes rows = eqb (firstRow rows .number) 0
+-- the ACK to a message that lists findings: its delimiters and its MSH are the message's own
+abbrev pub ackOf : (m : List ℕ) → List Finding → (stamp : List ℕ) → ℕ → List ℕ
+ackOf m findings stamp control = ackBytes (delimsOf m) (mshOf m) stamp control findings
 
--- the first row that holds answers; where none does the number is 0, and the detail the ACK's length
-abbrev pub toldOf : List Row → (ack : List ℕ) → Told
-toldOf rows ack = cond (passes rows) (told 0 (length ack)) (firstRow rows)
+-- writing the ACK to a message that was graded
+unfoldable pub writeOf : (m : List ℕ) → List Finding → (stamp : List ℕ) → ℕ → (out : List ℕ) → Outcome
+writeOf m findings stamp control out = byRows (writeRows stamp (ackOf m findings stamp control) out) (ackOf m findings stamp control) out
 
--- with number 0 the first bytes of the output hold the ACK and all later ones keep their values; on a refusal the whole output keeps its values
-abbrev pub outputOf : List Row → (ack out : List ℕ) → List ℕ
-outputOf rows ack out = cond (passes rows) (ack ++ drop (length ack) out) out
+-- what grading gave is written, where it gave no refusal
+abbrev pub thenWrite : Graded → (m stamp : List ℕ) → ℕ → (out : List ℕ) → Outcome
+thenWrite g m stamp control out = cond (eqb (g .told .number) 0) (writeOf m (g .findings) stamp control out) (outcome (g .told) out)
+
+-- the ACK to a message by a book: it lists what the section finds that the message names
+abbrev pub ackFor : (m book stamp : List ℕ) → ℕ → List ℕ
+ackFor m book stamp control = ackOf m (findingsFor m book) stamp control
+
+-- the eleven rows, in the order in which they are tried
+abbrev pub answerRows : (m book stamp : List ℕ) → ℕ → (out : List ℕ) → List Row
+answerRows m book stamp control out = admitRows m book ++ writeRows stamp (ackFor m book stamp control) out
+
+-- the answer to a message by a book
+unfoldable pub answerOf : (m book stamp : List ℕ) → ℕ → (out : List ℕ) → Outcome
+answerOf m book stamp control out = byRows (answerRows m book stamp control out) (ackFor m book stamp control) out
+
+-- ---- the code's answer on paper
+abbrev pub paper : Answer → Told
+paper a = told (a .number) (a .detail)
 
 -- the call answered `answer` and left the output as `after`
-pub record Answered (admission : List Row) (wrongStamp : Bool) (ack out : List ℕ) (answer : Answer) (after : List ℕ) : Type 0 where
-  pub toldIs : paper answer ≡ toldOf (answerRows admission wrongStamp ack out) ack
-  pub outputIs : after ≡ outputOf (answerRows admission wrongStamp ack out) ack out
-
--- the ACK of a message by a book: its delimiters and its MSH are the message's own, and it lists what the section finds that the message names
-abbrev pub ackFor : (m book stamp : List ℕ) → ℕ → List ℕ
-ackFor m book stamp control = ackBytes (delimsOf m) (mshOf m) stamp control (listedFor m book)
-
--- the promise of the call that answers
-abbrev pub Answers : (m book stamp : List ℕ) → ℕ → (out : List ℕ) → Answer → (after : List ℕ) → Type 0
-Answers m book stamp control out answer after = Answered (admitRows m book) (not (isStamp stamp)) (ackFor m book stamp control) out answer after
+abbrev pub Gives : Answer → (after : List ℕ) → Outcome → Type 0
+Gives answer after o = outcome (paper answer) after ≡ o

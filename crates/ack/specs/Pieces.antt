@@ -4,11 +4,12 @@ use mathlib.Core.Path.{_≡_}
 use Prim.Native.Char.{code}
 use mathlib.Core.Bool.{Bool, _&&_}
 use lib.Dec.{eqb}
-use mathlib.Core.List.{List, _++_, flatMap}
+use mathlib.Core.List.{List, [], _∷_, _++_, flatMap}
 use Rattle.hl7.specs.declared.place.Delims.{Delims}
 use Rattle.grade.specs.declared.finding.Finding.{Finding}
 use Rattle.ack.specs.Splice.{Wrote}
 use Rattle.ack.specs.Layout.{mshLine, has, isFault, msaLine, errLine, ended}
+use Rattle.ack.specs.Answers.{Outcome, byRows, shortRow}
 use Rattle.ack.specs.declared.errs.Put.{Put}
 
 -- the delimiters are the standard five
@@ -19,6 +20,10 @@ isStandard d =
 -- the first two segments
 unfoldable pub heading : Delims → (msh stamp : List ℕ) → ℕ → ℕ → List ℕ
 heading d msh stamp control second = ended (mshLine d msh stamp control) ++ ended (msaLine d msh second)
+
+-- row 11 alone, or the ACK
+abbrev pub shortOr : (ack out : List ℕ) → Outcome
+shortOr ack out = byRows (shortRow ack out ∷ []) ack out
 
 -- no message has more findings
 abbrev pub findingLimit : ℕ

@@ -7,8 +7,8 @@ use crate::layout::put_heading;
 use crate::measure::heading_length;
 use crate::output::put;
 use crate::refusal::Answer;
+use crate::refusal::of_reading;
 use crate::refusal::refused;
-use crate::refusal::unreadable;
 use grade::admit::Admitted;
 use grade::admit::admit;
 use grade::date::is_stamp;
@@ -27,8 +27,7 @@ use hl7::place::delims_of;
 use hl7::place::note_fields;
 use hl7::place::segment;
 ghost use mathlib.Core.Path.{_≡_};
-ghost use mathlib.Core.Bool.{true, false};
-ghost use mathlib.Core.List.{[]};
+ghost use mathlib.Core.Bool.{true};
 ghost use Prim.Native.Nat.{_≤_};
 ghost use lib.ListN.{length, take};
 ghost use Rattle.hl7.specs.Place.{delimsOf, isMsh};
@@ -42,9 +41,9 @@ ghost use Rattle.grade.specs.Linked.{Linked};
 ghost use Rattle.grade.specs.Order.{mayFollow};
 ghost use Rattle.grade.specs.Findings.{findings};
 ghost use Rattle.ack.specs.Layout.{ackBytes};
-ghost use Rattle.ack.specs.Pieces.{findingLimit, errs};
+ghost use Rattle.ack.specs.Pieces.{findingLimit, errs, shortOr};
 ghost use Rattle.ack.specs.Splice.{limit, Wrote};
-ghost use Rattle.ack.specs.Answers.{Answered, Answers};
+ghost use Rattle.ack.specs.Answers.{answerOf, Gives};
 
 // So many bytes of ERRs are kept from the first run: a message is graded twice only where it has more.
 const KEPT: usize = 2048;
@@ -59,20 +58,23 @@ fn answer_header(
     header: Header,
 ) -> Answer
     requires { ⌜ (length (now msh) ≤ messageLimit) × (length (now stamp) ≤ 19) × (anyWrong header ≡ true) × (isMsh (now msh) ≡ true) ⌝ }
-    ensures { λ r. ⌜ Answered [] false (ackBytes d (now (msh .entry)) (now (stamp .entry)) control (headerFindings header)) (now (out .entry)) r (now (out .exit)) ⌝ }
+    ensures { λ r. ⌜ Gives r (now (out .exit)) (shortOr (ackBytes d (now (msh .entry)) (now (stamp .entry)) control (headerFindings header)) (now (out .entry))) ⌝ }
 {
     let mut starts = [0usize; MSH_PLACES];
     let count = note_fields(d, msh, &mut starts);
     let whole = heading_length(d, msh, &starts, count, stamp, control) + header_length(d, header);
     if out.len() < whole {
-        return Answer::Refused {
+        return Answer {
             number: 11,
             detail: whole,
         };
     }
     let at = put_heading(out, 0, d, msh, &starts, count, stamp, control, b'R');
     let end = put_header(out, at, d, header);
-    Answer::Written(end)
+    Answer {
+        number: 0,
+        detail: end,
+    }
 }
 
 // The ERRs of all findings: those that were kept, if they are all, or else of a second run.
@@ -112,7 +114,7 @@ fn answer_graded(
     control: u32,
 ) -> Answer
     requires { ⌜ (length (now m) ≤ messageLimit) × Holds (now book) section × (length (now msh) ≤ messageLimit) × (length (now stamp) ≤ 19) × (length (findings mayFollow (rulesIn (now book) section) (setsIn (now book) section) (now m)) ≤ findingLimit) × (d ≡ delimsOf (now m)) × (isMsh (now msh) ≡ true) ⌝ }
-    ensures { λ r. ⌜ Answered [] false (ackBytes d (now (msh .entry)) (now (stamp .entry)) control (findings mayFollow (rulesIn (now (book .entry)) section) (setsIn (now (book .entry)) section) (now (m .entry)))) (now (out .entry)) r (now (out .exit)) ⌝ }
+    ensures { λ r. ⌜ Gives r (now (out .exit)) (shortOr (ackBytes d (now (msh .entry)) (now (stamp .entry)) control (findings mayFollow (rulesIn (now (book .entry)) section) (setsIn (now (book .entry)) section) (now (m .entry)))) (now (out .entry))) ⌝ }
 {
     let sets = sets_of(book, section);
     let links = links_of(book, section);
@@ -133,7 +135,7 @@ fn answer_graded(
     let count = note_fields(d, msh, &mut starts);
     let need = heading_length(d, msh, &starts, count, stamp, control) + whole;
     if out.len() < need {
-        return Answer::Refused {
+        return Answer {
             number: 11,
             detail: need,
         };
@@ -153,7 +155,10 @@ fn answer_graded(
         &links,
         &mut starts,
     );
-    Answer::Written(end)
+    Answer {
+        number: 0,
+        detail: end,
+    }
 }
 
 // The answer to a message that was admitted: refusals 10 and 11, or the ACK.
@@ -167,7 +172,7 @@ fn answer_admitted(
     control: u32,
 ) -> Answer
     requires { ⌜ Admitted.By section header ≡ admitted (now m) (now book) ⌝ }
-    ensures { λ r. ⌜ Answers (now (m .entry)) (now (book .entry)) (now (stamp .entry)) control (now (out .entry)) r (now (out .exit)) ⌝ }
+    ensures { λ r. ⌜ Gives r (now (out .exit)) (answerOf (now (m .entry)) (now (book .entry)) (now (stamp .entry)) control (now (out .entry))) ⌝ }
 {
     if is_stamp(stamp) {
         let d = delims_of(m);
@@ -179,21 +184,18 @@ fn answer_admitted(
         }
         return answer_graded(out, d, m, book, section, &m[from..to], stamp, control);
     }
-    Answer::Refused {
-        number: 10,
-        detail: 0,
-    }
+    refused(10)
 }
 
 // The answer to a message by a book: the ACK in the first bytes of the output, or the first refusal that applies, which alters nothing.
 pub fn answer(m: &[u8], book: &[u8], stamp: &[u8], control: u32, out: &mut [u8]) -> Answer
-    ensures { λ r. ⌜ Answers (now (m .entry)) (now (book .entry)) (now (stamp .entry)) control (now (out .entry)) r (now (out .exit)) ⌝ }
+    ensures { λ r. ⌜ Gives r (now (out .exit)) (answerOf (now (m .entry)) (now (book .entry)) (now (stamp .entry)) control (now (out .entry))) ⌝ }
 {
     match admit(m, book) {
         Admitted::By(section, header) => {
             answer_admitted(out, m, book, section, header, stamp, control)
         }
-        Admitted::Unreadable(reading) => unreadable(reading),
+        Admitted::Unreadable(reading) => of_reading(reading),
         Admitted::NoControlId => refused(6),
         Admitted::MalformedBook => refused(7),
         Admitted::OtherVersion => refused(8),

@@ -1,7 +1,6 @@
-// Writing: the ACK's bytes, the one call that answers, the calls for other languages.
+// Writing: the ACK's bytes, and the one call that answers.
 pub mod answer;
 pub mod errs;
-pub mod export;
 pub mod layout;
 pub mod measure;
 pub mod output;

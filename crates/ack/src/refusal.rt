@@ -1,48 +1,38 @@
-// An answer: the ACK's length, or a refusal.
+// An answer: a number and a detail.
 use hl7::refusal::Reading;
 ghost use mathlib.Core.Path.{_≡_};
-ghost use Rattle.hl7.specs.Refusals.{told};
-ghost use Rattle.hl7.specs.Refusals as refusals;
+ghost use Rattle.hl7.specs.Refusals.{told, readingTold};
 ghost use Rattle.ack.specs.Answers.{paper};
 
-// What a call answers: the length of the ACK that was written, or the number and the detail of the first refusal.
-pub enum Answer {
-    Written(usize),
-    Refused { number: u8, detail: usize },
+// What a call answers: number 0 and the length of the ACK that was written, or the number and the detail of the first refusal.
+pub struct Answer {
+    pub number: u8,
+    pub detail: usize,
 }
 
-// Refusals 1 to 5.
-pub fn unreadable(reading: Reading) -> Answer
-    ensures { λ r. ⌜ paper r ≡ refusals.readingTold reading ⌝ }
+// What reading a message says: 0, or one of refusals 1 to 5.
+pub fn of_reading(reading: Reading) -> Answer
+    ensures { λ r. ⌜ paper r ≡ readingTold reading ⌝ }
 {
     match reading {
-        Reading::Sound => Answer::Written(0),
-        Reading::Empty => Answer::Refused {
-            number: 1,
-            detail: 0,
-        },
-        Reading::TooLong => Answer::Refused {
-            number: 2,
-            detail: 0,
-        },
-        Reading::WrongByte(at) => Answer::Refused {
+        Reading::Sound => refused(0),
+        Reading::Empty => refused(1),
+        Reading::TooLong => refused(2),
+        Reading::WrongByte(at) => Answer {
             number: 3,
             detail: at,
         },
-        Reading::NoHeader => Answer::Refused {
-            number: 4,
-            detail: 0,
-        },
-        Reading::WrongSegment(start) => Answer::Refused {
+        Reading::NoHeader => refused(4),
+        Reading::WrongSegment(start) => Answer {
             number: 5,
             detail: start,
         },
     }
 }
 
-// A refusal without a position.
+// A number without a detail.
 pub fn refused(number: u8) -> Answer
     ensures { λ r. ⌜ paper r ≡ told number 0 ⌝ }
 {
-    Answer::Refused { number, detail: 0 }
+    Answer { number, detail: 0 }
 }

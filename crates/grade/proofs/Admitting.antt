@@ -1,15 +1,17 @@
 -- Laws of `specs/Admission.antt`: the steps of `admit`, and that its answer is the first of rows 1 to 9 that holds. Assumes nothing.
-use Prim.Native.Nat.{ℕ, suc, _≤_}
+use Prim.Native.Nat.{ℕ, _<_}
 use mathlib.Core.Path.{_≡_, refl, sym, ap, _∙_}
 use mathlib.Core.Bool.{Bool, true, false, cond, not}
 use mathlib.Core.Logic.{_↔_}
 use mathlib.Core.List.{List, [], _∷_, _++_}
 use lib.Dec.{eqb}
+use lib.ListN.{getD}
+use Rattle.hl7.specs.Bytes.{isIn}
 use Rattle.hl7.specs.Place.{delimsOf}
-use Rattle.hl7.specs.Refusals.{Told, told, Row, row, firstRow, First, messageRows, formRows, readingTold, readingOf, isSound}
+use Rattle.hl7.specs.Refusals.{Told, told, Row, row, firstRow, numbersOf, apart, First, messageRows, formRows, readingTold, readingOf, isSound}
 use Rattle.hl7.specs.declared.place.Delims.{Delims}
 use Rattle.hl7.specs.declared.refusal.Reading.{Reading}
-use Rattle.hl7.proofs.Refusing.{Numbered, rows-append, row-exactly, message-numbered, reading-is, paper-reading}
+use Rattle.hl7.proofs.Refusing.{rows-append, row-exactly, message-apart, reading-is, paper-reading}
 use Rattle.grade.specs.Book.{malformed, otherVersion, noSection, opened}
 use Rattle.grade.specs.Header.{mshOf, mshAt, headerOf}
 use Rattle.grade.specs.Admission.{hasControlId, keyOf, bookRows, admitRows, bySection, admittedBy, admitted, admittedTold}
@@ -56,20 +58,21 @@ pub admit-paper : (m b : List ℕ) → admittedTold (admitted m b) ≡ firstRow 
 unfolding admitted admitRows isSound
 admit-paper m b =
     by (eqb (firstRow (messageRows m) .number) 0)
-    ∙ sym (rows-append (messageRows m) (bookRows (delimsOf m) (mshOf m) b) 0 (message-numbered m))
+    ∙ sym (rows-append (messageRows m) (bookRows (delimsOf m) (mshOf m) b) (message-apart m))
   where
     by : (sound : Bool) → admittedTold (cond sound (admittedBy (delimsOf m) (mshOf m) b) (Unreadable (readingOf (firstRow (messageRows m))))) ≡ cond sound (firstRow (bookRows (delimsOf m) (mshOf m) b)) (firstRow (messageRows m))
     by true = book-paper (delimsOf m) (mshOf m) b
     by false = paper-reading m
 
-pub admit-numbered : (m b : List ℕ) → Numbered 1 (admitRows m b)
-unfolding admitRows messageRows formRows bookRows
-admit-numbered m b = (refl, (refl, (refl, (refl, (refl, (refl, (refl, (refl, (refl, tt)))))))))
+pub admit-apart : (m b : List ℕ) → apart (numbersOf (admitRows m b)) ≡ true
+unfolding admitRows messageRows formRows bookRows numbersOf apart isIn
+admit-apart m b = refl
 
--- the number is k exactly when row k is the first of the nine to hold
-pub admit-exactly : (m b : List ℕ) (k : ℕ) → (admittedTold (admitted m b) .number ≡ suc k) ↔ First (admitRows m b) k
-admit-exactly m b k =
-    let law = row-exactly (admitRows m b) (admit-numbered m b) k in
+-- the number is k + 1 exactly when row k, from 0, is the first of the nine to hold
+pub admit-exactly : (m b : List ℕ) (k : ℕ) → k < 9 → (admittedTold (admitted m b) .number ≡ getD (numbersOf (admitRows m b)) k 0) ↔ First (admitRows m b) k
+unfolding admitRows messageRows formRows bookRows
+admit-exactly m b k h =
+    let law = row-exactly (admitRows m b) (admit-apart m b) k h in
     let same = ap (λ (a : Told). a .number) (admit-paper m b) in
     (λ e. law .0 (sym same ∙ e), λ f. same ∙ law .1 f)
 

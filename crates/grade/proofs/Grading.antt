@@ -10,7 +10,7 @@ use Rattle.grade.specs.Header.{mshOf, headerOf, anyWrong, headerFindings
 use Rattle.grade.specs.Admission.{keyOf}
 use Rattle.grade.specs.Order.{mayFollow}
 use Rattle.grade.specs.Findings.{findings}
-use Rattle.grade.specs.Grading.{sectionFor, listedBy, listedFor}
+use Rattle.grade.specs.Grading.{sectionFor, findingsBy, findingsFor}
 use Rattle.grade.specs.Standing.{rulesIn, setsIn}
 use Rattle.grade.specs.declared.book.Opened.{Opened}
 use Rattle.grade.specs.declared.walk.Section.{Section}
@@ -18,9 +18,9 @@ use Rattle.grade.specs.declared.finding.Finding.{Finding}
 use Rattle.grade.proofs.Opening.{Under, opened-under}
 
 -- two books whose sections with the message's key hold the same list the same
-pub section-decides : (m b b′ : List ℕ) → under (keyOf (delimsOf m) (mshOf m)) (decoded b) ≡ under (keyOf (delimsOf m) (mshOf m)) (decoded b′) → listedFor m b ≡ listedFor m b′
+pub section-decides : (m b b′ : List ℕ) → under (keyOf (delimsOf m) (mshOf m)) (decoded b) ≡ under (keyOf (delimsOf m) (mshOf m)) (decoded b′) → findingsFor m b ≡ findingsFor m b′
 unfolding sectionFor
-section-decides m b b′ e = ap (λ (cs : List Contents). listedBy (getD cs 0 (record { key = []; rules = []; sets = [] })) m) e
+section-decides m b b′ e = ap (λ (cs : List Contents). findingsBy (getD cs 0 (record { key = []; rules = []; sets = [] })) m) e
 
 -- ---- the section that was opened is the one that the message names
 pub section-opened : (m b : List ℕ) (s : Section) → opened b (keyOf (delimsOf m) (mshOf m)) ≡ Opened.At s → sectionFor m b ≡ record { key = keyOf (delimsOf m) (mshOf m); rules = rulesIn b s; sets = setsIn b s }
@@ -29,10 +29,10 @@ section-opened m b s e = ap (λ (cs : List Contents). getD cs 0 (record { key = 
 
 -- ---- what is listed, by the header
 module _ (m b : List ℕ) (s : Section) (found : opened b (keyOf (delimsOf m) (mshOf m)) ≡ Opened.At s) where
-  pub listed-header : anyWrong (headerOf (delimsOf m) (mshOf m)) ≡ true → listedFor m b ≡ headerFindings (headerOf (delimsOf m) (mshOf m))
-  unfolding listedBy
+  pub listed-header : anyWrong (headerOf (delimsOf m) (mshOf m)) ≡ true → findingsFor m b ≡ headerFindings (headerOf (delimsOf m) (mshOf m))
+  unfolding findingsBy
   listed-header e = rw e
 
-  pub listed-graded : anyWrong (headerOf (delimsOf m) (mshOf m)) ≡ false → listedFor m b ≡ findings mayFollow (rulesIn b s) (setsIn b s) m
-  unfolding listedBy
+  pub listed-graded : anyWrong (headerOf (delimsOf m) (mshOf m)) ≡ false → findingsFor m b ≡ findings mayFollow (rulesIn b s) (setsIn b s) m
+  unfolding findingsBy
   listed-graded e = rw (e, section-opened m b s found)

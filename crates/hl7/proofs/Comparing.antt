@@ -1,6 +1,6 @@
 -- Laws of `specs/Bytes.antt`, each in the words of a loop that goes along the bytes by index. Assumes nothing.
 use mathlib.Core.Path.{_≡_, refl, sym, ap, ap₂, _∙_}
-use mathlib.Core.Bool.{Bool, true, false, cond, _&&_, and-true, and-false, and-assoc, true≢false}
+use mathlib.Core.Bool.{Bool, true, false, cond, _&&_, _||_, and-true, and-false, and-assoc, true≢false}
 use mathlib.Core.List.{List, [], _∷_, _++_, map}
 use Prim.Native.Nat.{ℕ, zero, suc, _+_, _-_, _≤_, _<_}
 use native.Mathlib.Numerals.{add-one}
@@ -33,6 +33,10 @@ none-of (x ∷ l) h = absurd (omega arith)
 pub and-both : (t u : Bool) → (t && u) ≡ true → (t ≡ true) × (u ≡ true)
 and-both true u e = (refl, e)
 and-both false u e = absurd (true≢false (sym e))
+
+pub or-neither : (t u : Bool) → (t || u) ≡ false → (t ≡ false) × (u ≡ false)
+or-neither true u e = absurd (true≢false e)
+or-neither false u e = (refl, e)
 
 -- a part as the code cuts it, `&v[from..to]`, is the slice from `from` up to `to`
 pub part-slice : (v : List ℕ) (from to : ℕ) → from ≤ to → take (to - from) (drop from v) ≡ slice from to v

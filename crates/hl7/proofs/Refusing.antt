@@ -1,7 +1,7 @@
 -- Laws of `specs/Refusals.antt`: tables of rows, the loops that look for a wrong byte and a wrong segment, and what a sound message is.
 -- Assumes nothing.
 use mathlib.Core.Path.{_≡_, refl, sym, ap, subst, _∙_}
-use mathlib.Core.Bool.{Bool, true, false, cond, not, true≢false}
+use mathlib.Core.Bool.{Bool, true, false, cond, not, _&&_, true≢false}
 use mathlib.Core.Logic.{_↔_, _⊎_, inl, inr}
 use mathlib.Core.List.{List, [], _∷_, _++_}
 use Prim.Native.Nat.{ℕ, zero, suc, _+_, _-_, _≤_, _<_}
@@ -10,18 +10,18 @@ use native.Mathlib.Nat.{add-zero}
 use native.Mathlib.Omega.{arith}
 use lib.Dec.{eqb, ltb}
 use lib.ListN.{length, getD, drop, length-drop, drop-of-length-le}
-use borrow.Author.Tests.{eq-eqb, ne-eqb, lt-ltb, le-ltb, eqb-true, ltb-false, not-false}
+use borrow.Author.Tests.{eq-eqb, ne-eqb, lt-ltb, le-ltb, eqb-true, eqb-false, ltb-false, not-true, not-false}
 use Rattle.hl7.specs.declared.place.Delims.{Delims}
 use Rattle.hl7.specs.declared.refusal.Found.the-variants.{At, Nothing}
 use Rattle.hl7.specs.declared.refusal.Reading.{Reading}
 use Rattle.hl7.specs.declared.refusal.Reading.the-variants.{Sound, Empty, TooLong, WrongByte, NoHeader, WrongSegment}
 use Rattle.hl7.specs.Text.{bytes}
-use Rattle.hl7.specs.Bytes.{all, begins}
+use Rattle.hl7.specs.Bytes.{all, isIn, begins}
 use Rattle.hl7.specs.Cut.{cut, partAt, endFrom, butLast}
 use Rattle.hl7.specs.Place.{delimsOf, carriageReturn, segmentsOf, segmentOf, isMsh, nthOf, cutUnless, place}
 use Rattle.hl7.specs.Spans.{between}
-use Rattle.hl7.specs.Refusals.{Told, told, Row, row, rowAt, firstRow, holdsAt, First, messageLimit, allowed, wrongBytes, nineBytes, hasForm, wrongSegments, formRows, messageRows, firstOf, isSome, readingTold, readsSound, readingOf, isSound, located}
-use Rattle.hl7.proofs.Comparing.{rest-at, none-of, and-both, begins-less}
+use Rattle.hl7.specs.Refusals.{Told, told, Row, row, rowAt, firstRow, passes, numbersOf, apart, holdsAt, First, messageLimit, allowed, wrongBytes, nineBytes, hasForm, wrongSegments, formRows, messageRows, firstOf, isSome, readingTold, readsSound, readingOf, isSound, located}
+use Rattle.hl7.proofs.Comparing.{rest-at, none-of, and-both, or-neither, begins-less}
 use Rattle.hl7.proofs.Cutting.{first, first-at, first-begins, cut-some, parts-more, parts-last}
 use Rattle.hl7.proofs.Walking.{ended-same}
 
@@ -30,27 +30,17 @@ pub row-passed : (r : Row) (rows : List Row) → r .holds ≡ false → firstRow
 unfolding firstRow
 row-passed r rows e = rw e
 
-pub row-taken : (r : Row) (rows : List Row) → r .holds ≡ true → firstRow (r ∷ rows) ≡ r .answer
+pub row-taken : (r : Row) (rows : List Row) → r .holds ≡ true → firstRow (r ∷ rows) ≡ r .tells
 unfolding firstRow
 row-taken r rows e = rw e
 
 -- the first row that holds answers
-pub first-answers : (rows : List Row) (k : ℕ) → First rows k → firstRow rows ≡ getD rows k (row 0 false) .answer
+pub first-answers : (rows : List Row) (k : ℕ) → First rows k → firstRow rows ≡ getD rows k (row 0 false) .tells
 first-answers [] k f = absurd (omega (arith, f .within))
 first-answers (r ∷ rows) zero f = row-taken r rows (f .holds)
 first-answers (r ∷ rows) (suc k) f =
     row-passed r rows (f .noneBefore 0 (omega arith))
     ∙ first-answers rows k (record { within = omega (arith, f .within); holds = f .holds; noneBefore = λ i h. f .noneBefore (suc i) (omega arith) })
-
--- row i has the number i + n
-abbrev pub Numbered : ℕ → List Row → Type 0
-Numbered n [] = Unit {0}
-Numbered n (r ∷ rows) = (r .answer .number ≡ n) × Numbered (suc n) rows
-
-pub number-at : (rows : List Row) (n : ℕ) → Numbered n rows → (k : ℕ) → k < length rows → getD rows k (row 0 false) .answer .number ≡ n + k
-number-at [] n numbered k h = absurd (omega arith)
-number-at (r ∷ rows) n numbered zero h = numbered .0 ∙ sym (add-zero n)
-number-at (r ∷ rows) n numbered (suc k) h = number-at rows (suc n) (numbered .1) k (omega arith) ∙ omega arith
 
 pub none-answers : (rows : List Row) → ((i : ℕ) → holdsAt rows i ≡ false) → firstRow rows ≡ told 0 0
 unfolding firstRow
@@ -78,36 +68,76 @@ first-or-none (r ∷ rows) = by (r .holds) refl (first-or-none rows)
     by false t (inl found) = inl (suc (found .0), later t (found .0) (found .1))
     by false t (inr none) = inr (never t none)
 
--- ---- the general law: the answer is that of row k exactly when row k holds and no earlier one does
-module _ (rows : List Row) (numbered : Numbered 1 rows) where
-  number-first : (k : ℕ) → First rows k → firstRow rows .number ≡ suc k
-  number-first k f = ap (λ (a : Told). a .number) (first-answers rows k f) ∙ number-at rows 1 numbered k (f .within) ∙ omega arith
+-- ---- numbers that are apart
+module _ (n : ℕ) (l : List ℕ) (e : apart (n ∷ l) ≡ true) where
+  apart-parts : ((not (eqb n 0) && not (isIn n l)) ≡ true) × (apart l ≡ true)
+  unfolding apart
+  apart-parts = and-both (not (eqb n 0) && not (isIn n l)) (apart l) e
 
-  pub row-exactly : (k : ℕ) → (firstRow rows .number ≡ suc k) ↔ First rows k
-  row-exactly k = (by (first-or-none rows), number-first k)
+  apart-first : (n ≡ 0 → ⊥) × (isIn n l ≡ false)
+  apart-first =
+      let both = and-both (not (eqb n 0)) (not (isIn n l)) (apart-parts .0) in
+      (eqb-false n 0 (not-true (eqb n 0) (both .0)), not-true (isIn n l) (both .1))
+
+not-in : (n : ℕ) (l : List ℕ) (k : ℕ) → isIn n l ≡ false → k < length l → n ≡ getD l k 0 → ⊥
+unfolding isIn
+not-in n [] k e h same = absurd (omega arith)
+not-in n (x ∷ l) zero e h same = eqb-false n x (or-neither (eqb n x) (isIn n l) e .0) same
+not-in n (x ∷ l) (suc k) e h same = not-in n l k (or-neither (eqb n x) (isIn n l) e .1) (omega arith) same
+
+apart-some : (l : List ℕ) (k : ℕ) → apart l ≡ true → k < length l → getD l k 0 ≡ 0 → ⊥
+apart-some [] k e h z = absurd (omega arith)
+apart-some (n ∷ l) zero e h z = apart-first n l e .0 z
+apart-some (n ∷ l) (suc k) e h z = apart-some l k (apart-parts n l e .1) (omega arith) z
+
+apart-one : (l : List ℕ) (j k : ℕ) → apart l ≡ true → j < length l → k < length l → getD l j 0 ≡ getD l k 0 → j ≡ k
+apart-one [] j k e h g same = absurd (omega arith)
+apart-one (n ∷ l) zero zero e h g same = refl
+apart-one (n ∷ l) zero (suc k) e h g same = absurd (not-in n l k (apart-first n l e .1) (omega arith) same)
+apart-one (n ∷ l) (suc j) zero e h g same = absurd (not-in n l j (apart-first n l e .1) (omega arith) (sym same))
+apart-one (n ∷ l) (suc j) (suc k) e h g same = ap suc (apart-one l j k (apart-parts n l e .1) (omega arith) (omega arith) same)
+
+numbers-length : (rows : List Row) → length (numbersOf rows) ≡ length rows
+unfolding numbersOf
+numbers-length [] = refl
+numbers-length (r ∷ rows) = ap suc (numbers-length rows)
+
+number-at : (rows : List Row) (k : ℕ) → getD rows k (row 0 false) .tells .number ≡ getD (numbersOf rows) k 0
+unfolding numbersOf
+number-at [] k = refl
+number-at (r ∷ rows) zero = refl
+number-at (r ∷ rows) (suc k) = number-at rows k
+
+-- ---- the general law, for every table whose numbers are apart: the number is that of row k exactly when row k holds and no earlier one does
+module _ (rows : List Row) (e : apart (numbersOf rows) ≡ true) where
+  number-first : (k : ℕ) → First rows k → firstRow rows .number ≡ getD (numbersOf rows) k 0
+  number-first k f = ap (λ (a : Told). a .number) (first-answers rows k f) ∙ number-at rows k
+
+  pub row-exactly : (k : ℕ) → k < length rows → (firstRow rows .number ≡ getD (numbersOf rows) k 0) ↔ First rows k
+  row-exactly k h = (by (first-or-none rows), number-first k)
     where
-      by : ((j : ℕ) × First rows j) ⊎ ((i : ℕ) → holdsAt rows i ≡ false) → firstRow rows .number ≡ suc k → First rows k
-      by (inl found) e =
-          let same : found .0 ≡ k = omega (arith, number-first (found .0) (found .1), e) in
+      by : ((j : ℕ) × First rows j) ⊎ ((i : ℕ) → holdsAt rows i ≡ false) → firstRow rows .number ≡ getD (numbersOf rows) k 0 → First rows k
+      by (inl found) g =
+          let same : found .0 ≡ k = apart-one (numbersOf rows) (found .0) k e (omega (arith, found .1 .within, numbers-length rows)) (omega (arith, numbers-length rows)) (sym (number-first (found .0) (found .1)) ∙ g) in
           subst (First rows) same (found .1)
-      by (inr none) e = absurd (omega (arith, ap (λ (a : Told). a .number) (none-answers rows none), e))
+      by (inr none) g = absurd (apart-some (numbersOf rows) k e (omega (arith, numbers-length rows)) (sym g ∙ ap (λ (a : Told). a .number) (none-answers rows none)))
 
   -- and number 0 exactly when none holds
   pub none-exactly : (firstRow rows .number ≡ 0) ↔ ((i : ℕ) → holdsAt rows i ≡ false)
   none-exactly = (by (first-or-none rows), λ none. ap (λ (a : Told). a .number) (none-answers rows none))
     where
       by : ((j : ℕ) × First rows j) ⊎ ((i : ℕ) → holdsAt rows i ≡ false) → firstRow rows .number ≡ 0 → (i : ℕ) → holdsAt rows i ≡ false
-      by (inl found) e = absurd (omega (arith, number-first (found .0) (found .1), e))
-      by (inr none) e = none
+      by (inl found) g = absurd (apart-some (numbersOf rows) (found .0) e (omega (arith, found .1 .within, numbers-length rows)) (sym (number-first (found .0) (found .1)) ∙ g))
+      by (inr none) g = none
 
 -- two tables one after the other: the second is tried where no row of the first holds
-pub rows-append : (rows more : List Row) (n : ℕ) → Numbered (suc n) rows → firstRow (rows ++ more) ≡ cond (eqb (firstRow rows .number) 0) (firstRow more) (firstRow rows)
-unfolding firstRow
-rows-append [] more n numbered = refl
-rows-append (r ∷ rows) more n numbered = by (r .holds) (rows-append rows more (suc n) (numbered .1))
+pub rows-append : (rows more : List Row) → apart (numbersOf rows) ≡ true → firstRow (rows ++ more) ≡ cond (passes rows) (firstRow more) (firstRow rows)
+unfolding firstRow numbersOf
+rows-append [] more e = refl
+rows-append (r ∷ rows) more e = by (r .holds) (rows-append rows more (apart-parts (r .tells .number) (numbersOf rows) e .1))
   where
-    by : (b : Bool) → firstRow (rows ++ more) ≡ cond (eqb (firstRow rows .number) 0) (firstRow more) (firstRow rows) → cond b (r .answer) (firstRow (rows ++ more)) ≡ cond (eqb (cond b (r .answer) (firstRow rows) .number) 0) (firstRow more) (cond b (r .answer) (firstRow rows))
-    by true ih = rw (ne-eqb (r .answer .number) 0 (λ e. omega (arith, e, numbered .0)))
+    by : (b : Bool) → firstRow (rows ++ more) ≡ cond (passes rows) (firstRow more) (firstRow rows) → cond b (r .tells) (firstRow (rows ++ more)) ≡ cond (eqb (cond b (r .tells) (firstRow rows) .number) 0) (firstRow more) (cond b (r .tells) (firstRow rows))
+    by true ih = rw (ne-eqb (r .tells .number) 0 (apart-first (r .tells .number) (numbersOf rows) e .0))
     by false ih = ih
 
 -- ---- a row for what stands at some positions
@@ -200,13 +230,14 @@ pub check-once : (m : List ℕ) {r q : Reading} → readingTold r ≡ firstRow (
 check-once m e f = reading-is m e ∙ sym (reading-is m f)
 
 -- ---- rows 1 to 5
-pub message-numbered : (m : List ℕ) → Numbered 1 (messageRows m)
-unfolding messageRows formRows
-message-numbered m = (refl, (refl, (refl, (refl, (refl, tt)))))
+pub message-apart : (m : List ℕ) → apart (numbersOf (messageRows m)) ≡ true
+unfolding messageRows formRows numbersOf apart isIn
+message-apart m = refl
 
 -- the number is that of row k exactly when row k is the first to hold
-pub refusal-exactly : (m : List ℕ) (k : ℕ) → (firstRow (messageRows m) .number ≡ suc k) ↔ First (messageRows m) k
-refusal-exactly m = row-exactly (messageRows m) (message-numbered m)
+pub reading-exactly : (m : List ℕ) (k : ℕ) → k < 5 → (firstRow (messageRows m) .number ≡ getD (1 ∷ 2 ∷ 3 ∷ 4 ∷ 5 ∷ []) k 0) ↔ First (messageRows m) k
+unfolding messageRows formRows numbersOf
+reading-exactly m k h = row-exactly (messageRows m) (message-apart m) k h
 
 -- the same in the code's words: the tests that it made on the way
 module _ (m : List ℕ) where
@@ -262,7 +293,7 @@ sound-is m r e = reads-sound r ∙ ap (λ (a : Told). eqb (a .number) 0) e
 -- none of rows 1 to 5 holds of a sound message
 pub sound-none : (m : List ℕ) → isSound m ≡ true → (i : ℕ) → holdsAt (messageRows m) i ≡ false
 unfolding isSound
-sound-none m e = none-exactly (messageRows m) (message-numbered m) .0 (eqb-true _ 0 e)
+sound-none m e = none-exactly (messageRows m) (message-apart m) .0 (eqb-true _ 0 e)
 
 pub sound-short : (m : List ℕ) → isSound m ≡ true → length m ≤ messageLimit
 unfolding messageRows

@@ -8,6 +8,11 @@ use lib.Dec.{eqb, leb}
 abbrev pub within : ℕ → ℕ → ℕ → Bool
 within low high n = leb low n && leb n high
 
+-- n is one of the list
+unfoldable pub isIn : ℕ → List ℕ → Bool
+isIn n [] = false
+isIn n (x ∷ l) = eqb n x || isIn n l
+
 -- every byte of s passes the test
 unfoldable pub all : (ℕ → Bool) → List ℕ → Bool
 all test [] = true

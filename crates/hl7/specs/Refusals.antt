@@ -8,7 +8,7 @@ use mathlib.Core.List.{List, [], _∷_}
 use lib.ListN.{length, getD}
 use lib.Dec.{eqb, leb, ltb}
 use Rattle.hl7.specs.Text.{bytes}
-use Rattle.hl7.specs.Bytes.{within, begins}
+use Rattle.hl7.specs.Bytes.{within, isIn, begins}
 use Rattle.hl7.specs.Cut.{cut, Piece}
 use Rattle.hl7.specs.Place.{delimsOf, carriageReturn, place}
 use Rattle.hl7.specs.declared.place.Delims.{Delims}
@@ -28,11 +28,11 @@ told number detail = record { number = number; detail = detail }
 
 pub record Row : Type 0 where
   pub holds : Bool
-  pub answer : Told
+  pub tells : Told
 
 -- a refusal without a position
 abbrev pub row : ℕ → Bool → Row
-row number holds = record { holds = holds; answer = told number 0 }
+row number holds = record { holds = holds; tells = told number 0 }
 
 abbrev pub isSome : List ℕ → Bool
 isSome [] = false
@@ -40,12 +40,26 @@ isSome (x ∷ l) = true
 
 -- a refusal for what stands at some positions: its detail is the first
 abbrev pub rowAt : ℕ → List ℕ → Row
-rowAt number positions = record { holds = isSome positions; answer = told number (getD positions 0 0) }
+rowAt number positions = record { holds = isSome positions; tells = told number (getD positions 0 0) }
 
--- the first row that holds answers; number 0 where none does
+-- the first row that holds tells the answer; number 0 where none does
 unfoldable pub firstRow : List Row → Told
 firstRow [] = told 0 0
-firstRow (r ∷ rows) = cond (r .holds) (r .answer) (firstRow rows)
+firstRow (r ∷ rows) = cond (r .holds) (r .tells) (firstRow rows)
+
+-- no row holds
+abbrev pub passes : List Row → Bool
+passes rows = eqb (firstRow rows .number) 0
+
+-- the numbers of a table's rows
+unfoldable pub numbersOf : List Row → List ℕ
+numbersOf [] = []
+numbersOf (r ∷ rows) = r .tells .number ∷ numbersOf rows
+
+-- none of the numbers is 0, and no two are the same: then an answer's number says which row told it
+unfoldable pub apart : List ℕ → Bool
+apart [] = true
+apart (n ∷ l) = not (eqb n 0) && not (isIn n l) && apart l
 
 -- row k, from 0, is the first that holds
 abbrev pub holdsAt : List Row → ℕ → Bool
@@ -131,7 +145,7 @@ readingOf a =
 -- ---- locating
 -- refusals 1 to 5 do not apply
 unfoldable pub isSound : List ℕ → Bool
-isSound m = eqb (firstRow (messageRows m) .number) 0
+isSound m = passes (messageRows m)
 
 -- a place that a reader asks for: empty, at the message's start, where refusals 1 to 5 apply
 unfoldable pub located : List ℕ → ℕ → ℕ → ℕ → ℕ → Piece

@@ -15,7 +15,7 @@ returns-2 : tie.Need-returns-2
 returns-2 c =
     let at-reading = c .before .before in
     let is = sym (at-reading .reading .given .1) ∙ at-reading .before .before .admit .ensures in
-    answer-refused _ _ _ _ _ _ is (c .unreadable .ensures) (unreadable-some _ _ is)
+    answer-refused _ _ _ _ _ _ is (c .of-reading .ensures) (unreadable-some _ _ is)
 
 returns-3 : tie.Need-returns-3
 returns-3 c =

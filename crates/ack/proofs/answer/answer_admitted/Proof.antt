@@ -57,8 +57,9 @@ returns-2 c =
 
 returns-3 : tie.Need-returns-3
 returns-3 c =
-    let begin = c .before .before .before .before .before .before in
-    answer-stamp _ _ _ _ _ (begin .pre) (sym (c .before .is-stamp .ensures) ∙ c .if1 .left)
+    let at-if = c .before in
+    let begin = at-if .before .before .before .before .before .before in
+    answer-stamp _ _ _ _ _ (begin .pre) (sym (at-if .before .is-stamp .ensures) ∙ at-if .if1 .left) (c .refused .ensures)
 
 pub answer-admitted-spec : {M : Type 1} → statement M
 answer-admitted-spec =
@@ -80,4 +81,5 @@ answer-admitted-spec =
     answer-graded-requires
     (λ c. search needs)
     returns-2
+    (λ c κs. tt)
     returns-3)
