@@ -1,6 +1,6 @@
 //! The main code's static library, by its three C functions.
 
-#[link(name = "ack", kind = "static")]
+#[link(name = "jasminedo", kind = "static")]
 extern "C" {
     fn jasminedo_answer(
         message: *const u8,
