@@ -11,12 +11,28 @@ pub struct Sample {
     pub case: Case,
     /// What 01 wants printed.
     pub expected: String,
+    /// What stands at the case's place, where that is written by hand too.
+    pub located: Option<&'static str>,
 }
 
 pub const STAMP: &[u8] = b"20250113120000+0000";
 const HEADER: &str = "MSH|^~\\&|CAB|C1|REG|AX|20250113115900+0000||VXU^V04^VXU_V04|M1|P|2.5.1\n";
 const ACK_HEADER: &str =
     "MSH|^~\\&|REG|AX|CAB|C1|20250113120000+0000||ACK^V04^ACK|7|P|2.5.1|||NE|NE|||||Z23^CDCPHINVS\n";
+/// Places that tell something of most messages: MSH-1, MSH-2, whole and cut fields, later repetitions, missing places.
+pub const PLACES: [[u32; 4]; 11] = [
+    [1, 1, 1, 0],
+    [2, 3, 1, 1],
+    [1, 2, 1, 1],
+    [2, 3, 2, 0],
+    [1, 10, 1, 0],
+    [2, 3, 4, 1],
+    [1, 9, 1, 2],
+    [2, 0, 1, 1],
+    [3, 1, 1, 0],
+    [2, 5, 1, 2],
+    [1, 12, 2, 1],
+];
 const END_FINDING: &str = "ERR|||100^Segment sequence error^HL70357|E|0^^L\n";
 
 /// A message or an answer as printed here, with a line feed for each CR.
@@ -29,13 +45,13 @@ fn book_ax(rules: &[RuleBytes]) -> Vec<u8> {
     books::encode(&[section])
 }
 
-/// Control number 7, the stamp of the worked example and 65,536 bytes of output.
+/// Control number 7, the stamp of the worked example, 65,536 bytes of output, and MSH-1.
 pub fn case(message: Vec<u8>, book: Vec<u8>) -> Case {
-    Case { message, book, stamp: STAMP.to_vec(), control: 7, output_length: 65_536 }
+    Case { message, book, stamp: STAMP.to_vec(), control: 7, output_length: 65_536, place: PLACES[0] }
 }
 
 fn sample(name: &str, case: Case, expected: &str) -> Sample {
-    Sample { name: name.into(), case, expected: expected.into() }
+    Sample { name: name.into(), case, expected: expected.into(), located: None }
 }
 
 /// The worked example's header, further segments, and what the ACK says after its own header.
@@ -56,6 +72,10 @@ pub fn samples() -> Vec<Sample> {
     all.extend(book_refusals());
     all.extend(stamps());
     all.extend(outputs());
+    for (sample, place) in all.iter_mut().zip(PLACES.into_iter().cycle()) {
+        sample.case.place = place;
+    }
+    all.extend(located());
     all
 }
 
@@ -486,20 +506,95 @@ fn outputs() -> Vec<Sample> {
     ]
 }
 
+/// Every kind of place in one message, and MSH-1 of messages that are refused.
+fn located() -> Vec<Sample> {
+    let segments = "PID|1||77^A~88^B&C~^D|\nMSH\nMSH|x~y^z|q\n";
+    let expected = format!(
+        "MSA|AE|M1\n\
+         ERR||MSH^2|100^Segment sequence error^HL70357|E|0^^L\n\
+         ERR||MSH^3|100^Segment sequence error^HL70357|E|0^^L\n{END_FINDING}"
+    );
+    let rows: [([u32; 4], &str); 39] = [
+        ([1, 1, 1, 0], "|"),
+        ([1, 1, 1, 1], "|"),
+        ([1, 1, 1, 2], ""),
+        ([1, 1, 2, 0], ""),
+        ([1, 2, 1, 0], "^~\\&"),
+        ([1, 2, 1, 1], "^~\\&"),
+        ([1, 2, 1, 2], ""),
+        ([1, 2, 2, 0], ""),
+        ([1, 3, 1, 1], "CAB"),
+        ([1, 8, 1, 0], ""),
+        ([1, 9, 1, 0], "VXU^V04^VXU_V04"),
+        ([1, 10, 1, 1], "M1"),
+        ([1, 12, 1, 0], "2.5.1"),
+        ([1, 13, 1, 0], ""),
+        ([2, 1, 1, 1], "1"),
+        ([2, 3, 1, 0], "77^A"),
+        ([2, 3, 2, 1], "88"),
+        ([2, 3, 2, 2], "B&C"),
+        ([2, 3, 3, 1], ""),
+        ([2, 3, 3, 2], "D"),
+        ([2, 3, 4, 0], ""),
+        ([2, 4, 1, 0], ""),
+        ([3, 1, 1, 0], ""),
+        ([4, 1, 1, 0], "|"),
+        ([4, 2, 1, 1], "x~y^z"),
+        ([4, 3, 1, 1], "q"),
+        ([5, 1, 1, 0], ""),
+        // A 0 that is not the component's is a missing place.
+        ([0, 3, 1, 0], ""),
+        ([2, 0, 1, 0], ""),
+        ([2, 3, 0, 0], ""),
+        // Numbers that a narrower type would take for 1 or for component 0.
+        ([257, 1, 1, 0], ""),
+        ([65_537, 1, 1, 0], ""),
+        ([1, 257, 1, 0], ""),
+        ([1, 65_537, 1, 0], ""),
+        ([2, 3, 257, 1], ""),
+        ([2, 3, 65_537, 1], ""),
+        ([2, 3, 1, 256], ""),
+        ([2, 3, 1, 65_536], ""),
+        ([u32::MAX; 4], ""),
+    ];
+    let mut all = Vec::new();
+    for (place, text) in rows {
+        let Sample { name, case, expected, .. } =
+            graded(&format!("place {place:?}"), segments, book_ax(&[]), &expected);
+        all.push(Sample { name, case: Case { place, ..case }, expected, located: Some(text) });
+    }
+    // Refusal 6 is not about reading.
+    for (message, refusal, text) in [
+        ("", "1 0", ""),
+        ("MSH|^~\\&|\t\n", "3 9", ""),
+        ("MSH|^~/&|CAB\n", "4 0", ""),
+        ("MSH|^~\\&|CAB", "5 0", ""),
+        ("MSH|^~\\&|CAB\n", "6 0", "|"),
+    ] {
+        let case = case(lines(message), book_ax(&[]));
+        let sample = sample(&format!("MSH-1 under refusal {refusal}"), case, &format!("refused {refusal}\n"));
+        all.push(Sample { located: Some(text), ..sample });
+    }
+    all
+}
+
 #[cfg(test)]
 mod tests {
     use super::*;
 
     #[test]
-    fn every_sample_is_printed_as_01_says() {
-        for Sample { name, case, expected } in samples() {
+    fn every_sample_is_printed_and_located_as_01_says() {
+        for Sample { name, case, expected, located } in samples() {
             assert_eq!(String::from_utf8_lossy(&case.printed()), expected, "{name}");
+            if let Some(text) = located {
+                assert_eq!(String::from_utf8_lossy(case.located()), text, "{name}");
+            }
         }
     }
 
     #[test]
     fn refusals_leave_the_output_alone_and_answers_what_is_after_the_ack() {
-        for Sample { name, case, expected } in samples() {
+        for Sample { name, case, expected, .. } in samples() {
             let mut out = vec![0xA5; 1000];
             let length = case.output_length.min(out.len());
             let (number, _) = crate::answer(&case.message, &case.book, &case.stamp, case.control, &mut out[..length]);

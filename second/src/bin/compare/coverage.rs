@@ -22,7 +22,7 @@ pub struct Coverage {
 
 impl Coverage {
     /// Counts a case once for everything that it hits.
-    pub fn count(&mut self, case: &Case, pair: Option<Pair>, number: u8, detail: u64) {
+    pub fn count(&mut self, case: &Case, pair: Option<Pair>, (number, detail): (u8, u64)) {
         self.numbers[usize::from(number)] += 1;
         if let Some((earlier, later)) = pair {
             // A book's late faults are tried after the version.
