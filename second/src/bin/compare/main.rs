@@ -1,6 +1,7 @@
 //! Compares the main code with the second program, through its static library or as a program.
 
 mod coverage;
+mod driven;
 mod library;
 #[cfg(feature = "ours")]
 mod linked;
@@ -16,7 +17,7 @@ use std::process::{Command, ExitCode};
 use std::time::Duration;
 
 const USAGE: &str = "usage: compare [--seconds N] [--cases N] [--seed S] [--replay FILE] \
-                     [--program PATH] [--under PATH]";
+                     [--library PATH | --program PATH] [--under PATH]";
 
 #[derive(Default)]
 struct Options {
@@ -24,6 +25,7 @@ struct Options {
     cases: Option<u64>,
     seed: u64,
     replay: Option<PathBuf>,
+    library: Option<PathBuf>,
     program: Option<PathBuf>,
     under: Option<PathBuf>,
 }
@@ -44,7 +46,10 @@ fn run(options: Options) -> Result<bool, String> {
     if let Some(path) = &options.program {
         return program::compare(options.command(path)?, options.seed, options.cases.unwrap_or(3_000));
     }
-    let mut ours = linked()?;
+    let mut ours = match &options.library {
+        Some(path) => Box::new(driven::Driven::start(options.command(path)?)?),
+        None => linked()?,
+    };
     if let Some(file) = &options.replay {
         return library::replay(&mut *ours, file);
     }
@@ -55,7 +60,7 @@ fn run(options: Options) -> Result<bool, String> {
 
 #[cfg(not(feature = "ours"))]
 fn linked() -> Result<Box<dyn Library>, String> {
-    Err("this build links no library: it takes --program alone".into())
+    Err("this build links no library: it takes --library or --program".into())
 }
 
 #[cfg(feature = "ours")]
@@ -91,6 +96,7 @@ fn options() -> Result<Options, String> {
             Some("--cases") => options.cases = Some(number()?),
             Some("--seed") => options.seed = number()?,
             Some("--replay") => options.replay = Some(value.into()),
+            Some("--library") => options.library = Some(value.into()),
             Some("--program") => options.program = Some(value.into()),
             Some("--under") => options.under = Some(value.into()),
             _ => return Err(USAGE.into()),
