@@ -66,6 +66,7 @@ pub fn samples() -> Vec<Sample> {
     all.extend(values());
     all.extend(orders());
     all.extend(headers());
+    all.extend(verdicts());
     all.extend(slips());
     all.extend(places());
     all.extend(message_refusals());
@@ -182,35 +183,50 @@ fn headers() -> Vec<Sample> {
     let e201 = "ERR||MSH^1^9^1^2|201^Unsupported event code^HL70357|E|0^^L\n";
     let e202 = "ERR||MSH^1^11^1^1|202^Unsupported processing id^HL70357|E|0^^L\n";
     let e203 = "ERR||MSH^1^12^1^1|203^Unsupported version id^HL70357|E|0^^L\n";
-    // Under AR no rule and no order finding is listed.
-    let book = book_ax(&[rule("MSH", 99, 0, 1, b'E', [0, 0, 0])]);
-    let rows: [(&str, &str, &str, String); 8] = [
-        ("ADT^A01", "P", "2.5.1", [e200, e201].concat()),
-        ("", "P", "2.5.1", [e200, e201].concat()),
-        ("VXU^V03^VXU_V04", "P", "2.5.1", e201.into()),
-        ("ACK^V04", "P", "2.5.1", e200.into()),
-        ("VXU&x^V04", "P", "2.5.1", e200.into()),
-        ("VXU^V04", "X", "2.5.1", e202.into()),
-        ("VXU^V04", "t", "2.5", [e202, e203].concat()),
-        ("QBP^Q11", "", "", [e200, e201, e202, e203].concat()),
+    // The rule and the order are broken, and under AR neither is listed.
+    let broken = ("", book_ax(&[rule("MSH", 99, 0, 1, b'E', [0, 0, 0])]));
+    let good = ("PID\n", book_ax(&[]));
+    let rows: [(&str, &str, &str, &[&str]); 12] = [
+        ("ADT^A01", "P", "2.5.1", &[e200, e201]),
+        ("", "P", "2.5.1", &[e200, e201]),
+        ("VXU^V03^VXU_V04", "P", "2.5.1", &[e201]),
+        ("ACK^V04", "P", "2.5.1", &[e200]),
+        ("VXU&x^V04", "P", "2.5.1", &[e200]),
+        ("VXU^V04", "X", "2.5.1", &[e202]),
+        ("VXU^V04", "t", "2.5", &[e202, e203]),
+        ("QBP^Q11", "", "", &[e200, e201, e202, e203]),
+        // Each of P, T and D is supported, and later components and repetitions are not looked at.
+        ("VXU^V04~ADT", "T", "2.5.1^x", &[]),
+        ("VXU^V04~ADT", "D", "2.5.1^x", &[]),
+        ("VXU^V04~ADT", "P^T", "2.5.1^x", &[]),
+        ("VXU^V04~ADT", "P~X", "2.5.1^x", &[]),
     ];
     let mut all = Vec::new();
     for (kind, processing, version, findings) in rows {
-        let message = format!("MSH|^~\\&|CAB|C1|REG|AX|||{kind}|M1|{processing}|{version}\n");
+        let (verdict, (segments, book)) = if findings.is_empty() { ("AA", &good) } else { ("AR", &broken) };
+        let message = format!("MSH|^~\\&|CAB|C1|REG|AX|||{kind}|M1|{processing}|{version}\n{segments}");
         let ack = format!(
             "MSH|^~\\&|REG|AX|CAB|C1|20250113120000+0000||ACK^V04^ACK|7|{processing}|2.5.1|||NE|NE|||||Z23^CDCPHINVS\n\
-             MSA|AR|M1\n{findings}"
+             MSA|{verdict}|M1\n{}",
+            findings.concat()
         );
         all.push(sample(&format!("header: {message:?}"), case(lines(&message), book.clone()), &ack));
     }
-    // Each of P, T and D is supported, and later components and repetitions are not looked at.
-    for processing in ["T", "D", "P^T", "P~X"] {
-        let message = format!("MSH|^~\\&|CAB|C1|REG|AX|||VXU^V04~ADT|M1|{processing}|2.5.1^x\nPID\n");
-        let ack = format!(
-            "MSH|^~\\&|REG|AX|CAB|C1|20250113120000+0000||ACK^V04^ACK|7|{processing}|2.5.1|||NE|NE|||||Z23^CDCPHINVS\n\
-             MSA|AA|M1\n"
-        );
-        all.push(sample(&format!("processing id {processing}"), case(lines(&message), book_ax(&[])), &ack));
+    all
+}
+
+/// MSA-1 for the severities that are found.
+fn verdicts() -> Vec<Sample> {
+    let rows =
+        [("", "AA"), ("I", "AA"), ("W", "AE"), ("E", "AE"), ("WI", "AE"), ("IE", "AE"), ("WE", "AE"), ("IWE", "AE")];
+    let mut all = Vec::new();
+    for (severities, verdict) in rows {
+        let rules: Vec<RuleBytes> = severities.bytes().map(|s| rule("PID", 3, 0, 1, s, [0, 0, 0])).collect();
+        let mut expected = format!("MSA|{verdict}|M1\n");
+        for (number, severity) in (1..).zip(severities.chars()) {
+            expected += &format!("ERR||PID^1^3^1|101^Required field missing^HL70357|{severity}|{number}^^L\n");
+        }
+        all.push(graded(&format!("severities {severities:?}"), "PID\n", book_ax(&rules), &expected));
     }
     all
 }

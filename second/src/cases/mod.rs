@@ -8,6 +8,8 @@ mod places;
 mod plans;
 mod random;
 
+#[cfg(test)]
+pub(crate) use faults::FAULTY_RULES;
 pub use places::place;
 pub use random::Random;
 
@@ -93,7 +95,7 @@ impl Generator {
         at -= self.pairs.len();
         let case = match at {
             0..18 => broken_rule(random, at as u8 % 6 + 1, b"EWI"[at / 6]),
-            18..34 => wrong_header(random, at - 18),
+            18..34 => headed(random, SectionPlan::new("AX"), at - 18),
             _ => return self.random_case(random),
         };
         (lend(random, case), None)
@@ -182,11 +184,7 @@ fn broken_rule(random: &mut Random, kind: u8, severity: u8) -> Case {
         let mut rule = plans::rule_of_kind(random, kind, 1);
         rule[..4].copy_from_slice(b"PID\x03");
         rule[6] = severity;
-        let section = SectionPlan { rules: vec![rule], sets, ..SectionPlan::new("AX") };
-        let mut draft = drafts::draft(random, &section);
-        drafts::set_header(random, &mut draft, 0);
-        let case =
-            Case { stamp: near::stamp(random), ..with_stamp(random, draft.message(), books::encode(&[section])) };
+        let case = headed(random, SectionPlan { rules: vec![rule], sets, ..SectionPlan::new("AX") }, 0);
         let finding = [b"|".as_slice(), &[severity], b"|1^^L\n"].concat();
         let printed = Case { output_length: 65_536, ..case.clone() }.printed();
         if printed.windows(finding.len()).any(|window| window == finding) {
@@ -195,9 +193,8 @@ fn broken_rule(random: &mut Random, kind: u8, severity: u8) -> Case {
     }
 }
 
-/// Findings 200 to 203 where their bit is set.
-fn wrong_header(random: &mut Random, wrong: usize) -> Case {
-    let section = SectionPlan::new("AX");
+/// A message with findings 200 to 203 where their bit is set.
+fn headed(random: &mut Random, section: SectionPlan, wrong: usize) -> Case {
     let mut draft = drafts::draft(random, &section);
     drafts::set_header(random, &mut draft, wrong);
     Case { stamp: near::stamp(random), ..with_stamp(random, draft.message(), books::encode(&[section])) }
