@@ -12,7 +12,7 @@ pub struct Sample {
     /// What 01 wants printed.
     pub expected: String,
     /// What stands at the case's place, where that is written by hand too.
-    pub located: Option<&'static str>,
+    pub located: Option<String>,
 }
 
 pub const STAMP: &[u8] = b"20250113120000+0000";
@@ -573,11 +573,14 @@ fn located() -> Vec<Sample> {
         ([2, 3, 1, 65_536], ""),
         ([u32::MAX; 4], ""),
     ];
+    let at = |place: [u32; 4], text: &str, sample: Sample| Sample {
+        case: Case { place, ..sample.case },
+        located: Some(text.into()),
+        ..sample
+    };
     let mut all = Vec::new();
     for (place, text) in rows {
-        let Sample { name, case, expected, .. } =
-            graded(&format!("place {place:?}"), segments, book_ax(&[]), &expected);
-        all.push(Sample { name, case: Case { place, ..case }, expected, located: Some(text) });
+        all.push(at(place, text, graded(&format!("place {place:?}"), segments, book_ax(&[]), &expected)));
     }
     // Refusal 6 is not about reading.
     for (message, refusal, text) in [
@@ -588,9 +591,13 @@ fn located() -> Vec<Sample> {
         ("MSH|^~\\&|CAB\n", "6 0", "|"),
     ] {
         let case = case(lines(message), book_ax(&[]));
-        let sample = sample(&format!("MSH-1 under refusal {refusal}"), case, &format!("refused {refusal}\n"));
-        all.push(Sample { located: Some(text), ..sample });
+        let name = format!("MSH-1 under refusal {refusal}");
+        all.push(at([1, 1, 1, 0], text, sample(&name, case, &format!("refused {refusal}\n"))));
     }
+    // Nearly the whole of the longest message: 71 bytes of header, 8 before the place and a CR after it.
+    let long = "x".repeat(MESSAGE_LIMIT - 80);
+    let segments = format!("PID\nZZZ|{long}\n");
+    all.push(at([3, 1, 1, 0], &long, graded("a long place", &segments, book_ax(&[]), "MSA|AA|M1\n")));
     all
 }
 
