@@ -93,10 +93,8 @@ fn print_case(
     true
 }
 
-// The case of a message of so many bytes, which come next. Answers whether the case is whole.
-fn run_case(fd: i32, message_length: Number) -> bool {
-    let mut message = [0u8; 32769];
-    let has_message = read_bytes(fd, message_length, &mut message);
+// The rest of a message's case. Answers whether the case is whole.
+fn run_message(fd: i32, message: &[u8]) -> bool {
     let mut book = [0u8; 65537];
     let book_length = read_number(fd);
     let has_book = read_bytes(fd, book_length, &mut book);
@@ -107,17 +105,25 @@ fn run_case(fd: i32, message_length: Number) -> bool {
     let out_length = read_number(fd);
     let asked = read_place(fd);
     // the last number is there only where the ones before it are
-    if has_message & has_book & has_stamp & (asked.component.count == 4) {
-        let text = front(&message, message_length.value as usize);
-        print_place(text, asked);
+    if has_book & has_stamp & (asked.component.count == 4) {
+        print_place(message, asked);
         return print_case(
-            text,
+            message,
             front(&book, book_length.value as usize),
             front(&stamp, stamp_length.value as usize),
             control.value,
             &mut [0u8; 131072],
             out_length.value as usize,
         );
+    }
+    false
+}
+
+// The case of a message of so many bytes, which come next. Answers whether the case is whole.
+fn run_case(fd: i32, message_length: Number) -> bool {
+    let mut message = [0u8; 32769];
+    if read_bytes(fd, message_length, &mut message) {
+        return run_message(fd, front(&message, message_length.value as usize));
     }
     false
 }
