@@ -3,7 +3,7 @@ use mathlib.Core.Path.{_≡_, refl, sym, ap, _∙_}
 use mathlib.Core.List.{List}
 use Prim.Native.Nat.{ℕ, _≤_}
 use native.Mathlib.Omega.{arith}
-use lib.ListN.{length, take}
+use lib.ListN.{length, take, drop}
 use lib.Seq.{take-at}
 use Rattle.ack.specs.declared.refusal.Answer.{Answer}
 use Rattle.ack.specs.Answers.{Outcome, answerOf, paper, Gives}
@@ -47,6 +47,6 @@ reply-once p q = (p .holds ∙ sym (q .holds), p .ends ∙ sym (q .ends))
 
 -- with room for a refusal, the text is what is to be printed
 pub reply-printed : (line : Said) {message book out after : List ℕ} {r : ℕ} → Replies line message book out after r → refusalRoom ≤ length out → take r after ≡ printedFor line message book out
-reply-printed badLine {message} {book} {out} w room = rw (w .holds, w .ends) (ap (take (length badText)) (splice-at-start out badText (omega arith)) ∙ take-at badText _ _ refl)
+reply-printed badLine {message} {book} {out} w room = rw (w .holds, w .ends) (ap (take (length badText)) (splice-at-start out badText (omega arith)) ∙ take-at badText (drop (length badText) out) (length badText) refl)
 reply-printed (goodLine stamp control) {message} {book} {out} w room =
     printed-shown (record { holds = w .holds; ends = w .ends }) (omega (arith, output-length message book stamp control out))
