@@ -1,5 +1,5 @@
 -- What the code's positions stand for: names that only contracts inside the crate, and those of `lookup`, are stated with.
-use Prim.Native.Nat.{ℕ, _+_, _*_, _<_, _≤_}
+use Prim.Native.Nat.{ℕ, _+_, _<_, _≤_}
 use mathlib.Core.Path.{_≡_}
 use mathlib.Core.Bool.{Bool, true, false, cond}
 use mathlib.Core.List.{List, [], _∷_, map}
@@ -15,10 +15,6 @@ use Rattle.grade.specs.declared.rule.Rule.{Rule}
 use Rattle.grade.specs.declared.walk.Next.{Next}
 use Rattle.grade.specs.declared.walk.Section.{Section}
 use Rattle.grade.specs.declared.book.Opened.{Opened}
-
--- three letters as one number
-abbrev pub lettersNumber : ℕ → ℕ → ℕ → ℕ
-lettersNumber a b c = a * 65536 + b * 256 + c
 
 -- where a reading ends
 abbrev pub endOf : {A : Type 0} → Parsed A → Next
