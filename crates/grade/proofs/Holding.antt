@@ -3,8 +3,8 @@ use Prim.Native.Nat.{ℕ, _+_, _*_, _<_, _≤_}
 use mathlib.Core.Path.{_≡_, sym, ap, _∙_}
 use mathlib.Core.Bool.{Bool, true, false, _&&_, _||_}
 use mathlib.Core.List.{List}
-use borrow.Author.Tests.{leb-true, ltb-true, eqb-true}
-use lib.Dec.{eqb, leb, ltb, lit≤}
+use borrow.Author.Tests.{leb-true, eqb-true}
+use lib.Dec.{eqb, leb, lit≤}
 use lib.ListN.{length, getD}
 use lib.Seq.{slice}
 use Rattle.hl7.specs.Bytes.{within}
@@ -14,9 +14,9 @@ use Rattle.grade.specs.declared.rule.Kind.{Kind}
 use Rattle.grade.specs.declared.rule.Place.{Place}
 use Rattle.grade.specs.declared.rule.Rule.{Rule}
 use Rattle.grade.specs.declared.rule.RuleRead.{RuleRead}
-use Rattle.grade.specs.Limits.{ruleSize, segmentCount, fieldLimit, componentLimit}
+use Rattle.grade.specs.Limits.{ruleSize, fieldLimit, componentLimit}
 use Rattle.grade.specs.Reader.{found, itemsOf, times}
-use Rattle.grade.specs.Rule.{nameOfLetters, firstField, placeFits, kindFits, ruleOf, ruleFits}
+use Rattle.grade.specs.Rule.{counted, nameOfLetters, firstField, placeFits, kindFits, ruleOf, ruleFits}
 use Rattle.grade.specs.Book.{ruleIn, codeSet}
 use Rattle.grade.specs.Standing.{rulesIn, setsIn, noRule, Holds}
 use Rattle.grade.proofs.Readings.{ended, row-at, row-length}
@@ -69,7 +69,7 @@ module _ (b : List ℕ) (s : Section) (h : Holds b s) where
 
 -- what the limits say of a place
 pub record PlaceFits (p : Place) : Type 0 where
-  pub segment : p .segment < segmentCount
+  pub segment : counted (p .segment) ≡ true
   pub first : firstField (p .segment) ≤ p .field
   pub last : p .field ≤ fieldLimit
   pub component : p .component ≤ componentLimit
@@ -79,11 +79,11 @@ unfolding placeFits
 place-limits sets r h =
     let p = r .place in
     let w = and-both (placeFits p) (kindFits sets (r .kind)) h in
-    let u = and-both (ltb (p .segment) segmentCount && within (firstField (p .segment)) fieldLimit (p .field)) (leb (p .component) componentLimit) (w .0) in
-    let v = and-both (ltb (p .segment) segmentCount) (within (firstField (p .segment)) fieldLimit (p .field)) (u .0) in
+    let u = and-both (counted (p .segment) && within (firstField (p .segment)) fieldLimit (p .field)) (leb (p .component) componentLimit) (w .0) in
+    let v = and-both (counted (p .segment)) (within (firstField (p .segment)) fieldLimit (p .field)) (u .0) in
     let f = and-both (leb (firstField (p .segment)) (p .field)) (leb (p .field) fieldLimit) (v .1) in
     record {
-      segment = ltb-true (p .segment) segmentCount (v .0);
+      segment = v .0;
       first = leb-true (firstField (p .segment)) (p .field) (f .0);
       last = leb-true (p .field) fieldLimit (f .1);
       component = leb-true (p .component) componentLimit (u .1);

@@ -10,7 +10,7 @@ use borrow.Author.Tests.{eq-eqb, ne-eqb}
 use lib.ListN.{length, getD, drop, set, replicate, getD-replicate, length-set, drop-of-length-le}
 use lib.Seq.{drop-cons, getD-set-same, getD-set-other}
 use Rattle.hl7.specs.declared.place.Delims.{Delims}
-use Rattle.grade.specs.Limits.{segmentCount, linkLimit}
+use Rattle.grade.specs.Limits.{namePlaces, linkLimit}
 use Rattle.grade.specs.Standing.{noRule, rulesIn}
 use Rattle.grade.specs.Linked.{nextAbout, Linked}
 use Rattle.grade.proofs.Judging.{rulesHere, other-rule, rules-next}
@@ -78,8 +78,8 @@ rules-skip d b s name number seg =
 -- ---- making the links, from the last rule to the first
 -- the rules from i on are linked
 pub record LinkedFrom (rules : List Rule) (i : ℕ) (links : List ℕ) : Type 0 where
-  pub first : (name : ℕ) → name < segmentCount → getD links name 0 ≡ nextAbout name i (drop i rules)
-  pub after : (j : ℕ) → i ≤ j → j < length rules → getD links (segmentCount + j) 0 ≡ nextAbout (segmentOfRule rules j) (j + 1) (drop (j + 1) rules)
+  pub first : (name : ℕ) → name < namePlaces → getD links name 0 ≡ nextAbout name i (drop i rules)
+  pub after : (j : ℕ) → i ≤ j → j < length rules → getD links (namePlaces + j) 0 ≡ nextAbout (segmentOfRule rules j) (j + 1) (drop (j + 1) rules)
 
 pub linked-none : (rules : List Rule) (n : ℕ) → n ≡ length rules → LinkedFrom rules n (replicate linkLimit n)
 linked-none rules n e = record {
@@ -93,29 +93,29 @@ linked-all rules i links h w =
     record { first = λ name l. w .first name l ∙ ap (λ (k : ℕ). nextAbout name k (drop k rules)) start; after = λ j l. w .after j (omega arith) l }
 
 -- rule i takes the place of the first one of its name, which becomes its next one
-module _ (rules : List Rule) (i k name : ℕ) (links : List ℕ) (more : k ≡ i + 1) (inside : i < length rules) (room : segmentCount + i < length links)
-    (named : name ≡ segmentOfRule rules i) (small : name < segmentCount) (w : LinkedFrom rules k links) where
+module _ (rules : List Rule) (i k name : ℕ) (links : List ℕ) (more : k ≡ i + 1) (inside : i < length rules) (room : namePlaces + i < length links)
+    (named : name ≡ segmentOfRule rules i) (small : name < namePlaces) (w : LinkedFrom rules k links) where
   abbrev behind : List ℕ
-  behind = set links (segmentCount + i) (getD links name 0)
+  behind = set links (namePlaces + i) (getD links name 0)
 
-  old-first : (n : ℕ) → n < segmentCount → getD links n 0 ≡ nextAbout n (i + 1) (drop (i + 1) rules)
+  old-first : (n : ℕ) → n < namePlaces → getD links n 0 ≡ nextAbout n (i + 1) (drop (i + 1) rules)
   old-first n h = w .first n h ∙ ap (λ (j : ℕ). nextAbout n j (drop j rules)) more
 
-  new-first : (n : ℕ) → n < segmentCount → getD (set behind name i) n 0 ≡ nextAbout n i (drop i rules)
+  new-first : (n : ℕ) → n < namePlaces → getD (set behind name i) n 0 ≡ nextAbout n i (drop i rules)
   new-first n h = by (ℕ-discrete n name)
     where
       by : Dec (n ≡ name) → getD (set behind name i) n 0 ≡ nextAbout n i (drop i rules)
-      by (yes e) = rw e (getD-set-same behind name i 0 (omega (arith, length-set links (segmentCount + i) (getD links name 0))) ∙ sym (next-this name rules i inside (sym named)))
+      by (yes e) = rw e (getD-set-same behind name i 0 (omega (arith, length-set links (namePlaces + i) (getD links name 0))) ∙ sym (next-this name rules i inside (sym named)))
       by (no e) =
-          getD-set-other behind name n i 0 e ∙ getD-set-other links (segmentCount + i) n (getD links name 0) 0 (λ q. absurd (omega arith)) ∙ old-first n h
+          getD-set-other behind name n i 0 e ∙ getD-set-other links (namePlaces + i) n (getD links name 0) 0 (λ q. absurd (omega arith)) ∙ old-first n h
           ∙ sym (next-later n rules i inside (λ q. e (sym q ∙ sym named)))
 
-  new-after : (j : ℕ) → i ≤ j → j < length rules → getD (set behind name i) (segmentCount + j) 0 ≡ nextAbout (segmentOfRule rules j) (j + 1) (drop (j + 1) rules)
-  new-after j h l = getD-set-other behind name (segmentCount + j) i 0 (λ q. absurd (omega arith)) ∙ by (ℕ-discrete j i)
+  new-after : (j : ℕ) → i ≤ j → j < length rules → getD (set behind name i) (namePlaces + j) 0 ≡ nextAbout (segmentOfRule rules j) (j + 1) (drop (j + 1) rules)
+  new-after j h l = getD-set-other behind name (namePlaces + j) i 0 (λ q. absurd (omega arith)) ∙ by (ℕ-discrete j i)
     where
-      by : Dec (j ≡ i) → getD behind (segmentCount + j) 0 ≡ nextAbout (segmentOfRule rules j) (j + 1) (drop (j + 1) rules)
-      by (yes e) = rw (e, ← named) (getD-set-same links (segmentCount + i) (getD links name 0) 0 room ∙ old-first name small)
-      by (no e) = getD-set-other links (segmentCount + i) (segmentCount + j) (getD links name 0) 0 (λ q. e (omega arith)) ∙ w .after j (omega (arith, e)) l
+      by : Dec (j ≡ i) → getD behind (namePlaces + j) 0 ≡ nextAbout (segmentOfRule rules j) (j + 1) (drop (j + 1) rules)
+      by (yes e) = rw (e, ← named) (getD-set-same links (namePlaces + i) (getD links name 0) 0 room ∙ old-first name small)
+      by (no e) = getD-set-other links (namePlaces + i) (namePlaces + j) (getD links name 0) 0 (λ q. e (omega arith)) ∙ w .after j (omega (arith, e)) l
 
   pub linked-more : LinkedFrom rules i (set behind name i)
   linked-more = record { first = new-first; after = new-after }

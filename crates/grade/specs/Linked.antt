@@ -5,7 +5,7 @@ use mathlib.Core.Bool.{cond}
 use mathlib.Core.List.{List, [], _∷_}
 use lib.Dec.{eqb}
 use lib.ListN.{length, getD, drop}
-use Rattle.grade.specs.Limits.{segmentCount}
+use Rattle.grade.specs.Limits.{namePlaces}
 use Rattle.grade.specs.Standing.{noRule}
 use Rattle.grade.specs.declared.rule.Rule.{Rule}
 
@@ -16,5 +16,5 @@ nextAbout name i (rule ∷ rules) = cond (eqb (rule .place .segment) name) i (ne
 
 -- the links of the names come first, those of the rules behind them
 pub record Linked (rules : List Rule) (links : List ℕ) : Type 0 where
-  pub first : (name : ℕ) → name < segmentCount → getD links name 0 ≡ nextAbout name 0 rules
-  pub after : (i : ℕ) → i < length rules → getD links (segmentCount + i) 0 ≡ nextAbout (getD rules i noRule .place .segment) (i + 1) (drop (i + 1) rules)
+  pub first : (name : ℕ) → name < namePlaces → getD links name 0 ≡ nextAbout name 0 rules
+  pub after : (i : ℕ) → i < length rules → getD links (namePlaces + i) 0 ≡ nextAbout (getD rules i noRule .place .segment) (i + 1) (drop (i + 1) rules)
