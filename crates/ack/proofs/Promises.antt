@@ -4,19 +4,19 @@ use mathlib.Core.Path.{_≡_, refl, sym, ap, subst, subst⁻¹, _∙_}
 use mathlib.Core.Bool.{Bool, true, false, cond, _||_, true≢false}
 use mathlib.Core.Logic.{_↔_}
 use mathlib.Core.List.{List, [], _∷_, _++_, map}
-use Prim.Native.Nat.{ℕ, zero, suc, _+_, _<_}
+use Prim.Native.Nat.{ℕ, zero, suc, _+_, _^_, _≤_, _<_}
 use Prim.Native.Char.{code}
 use native.Mathlib.Omega.{arith}
 use native.Mathlib.Decide.{ℕ-discrete}
 use native.Mathlib.Numerals.{one-add}
-use lib.Dec.{eqb}
+use lib.Dec.{eqb, ltb}
 use lib.ListN.{length, getD, take, drop, length-append, length-drop}
 use lib.Seq.{split-at, take-at, drop-at, take-all}
 use borrow.Author.Tests.{ne-eqb, eqb-true, leb-true, ltb-false, not-false}
 use Rattle.hl7.specs.Text.{bytes}
 use Rattle.hl7.specs.Bytes.{all, isIn}
 use Rattle.hl7.specs.Place.{carriageReturn, delimsOf, nthOf, cutUnless, segmentsOf, place}
-use Rattle.hl7.specs.Refusals.{told, firstRow, numbersOf, apart, holdsAt, First, messageRows, formRows}
+use Rattle.hl7.specs.Refusals.{messageLimit, Told, told, firstRow, numbersOf, apart, holdsAt, First, messageRows, formRows}
 use Rattle.hl7.proofs.Comparing.{and-both, all-append}
 use Rattle.grade.specs.Digits.{isDigit, isSign, digitRun}
 use Rattle.grade.specs.Values.{isStamp}
@@ -32,10 +32,16 @@ use Rattle.grade.specs.declared.rule.Rule.{Rule}
 use Rattle.grade.specs.declared.header.Header.{Header}
 use Rattle.grade.specs.declared.finding.Finding.{Finding}
 use Rattle.grade.proofs.Demand3.{findings-meet}
+use Rattle.grade.proofs.Few.{part-short}
+use Rattle.grade.proofs.Grading.{listed-header, listed-graded}
+use Rattle.grade.proofs.Admitting.{admitted-by, admits-passed, admit-bounded}
 use Rattle.ack.specs.Layout.{has, isHeader, isFault, mshLine, msaLine, errLine, ackLines}
-use Rattle.ack.specs.Answers.{Outcome, outcome, ackFor, answerRows, answerOf}
-use Rattle.ack.proofs.Listing.{has-none, graded-plain, header-verdict}
-use Rattle.ack.proofs.Answering.{number-is, refused-is, written-is as ack-is, table-exactly, table-none}
+use Rattle.ack.specs.Answers.{Outcome, outcome, outcomeBy, ackFor, answerRows, answerOf}
+use Rattle.ack.specs.Pieces.{findingLimit, shortOr}
+use Rattle.ack.proofs.Sizes.{ack-short}
+use Rattle.ack.proofs.Admitting.{stamp-length, admitted-short, admitted-few}
+use Rattle.ack.proofs.Listing.{has-none, graded-plain, header-few, header-verdict}
+use Rattle.ack.proofs.Answering.{number-is, refused-is, written-is as ack-is, table-exactly, table-none, write-stamp, write-right, answer-admitted, answer-stopped}
 use Rattle.ack.proofs.Reading.{isNot, clean, Fine, Apart, part-without, ack-segments, ar-exactly, ae-exactly, aa-exactly}
 
 -- ---- what is listed
@@ -249,6 +255,53 @@ output-length m b stamp control out = by (ℕ-discrete (answerOf m b stamp contr
     by : Dec (answerOf m b stamp control out .told .number ≡ 0) → length (answerOf m b stamp control out .output) ≡ length out
     by (yes e) = written-length m b stamp control out e
     by (no some) = ap length (refusal-alters-nothing m b stamp control out some)
+
+-- ---- how large an answer can be
+msh-within : (m : List ℕ) → length (mshOf m) ≤ length m
+unfolding nthOf cutUnless
+msh-within m = part-short carriageReturn m 0
+
+module _ (m b stamp : List ℕ) (control : ℕ) (out : List ℕ) where
+  -- a message that passes rows 1 to 9 is short, and its findings are few
+  listed-few : firstRow (admitRows m b) .number ≡ 0 → length (findingsFor m b) ≤ findingLimit
+  listed-few e = by (anyWrong (headerOf (delimsOf m) (mshOf m))) refl
+    where
+      is = admits-passed m b e
+
+      by : (wrong : Bool) → anyWrong (headerOf (delimsOf m) (mshOf m)) ≡ wrong → length (findingsFor m b) ≤ findingLimit
+      by true w = rw (listed-header m b _ (admitted-by m b is .opens) w) (omega (arith, header-few (headerOf (delimsOf m) (mshOf m))))
+      by false w = rw (listed-graded m b _ (admitted-by m b is .opens) w) (admitted-few m b is)
+
+  -- no detail reaches 2 ^ 48, and no number 12
+  pub answer-bounded : (answerOf m b stamp control out .told .number < 12) × (answerOf m b stamp control out .told .detail ≤ 2 ^ 48)
+  answer-bounded = by (ℕ-discrete (firstRow (admitRows m b) .number) 0)
+    where
+      Small : Told → Type 0
+      Small t = (t .number < 12) × (t .detail ≤ 2 ^ 48)
+
+      ack : List ℕ
+      ack = ackFor m b stamp control
+
+      -- row 11, or the ACK
+      last : length ack ≤ 2 ^ 48 → Small (shortOr ack out .told)
+      unfolding firstRow
+      last h = by (ltb (length out) (length ack))
+        where
+          by : (short : Bool) → Small (outcomeBy (cond short (told 11 (length ack)) (told 0 0)) ack out .told)
+          by true = (omega arith, h)
+          by false = (omega arith, h)
+
+      stamped : firstRow (admitRows m b) .number ≡ 0 → (right : Bool) → isStamp stamp ≡ right → Small (answerOf m b stamp control out .told)
+      stamped e false w = rw (answer-admitted m b stamp control out e, write-stamp m (findingsFor m b) stamp control out w) (omega arith, omega arith)
+      stamped e true w =
+          let is = admits-passed m b e in
+          let msh-short : length (mshOf m) ≤ messageLimit = omega (arith, msh-within m, admitted-short m b is) in
+          rw (answer-admitted m b stamp control out e, write-right m (findingsFor m b) stamp control out w)
+          (last (omega (arith, ack-short (delimsOf m) (mshOf m) stamp control (findingsFor m b) msh-short (omega (arith, stamp-length stamp w)) (listed-few e))))
+
+      by : Dec (firstRow (admitRows m b) .number ≡ 0) → Small (answerOf m b stamp control out .told)
+      by (yes e) = stamped e (isStamp stamp) refl
+      by (no some) = let told = admit-bounded m b in rw (answer-stopped m b stamp control out some) (omega arith, omega arith)
 
 -- ---- demand 3
 -- where the header is accepted, the ACK's segments after MSH and MSA are one ERR for each event that breaks the order or a rule of the section that the

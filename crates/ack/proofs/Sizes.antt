@@ -82,22 +82,8 @@ heading-whole d msh stamp control second = simp (length-append, joined-size, mar
 
 -- a field is no longer than its segment
 pub copied-short : (d : Delims) (msh : List ℕ) (k : ℕ) → length (copied d msh k) ≤ length msh
-unfolding copied partOfField
-copied-short d msh k = of (isMsh msh) k
-  where
-    part : (n from : ℕ) → length (take n (drop from msh)) ≤ length msh
-    part n from = simp (length-take, length-drop) (omega arith)
-
-    piece : (j : ℕ) → length (pieceAt (cut (d .bar) msh) j .bytes) ≤ length msh
-    piece j =
-        let p = pieceAt (cut (d .bar) msh) j in
-        subst (λ (l : List ℕ). length l ≤ length msh) (piece-stands (d .bar) msh j) (part (length (p .bytes)) (p .start))
-
-    of : (named : Bool) (k : ℕ) → length (partOfField named (d .bar) msh k .bytes) ≤ length msh
-    of named zero = omega arith
-    of true (suc zero) = part 1 3
-    of true (suc (suc k)) = piece (suc k)
-    of false (suc k) = piece (suc k)
+unfolding copied
+copied-short d msh k = field-short (isMsh msh) (d .bar) msh k
 
 heading-short : (d : Delims) (msh stamp : List ℕ) (control second : ℕ) → length (heading d msh stamp control second) ≤ 110 + length stamp + 6 * length msh
 heading-short d msh stamp control second =
@@ -161,9 +147,9 @@ errs-short d [] = lit≤ tt
 errs-short d (f ∷ findings) =
     omega (arith, length-append (ended (errLine d f)) (errs d findings), err-short d f, errs-short d findings)
 
--- an ACK is shorter than any index can be: the message has at most 32,768 bytes, the stamp 19, and the findings are few
+-- an ACK is far shorter than an index can be: the message has at most 32,768 bytes, the stamp 19, and the findings are few
 pub ack-short : (d : Delims) (msh stamp : List ℕ) (control : ℕ) (findings : List Finding) → length msh ≤ 32768 → length stamp ≤ 19 → length findings ≤ 2 ^ 40
-    → length (ackBytes d msh stamp control findings) < limit
+    → length (ackBytes d msh stamp control findings) < 2 ^ 48
 ack-short d msh stamp control findings h s few =
     rw (ack-is d msh stamp control findings, length-append)
     (omega (arith, heading-short d msh stamp control (verdict findings), errs-short d findings))

@@ -1,6 +1,6 @@
 -- Laws of `specs/Admission.antt`: the steps of `admit`, that its answer is the first of rows 1 to 9 that holds, and what is known of a message that
 -- was admitted. Assumes nothing.
-use Prim.Native.Nat.{ℕ, _<_}
+use Prim.Native.Nat.{ℕ, _+_, _≤_, _<_}
 use native.Mathlib.Omega.{arith}
 use mathlib.Core.Path.{_≡_, refl, sym, ap, subst₂, _∙_}
 use mathlib.Core.Bool.{Bool, true, false, cond}
@@ -11,11 +11,11 @@ use lib.ListN.{getD}
 use borrow.Author.Tests.{eqb-true, eqb-false}
 use Rattle.hl7.specs.Bytes.{isIn}
 use Rattle.hl7.specs.Place.{delimsOf}
-use Rattle.hl7.specs.Refusals.{Told, told, firstRow, numbersOf, apart, First, messageRows, formRows, readingTold, readingOf, isSound}
+use Rattle.hl7.specs.Refusals.{messageLimit, Told, told, Row, firstRow, numbersOf, apart, First, messageRows, formRows, readingTold, readingOf, isSound}
 use Rattle.hl7.specs.declared.place.Delims.{Delims}
 use Rattle.hl7.specs.declared.refusal.Reading.{Reading}
 use Rattle.hl7.specs.declared.refusal.Reading.the-variants.{Sound, Empty, TooLong, WrongByte, NoHeader, WrongSegment}
-use Rattle.hl7.proofs.Refusing.{rows-append, row-exactly, none-exactly, message-apart}
+use Rattle.hl7.proofs.Refusing.{none-answers, rows-append, row-exactly, none-exactly, message-apart, bounded-first, reading-bounded}
 use Rattle.grade.specs.Book.{noSection}
 use Rattle.grade.specs.Header.{mshOf, headerOf}
 use Rattle.grade.specs.Admission.{hasControlId, keyOf, bookRows, mshRows, admitRows, openedTold, admittedTold}
@@ -152,3 +152,19 @@ unreadable-some m b w none =
     let is = w .by (sym (ap numberOf (w .toldIs)) ∙ none) in
     let z : _≡_ {A = ℕ} 0 1 = cc in
     omega arith
+
+-- a message that passes rows 1 to 9 is admitted by the section that it names
+pub admits-passed : (m b : List ℕ) → firstRow (admitRows m b) .number ≡ 0 → Admits m b (By (siteIn b (keyOf (delimsOf m) (mshOf m))) (headerOf (delimsOf m) (mshOf m)))
+admits-passed m b e = record { toldIs = sym (none-answers (admitRows m b) (none-exactly (admitRows m b) (admit-apart m b) .0 e)); by = λ _. refl }
+
+-- no answer of rows 1 to 9 is larger than this
+pub admit-bounded : (m b : List ℕ) → (firstRow (admitRows m b) .number < 10) × (firstRow (admitRows m b) .detail ≤ messageLimit + 1)
+unfolding admitRows bookRows
+admit-bounded m b = rw (admit-rows m b) (by (isSound m))
+  where
+    rest : List Row
+    rest = mshRows (delimsOf m) (mshOf m) b
+
+    by : (sound : Bool) → (cond sound (firstRow rest) (firstRow (messageRows m)) .number < 10) × (cond sound (firstRow rest) (firstRow (messageRows m)) .detail ≤ messageLimit + 1)
+    by true = bounded-first 10 (messageLimit + 1) rest (omega arith) (omega arith, omega arith, (omega arith, omega arith, (omega arith, omega arith, (omega arith, omega arith, tt))))
+    by false = let told = reading-bounded m in (omega arith, omega arith)

@@ -46,7 +46,7 @@ cut-few d (x ∷ s) = by (eqb x d) (cut-few d s)
     by true ih = omega arith
     by false ih = omega (arith, length-drop 1 (cut d s))
 
-part-short : (d : ℕ) (s : List ℕ) (k : ℕ) → length (partAt (cut d s) k) ≤ length s
+pub part-short : (d : ℕ) (s : List ℕ) (k : ℕ) → length (partAt (cut d s) k) ≤ length s
 part-short d s k = omega (arith, ap length (piece-stands d s k), length-take (length (partAt (cut d s) k)) (drop (pieceAt (cut d s) k .start) s), length-drop (pieceAt (cut d s) k .start) s)
 
 ended-few : (ps : List (List ℕ)) → length (butLast ps) ≤ length ps - 1
@@ -63,7 +63,7 @@ ended-short (p ∷ (q ∷ ps)) zero = omega arith
 ended-short (p ∷ (q ∷ ps)) (suc k) = ended-short (q ∷ ps) k
 
 -- ---- segments, fields, repetitions
-field-short : (msh : Bool) (bar : ℕ) (seg : List ℕ) (f : ℕ) → length (partOfField msh bar seg f .bytes) ≤ length seg
+pub field-short : (msh : Bool) (bar : ℕ) (seg : List ℕ) (f : ℕ) → length (partOfField msh bar seg f .bytes) ≤ length seg
 unfolding partOfField
 field-short msh bar seg zero = omega arith
 field-short true bar seg (suc zero) = omega (arith, length-take 1 (drop 3 seg), length-drop 3 seg)

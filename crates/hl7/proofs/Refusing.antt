@@ -8,6 +8,7 @@ use Prim.Native.Nat.{ℕ, zero, suc, _+_, _-_, _≤_, _<_}
 use native.Mathlib.Numerals.{add-one}
 use native.Mathlib.Nat.{add-zero}
 use native.Mathlib.Omega.{arith}
+use native.Mathlib.Decide.{decLe}
 use lib.Dec.{eqb, ltb}
 use lib.ListN.{length, getD, drop, length-drop, drop-of-length-le}
 use borrow.Author.Tests.{eq-eqb, ne-eqb, lt-ltb, le-ltb, eqb-true, eqb-false, ltb-false, not-true, not-false}
@@ -17,7 +18,7 @@ use Rattle.hl7.specs.declared.refusal.Reading.{Reading}
 use Rattle.hl7.specs.declared.refusal.Reading.the-variants.{Sound, Empty, TooLong, WrongByte, NoHeader, WrongSegment}
 use Rattle.hl7.specs.Text.{bytes}
 use Rattle.hl7.specs.Bytes.{all, isIn, begins}
-use Rattle.hl7.specs.Cut.{cut, partAt, endFrom, butLast}
+use Rattle.hl7.specs.Cut.{ahead, cut, partAt, endFrom, butLast}
 use Rattle.hl7.specs.Place.{delimsOf, carriageReturn, segmentsOf, segmentOf, isMsh, nthOf, cutUnless, place}
 use Rattle.hl7.specs.Spans.{between}
 use Rattle.hl7.specs.Refusals.{Told, told, Row, row, rowAt, firstRow, passes, numbersOf, apart, holdsAt, First, messageLimit, allowed, wrongBytes, nineBytes, hasForm, wrongSegments, formRows, messageRows, firstOf, isSome, readingTold, readsSound, readingOf, isSound, located}
@@ -348,3 +349,70 @@ located-sound m n f r c e own = rw (e, own)
 pub located-refused : (m : List ℕ) (n f r c : ℕ) → isSound m ≡ false → located m n f r c ≡ record { start = 0; bytes = [] }
 unfolding located
 located-refused m n f r c e = rw e
+
+-- ---- how large an answer can be
+-- every row tells a number below n and a detail up to k
+abbrev pub Bounded : ℕ → ℕ → List Row → Type 0
+Bounded n k [] = Unit {0}
+Bounded n k (r ∷ rows) = (r .tells .number < n) × (r .tells .detail ≤ k) × Bounded n k rows
+
+pub bounded-first : (n k : ℕ) (rows : List Row) → 0 < n → Bounded n k rows → (firstRow rows .number < n) × (firstRow rows .detail ≤ k)
+unfolding firstRow
+bounded-first n k [] some all = (some, omega arith)
+bounded-first n k (r ∷ rows) some all = by (r .holds) (bounded-first n k rows some (all .2))
+  where
+    by : (b : Bool) → (firstRow rows .number < n) × (firstRow rows .detail ≤ k) → (cond b (r .tells) (firstRow rows) .number < n) × (cond b (r .tells) (firstRow rows) .detail ≤ k)
+    by true rest = (all .0, all .1)
+    by false rest = rest
+
+-- a wrong byte stands in the message
+first-wrong : (at : ℕ) (s : List ℕ) → getD (wrongBytes at s) 0 0 ≤ at + length s
+unfolding wrongBytes
+first-wrong at [] = omega arith
+first-wrong at (x ∷ s) = by (allowed x) (first-wrong (suc at) s)
+  where
+    by : (b : Bool) → getD (wrongBytes (suc at) s) 0 0 ≤ suc at + length s → getD (cond b (wrongBytes (suc at) s) (at ∷ wrongBytes (suc at) s)) 0 0 ≤ at + suc (length s)
+    by true ih = omega arith
+    by false ih = omega arith
+
+-- a wrong segment starts in the message: what CRs cut is as long as the parts and their CRs
+unfoldable sized : List (List ℕ) → ℕ
+sized [] = 0
+sized (p ∷ ps) = length p + 1 + sized ps
+
+cut-sized : (d : ℕ) (s : List ℕ) → sized (cut d s) ≡ length s + 1
+unfolding cut ahead sized
+cut-sized d [] = refl
+cut-sized d (x ∷ s) = by (eqb x d) (cut d s) (cut-some d s) (cut-sized d s)
+  where
+    by : (b : Bool) (ps : List (List ℕ)) → ps ≡ getD ps 0 [] ∷ drop 1 ps → sized ps ≡ length s + 1 → sized (ahead b x ps) ≡ suc (length s) + 1
+    by true ps some ih = omega arith
+    by false ps some ih = let whole = ap sized some in omega arith
+
+first-broken : (d : Delims) (at : ℕ) (ps : List (List ℕ)) → getD (wrongSegments d at ps) 0 0 ≤ at + sized ps
+unfolding wrongSegments sized
+first-broken d at [] = omega arith
+first-broken d at (p ∷ []) = by (eqb (length p) 0)
+  where
+    by : (b : Bool) → getD (cond b [] (at ∷ [])) 0 0 ≤ at + (length p + 1 + 0)
+    by true = omega arith
+    by false = omega arith
+first-broken d at (p ∷ (q ∷ ps)) = by (hasForm d p) (first-broken d (at + length p + 1) (q ∷ ps))
+  where
+    rest : List ℕ
+    rest = wrongSegments d (at + length p + 1) (q ∷ ps)
+
+    by : (b : Bool) → getD rest 0 0 ≤ at + length p + 1 + sized (q ∷ ps) → getD (cond b rest (at ∷ rest)) 0 0 ≤ at + (length p + 1 + sized (q ∷ ps))
+    by true ih = omega arith
+    by false ih = omega arith
+
+-- so no answer about a message is larger than this
+pub reading-bounded : (m : List ℕ) → (firstRow (messageRows m) .number < 6) × (firstRow (messageRows m) .detail ≤ messageLimit + 1)
+unfolding messageRows formRows
+reading-bounded m = by (decLe (length m) messageLimit)
+  where
+    by : Dec (length m ≤ messageLimit) → (firstRow (messageRows m) .number < 6) × (firstRow (messageRows m) .detail ≤ messageLimit + 1)
+    by (yes short) =
+        bounded-first 6 (messageLimit + 1) (messageRows m) (omega arith)
+        (omega arith, omega arith, (omega arith, omega arith, (omega arith, omega (arith, first-wrong 0 m), (omega arith, omega arith, (omega arith, omega (arith, first-broken (delimsOf m) 0 (cut carriageReturn m), cut-sized carriageReturn m), tt)))))
+    by (no long) = rw (← message-long m (λ e. omega (arith, e)) (omega arith)) (omega arith, omega arith)

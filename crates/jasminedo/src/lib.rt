@@ -1,0 +1,61 @@
+// The calls for other languages, on numbers and byte slices alone: each answers one number.
+use ack::answer::answer;
+use ack::refusal::Answer;
+use ack::refusal::of_reading;
+use hl7::cut::Span;
+use hl7::locate::locate_span;
+use hl7::refusal::check;
+ghost use mathlib.Core.Path.{_≡_};
+ghost use Prim.Native.Nat.{_≤_, _^_};
+ghost use Rattle.hl7.specs.Refusals.{firstRow, messageRows, located};
+ghost use Rattle.ack.specs.Answers.{answerOf, paper};
+ghost use Rattle.jasminedo.specs.Packed.{packed, packedSpan, packedPlace};
+
+// The number in the low byte, the detail above.
+fn pack(answer: Answer) -> u64
+    requires { ⌜ answer .detail ≤ 2 ^ 48 ⌝ }
+    ensures { λ r. ⌜ r ≡ packed (paper answer) ⌝ }
+{
+    (answer.detail as u64) * 256 + (answer.number as u64)
+}
+
+// The length in the low two bytes, the start above.
+fn pack_span(span: Span) -> u64
+    requires { ⌜ (span .start ≤ span .end) × (span .end ≤ 32768) ⌝ }
+    ensures { λ r. ⌜ r ≡ packedSpan span ⌝ }
+{
+    (span.start as u64) * 65536 + ((span.end - span.start) as u64)
+}
+
+#[no_mangle]
+pub extern "C" fn jasminedo_answer(
+    message: &[u8],
+    book: &[u8],
+    stamp: &[u8],
+    control: u32,
+    output: &mut [u8],
+) -> u64
+    ensures { λ r. ⌜ (r ≡ packed (answerOf (now (message .entry)) (now (book .entry)) (now (stamp .entry)) control (now (output .entry)) .told)) × (now (output .exit) ≡ answerOf (now (message .entry)) (now (book .entry)) (now (stamp .entry)) control (now (output .entry)) .output) ⌝ }
+{
+    pack(answer(message, book, stamp, control, output))
+}
+
+#[no_mangle]
+pub extern "C" fn jasminedo_check(message: &[u8]) -> u64
+    ensures { λ r. ⌜ r ≡ packed (firstRow (messageRows (now (message .entry)))) ⌝ }
+{
+    pack(of_reading(check(message)))
+}
+
+#[no_mangle]
+pub extern "C" fn jasminedo_locate(
+    message: &[u8],
+    segment: usize,
+    field: usize,
+    repetition: usize,
+    component: usize,
+) -> u64
+    ensures { λ r. ⌜ r ≡ packedPlace (located (now (message .entry)) segment field repetition component) ⌝ }
+{
+    pack_span(locate_span(message, segment, field, repetition, component))
+}
