@@ -7,7 +7,7 @@ ghost use Rattle.hl7.specs.Bytes.{among};
 ghost use Rattle.grade.specs.Limits.{codeLimit, linkLimit, segmentCount, setLimit};
 ghost use Rattle.grade.specs.Reader.{isFound, itemsOf, times};
 ghost use Rattle.grade.specs.Book.{text, codeSet};
-ghost use Rattle.grade.specs.Standing.{endOf, rulesIn, noRule, Holds, SetStands, codesAt, SetsAt, Placed};
+ghost use Rattle.grade.specs.Standing.{endOf, rulesIn, noRule, Holds, SetStands, codesAt, NotedSets, Placed};
 ghost use Rattle.grade.specs.Linked.{Linked};
 ghost use Rattle.grade.specs.declared.walk.Next.{Next};
 use crate::limits::LINKS;
@@ -93,7 +93,7 @@ fn set_after(book: &[u8], at: usize) -> usize
 // Where each of count sets stands, the first at a position.
 fn note_sets(book: &[u8], at: usize, count: usize) -> [usize; SET_PLACES]
     requires { ⌜ (isFound (times count codeSet (now book) at) ≡ true) × (count ≤ setLimit) ⌝ }
-    ensures { λ r. ⌜ SetsAt (now (book .entry)) (itemsOf (times count codeSet (now (book .entry)) at)) count r ⌝ }
+    ensures { λ r. ⌜ NotedSets (now (book .entry)) at count r ⌝ }
 {
     let mut places = [0usize; SET_PLACES];
     let mut from = at;
