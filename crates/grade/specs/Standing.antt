@@ -113,6 +113,7 @@ pub record AdmitsBy (rows : List Row) (d : Delims) (msh b : List ℕ) (r : Admit
   pub toldIs : admittedTold r ≡ firstRow rows
   pub by : firstRow rows .number ≡ 0 → r ≡ By (siteIn b (keyOf d msh)) (headerOf d msh)
 
+-- a message and a book: rows 1 to 9
 abbrev pub Admits : (m b : List ℕ) → Admitted → Type 0
 Admits m b r = AdmitsBy (admitRows m b) (delimsOf m) (mshOf m) b r
 
