@@ -2,17 +2,18 @@
 use mathlib.Core.Path.{_≡_, refl, sym, ap, ap₂, _∙_}
 use mathlib.Core.Bool.{Bool, true, false, cond, _&&_}
 use mathlib.Core.List.{List, [], _∷_, _++_, map, flatMap, append-nil, append-assoc}
-use Prim.Native.Nat.{ℕ, zero, suc, _+_, _-_, _*_, _≤_}
-use native.Mathlib.Omega.{arith}
+use Prim.Native.Nat.{ℕ, _/_, _%_}
 use borrow.Author.Tests.{eq-eqb, ne-eqb, eqb-true}
 use Prim.Native.Char.{code}
 use lib.Dec.{eqb}
-use lib.ListN.{getD, take, drop, List·getD-map, drop-of-length-le}
+use lib.ListN.{getD, List·getD-map}
 use Rattle.hl7.specs.Text.{bytes}
+use Rattle.hl7.specs.Bytes.{same}
 use Rattle.hl7.specs.Place.{carriageReturn}
 use Rattle.hl7.specs.declared.place.Delims.{Delims}
-use Rattle.hl7.proofs.Comparing.{and-both}
-use Rattle.grade.specs.Rule.{segmentNames, nameBytes}
+use Rattle.hl7.proofs.Comparing.{and-both, same-equal}
+use Rattle.grade.proofs.Naming.{at-counted, no-name}
+use Rattle.grade.specs.Rule.{theEnd, counted, segmentNames, nameBytes, lettersOf}
 use Rattle.grade.specs.declared.finding.Finding.{Finding}
 use Rattle.ack.specs.Decimal.{decimal}
 use Rattle.ack.specs.Layout.{ownByte, own, marked, joined, copied, mshLine, verdict, msaLine, componentParts, valueParts, placeParts, codeText, errLine, ended, ackBytes}
@@ -23,22 +24,23 @@ pub own-at : (d : Delims) (text : List ℕ) (i : ℕ) → getD (own d text) i 0 
 unfolding ownByte
 own-at d text i = List·getD-map (ownByte d) text i 0
 
--- the names stand in one text, three bytes each
-pub names-at : (n : ℕ) → take 3 (drop (n * 3) (bytes "MSHPIDPD1NK1PV1ORCRXARXROBXNTE")) ≡ nameBytes n
-unfolding nameBytes segmentNames
-names-at zero = refl
-names-at (suc zero) = refl
-names-at (suc (suc zero)) = refl
-names-at (suc (suc (suc zero))) = refl
-names-at (suc (suc (suc (suc zero)))) = refl
-names-at (suc (suc (suc (suc (suc zero))))) = refl
-names-at (suc (suc (suc (suc (suc (suc zero)))))) = refl
-names-at (suc (suc (suc (suc (suc (suc (suc zero))))))) = refl
-names-at (suc (suc (suc (suc (suc (suc (suc (suc zero)))))))) = refl
-names-at (suc (suc (suc (suc (suc (suc (suc (suc (suc zero))))))))) = refl
-names-at (suc (suc (suc (suc (suc (suc (suc (suc (suc (suc n)))))))))) =
-    let past : 30 ≤ suc (suc (suc (suc (suc (suc (suc (suc (suc (suc n))))))))) * 3 = omega arith in
-    rw (drop-of-length-le (bytes "MSHPIDPD1NK1PV1ORCRXARXROBXNTE") past)
+-- a name, by its letters as one number
+abbrev pub spelt : ℕ → List ℕ
+spelt letters = letters / 65536 ∷ letters / 256 % 256 ∷ letters % 256 ∷ []
+
+pub name-spelt : (n : ℕ) → cond (eqb (lettersOf n) 0) [] (spelt (lettersOf n)) ≡ nameBytes n
+unfolding nameBytes segmentNames same
+name-spelt n = by (counted n) refl
+  where
+    by : (t : Bool) → counted n ≡ t → cond (eqb (lettersOf n) 0) [] (spelt (lettersOf n)) ≡ nameBytes n
+    by true e = same-equal _ _ (at-counted (λ (k : ℕ). same (cond (eqb (lettersOf k) 0) [] (spelt (lettersOf k))) (nameBytes k)) refl n e)
+    by false e = rw (no-name n e)
+
+pub name-none : (n : ℕ) {letters : ℕ} → letters ≡ lettersOf n → letters ≡ 0 → [] ≡ nameBytes n
+name-none n e none = rw (eq-eqb (lettersOf n) 0 (sym e ∙ none)) at (name-spelt n)
+
+pub name-some : (n : ℕ) {letters : ℕ} → letters ≡ lettersOf n → (letters ≡ 0 → ⊥) → spelt letters ≡ nameBytes n
+name-some n e some = ap spelt e ∙ (rw (ne-eqb (lettersOf n) 0 (λ none. some (e ∙ none))) at (name-spelt n))
 
 pub code-other : (n : ℕ) → (n ≡ 100 → ⊥) → (n ≡ 101 → ⊥) → (n ≡ 102 → ⊥) → (n ≡ 103 → ⊥) → (n ≡ 200 → ⊥) → (n ≡ 201 → ⊥) → (n ≡ 202 → ⊥) → (n ≡ 203 → ⊥) → codeText n ≡ []
 unfolding codeText
@@ -64,13 +66,13 @@ module _ (mark : ℕ) where
     unfolding marked valueParts
     value-some e = rw (ne-eqb (f .field) 0 e)
 
-    pub place-none : f .name ≡ 10 → [] ≡ joined mark (placeParts f)
+    pub place-none : f .name ≡ theEnd → [] ≡ joined mark (placeParts f)
     unfolding joined placeParts
-    place-none e = rw (eq-eqb (f .name) 10 e)
+    place-none e = rw (eq-eqb (f .name) theEnd e)
 
-    pub place-some : (f .name ≡ 10 → ⊥) → nameBytes (f .name) ++ ((mark ∷ decimal (f .ordinal)) ++ marked mark (valueParts f)) ≡ joined mark (placeParts f)
+    pub place-some : (f .name ≡ theEnd → ⊥) → nameBytes (f .name) ++ ((mark ∷ decimal (f .ordinal)) ++ marked mark (valueParts f)) ≡ joined mark (placeParts f)
     unfolding joined marked placeParts
-    place-some e = rw (ne-eqb (f .name) 10 e)
+    place-some e = rw (ne-eqb (f .name) theEnd e)
 
 -- ---- lines, as the code writes them
 -- each part with the mark in front, and the CR

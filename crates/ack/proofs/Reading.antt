@@ -4,7 +4,7 @@ use mathlib.Core.Path.{_≡_, refl, sym, ap, subst, _∙_}
 use mathlib.Core.Bool.{Bool, true, false, cond, not, _&&_, _||_, true≢false}
 use mathlib.Core.Logic.{_↔_}
 use mathlib.Core.List.{List, [], _∷_, _++_, map, flatMap, append-assoc}
-use Prim.Native.Nat.{ℕ, zero, suc, _+_, _*_, _/_, _%_}
+use Prim.Native.Nat.{ℕ, zero, suc, _+_, _/_, _%_}
 use Prim.Native.Char.{code}
 use native.Mathlib.Omega.{arith}
 use lib.Dec.{eqb, ltb}
@@ -17,11 +17,11 @@ use Rattle.hl7.specs.Place.{carriageReturn, segmentsOf, nthOf, cutUnless, partO
 use Rattle.hl7.specs.declared.place.Delims.{Delims}
 use Rattle.hl7.proofs.Comparing.{and-both, all-append, all-take, all-drop}
 use Rattle.hl7.proofs.Cutting.{cut-delimiter, cut-other, piece-stands}
-use Rattle.grade.specs.Rule.{nameBytes}
+use Rattle.grade.specs.Rule.{theEnd, counted, segmentNames, nameBytes}
 use Rattle.grade.specs.declared.finding.Finding.{Finding}
 use Rattle.ack.specs.Decimal.{digit, lastDigits, decimal}
 use Rattle.ack.specs.Layout.{ownByte, own, marked, joined, copied, mshLine, has, isHeader, isFault, letter, verdict, msaLine, componentParts, valueParts, placeParts, codeText, errLine, ended, ackLines, ackBytes}
-use Rattle.ack.proofs.Lines.{names-at}
+use Rattle.grade.proofs.Naming.{at-counted, no-name}
 
 -- ---- parts that hold no mark
 -- x is not the mark
@@ -140,8 +140,12 @@ decimal-clean n = of 20 n
         (all-append (isNot carriageReturn) (lastDigits k (n / 10)) (digit (n % 10) ∷ []) (of k (n / 10)) (digit-clean (n % 10)))
 
 name-clean : (n : ℕ) → clean (nameBytes n)
-unfolding all
-name-clean n = subst clean (names-at n) (part-clean 3 (n * 3) (bytes "MSHPIDPD1NK1PV1ORCRXARXROBXNTE") refl)
+unfolding all nameBytes segmentNames
+name-clean n = by (counted n) refl
+  where
+    by : (t : Bool) → counted n ≡ t → clean (nameBytes n)
+    by true e = at-counted (λ (k : ℕ). all (isNot carriageReturn) (nameBytes k)) refl n e
+    by false e = rw (no-name n e)
 
 -- a field is a part of its segment
 copied-clean : (d : Delims) (msh : List ℕ) (k : ℕ) → clean msh → clean (copied d msh k)
@@ -234,7 +238,7 @@ module _ (d : Delims) (fine : Fine d) where
   place-clean : (f : Finding) → Each clean (placeParts f)
   unfolding placeParts valueParts componentParts
   place-clean f =
-      each-cond (eqb (f .name) 10) _
+      each-cond (eqb (f .name) theEnd) _
       (name-clean (f .name)
       also decimal-clean (f .ordinal)
       also each-cond (eqb (f .field) 0) _

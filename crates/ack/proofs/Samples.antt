@@ -7,22 +7,22 @@ use Rattle.hl7.specs.Text.{bytes}
 use Rattle.hl7.specs.Bytes.{begins}
 use Rattle.hl7.specs.Cut.{cut, ahead, startAt}
 use Rattle.hl7.specs.Place.{standardDelims, partOfField}
-use Rattle.grade.specs.Rule.{segmentNames, nameBytes}
+use Rattle.grade.specs.Rule.{theEnd, pid, orc, segmentNames, nameBytes}
 use Rattle.grade.specs.declared.finding.Finding.{Finding}
 use Rattle.ack.specs.Decimal.{decimal, lastDigits}
 use Rattle.ack.specs.Layout.{ownByte, marked, joined, copied, mshLine, msaLine, has, componentParts, valueParts, placeParts, codeText, errLine, ackBytes}
 
 birth : Finding
-birth = record { name = 1; ordinal = 1; field = 7; repetition = 1; component = 1; rule = 1; code = 102; severity = code "E" }
+birth = record { name = pid; ordinal = 1; field = 7; repetition = 1; component = 1; rule = 1; code = 102; severity = code "E" }
 
 sex : Finding
-sex = record { name = 1; ordinal = 1; field = 8; repetition = 1; component = 0; rule = 3; code = 101; severity = code "W" }
+sex = record { name = pid; ordinal = 1; field = 8; repetition = 1; component = 0; rule = 3; code = 101; severity = code "W" }
 
 order : Finding
-order = record { name = 5; ordinal = 2; field = 0; repetition = 0; component = 0; rule = 0; code = 100; severity = code "E" }
+order = record { name = orc; ordinal = 2; field = 0; repetition = 0; component = 0; rule = 0; code = 100; severity = code "E" }
 
 end : Finding
-end = record { name = 10; ordinal = 0; field = 0; repetition = 0; component = 0; rule = 0; code = 100; severity = code "E" }
+end = record { name = theEnd; ordinal = 0; field = 0; repetition = 0; component = 0; rule = 0; code = 100; severity = code "E" }
 
 msh : List ℕ
 msh = bytes "MSH|^~\\&|CAB|C1|REG|AX|20250113115900+0000||VXU^V04^VXU_V04|M1|P|2.5.1"

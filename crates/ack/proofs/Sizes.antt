@@ -1,8 +1,8 @@
 -- How long the parts of an ACK are, in the words of the code that counts, and how long an ACK is at most. Assumes nothing.
-use mathlib.Core.Path.{_≡_, refl, sym, ap, subst, _∙_}
+use mathlib.Core.Path.{_≡_, refl, ap, subst}
 use mathlib.Core.Bool.{Bool, true, false, cond}
 use mathlib.Core.List.{List, [], _∷_, flatMap}
-use Prim.Native.Nat.{ℕ, zero, suc, _+_, _-_, _*_, _^_, _≤_, _<_, min}
+use Prim.Native.Nat.{ℕ, zero, suc, _+_, _-_, _*_, _^_, _≤_, _<_}
 use native.Mathlib.Omega.{arith}
 use lib.ListN.{length, take, drop, length-append, length-map, length-take, length-drop}
 use lib.Dec.{eqb, lit≤}
@@ -11,14 +11,14 @@ use Rattle.hl7.specs.Cut.{cut, pieceAt}
 use Rattle.hl7.specs.Place.{isMsh, partOfField}
 use Rattle.hl7.specs.declared.place.Delims.{Delims}
 use Rattle.hl7.proofs.Cutting.{piece-stands}
-use Rattle.grade.specs.Rule.{nameBytes}
+use Rattle.grade.specs.Rule.{theEnd, nameBytes, lettersOf}
 use Rattle.grade.specs.declared.finding.Finding.{Finding}
 use Rattle.ack.specs.Splice.{limit}
 use Rattle.ack.specs.Decimal.{decimal}
 use Rattle.ack.specs.Layout.{ownByte, marked, joined, copied, mshLine, verdict, msaLine, componentParts, valueParts, placeParts, codeText, errLine, ended, ackBytes}
 use Rattle.ack.specs.Pieces.{heading, errs}
 use Rattle.ack.proofs.Decimals.{decimal-short}
-use Rattle.ack.proofs.Lines.{names-at, component-some, ack-is}
+use Rattle.ack.proofs.Lines.{spelt, name-spelt, component-some, ack-is}
 
 -- ---- parts and marks
 marked-size : (mark : ℕ) (p : List ℕ) (ps : List (List ℕ)) → length (marked mark (p ∷ ps)) ≡ 1 + length p + length (marked mark ps)
@@ -50,14 +50,18 @@ unfolding valueParts
 value-size f some d first e second third mark =
     rw (ne-eqb (f .field) 0 some, marked-size, marked-size) (omega (arith, third mark, decimal-as d, decimal-as e))
 
-pub place-size : (f : Finding) {a v b k : ℕ} → (f .name ≡ 10 → ⊥) → a ≡ length (nameBytes (f .name)) → v ≡ f .ordinal → b ≡ length (decimal v)
+pub place-size : (f : Finding) {a v b k : ℕ} → (f .name ≡ theEnd → ⊥) → a ≡ length (nameBytes (f .name)) → v ≡ f .ordinal → b ≡ length (decimal v)
     → ((mark : ℕ) → k ≡ length (marked mark (valueParts f))) → (mark : ℕ) → 1 + a + b + k ≡ length (joined mark (placeParts f))
 unfolding placeParts
 place-size f some first e second third mark =
-    rw (ne-eqb (f .name) 10 some, joined-size, marked-size) (omega (arith, third mark, decimal-as e))
+    rw (ne-eqb (f .name) theEnd some, joined-size, marked-size) (omega (arith, third mark, decimal-as e))
 
-pub name-size : (n : ℕ) → length (nameBytes n) ≡ min 3 (30 - n * 3)
-name-size n = rw (← names-at n, length-take, length-drop)
+name-short : (n : ℕ) → length (nameBytes n) ≤ 3
+name-short n = subst (λ (name : List ℕ). length name ≤ 3) (name-spelt n) (by (eqb (lettersOf n) 0))
+  where
+    by : (t : Bool) → length (cond t [] (spelt (lettersOf n))) ≤ 3
+    by true = lit≤ tt
+    by false = lit≤ tt
 
 err-whole : (d : Delims) (f : Finding) → length (ended (errLine d f)) ≡ 13 + length (joined (d .caret) (placeParts f)) + length (codeText (f .code)) + length (decimal (f .rule))
 unfolding errLine
@@ -142,11 +146,11 @@ value-short mark f =
 
 place-short : (mark : ℕ) (f : Finding) → length (joined mark (placeParts f)) ≤ 87
 unfolding placeParts
-place-short mark f = of (eqb (f .name) 10)
+place-short mark f = of (eqb (f .name) theEnd)
   where
     of : (b : Bool) → length (joined mark (cond b [] (nameBytes (f .name) ∷ decimal (f .ordinal) ∷ valueParts f))) ≤ 87
     of true = omega (arith, joined-empty mark)
-    of false = rw (joined-size, marked-size) (omega (arith, name-size (f .name), decimal-short (f .ordinal), value-short mark f))
+    of false = rw (joined-size, marked-size) (omega (arith, name-short (f .name), decimal-short (f .ordinal), value-short mark f))
 
 err-short : (d : Delims) (f : Finding) → length (ended (errLine d f)) ≤ 160
 err-short d f = omega (arith, err-whole d f, place-short (d .caret) f, code-short (f .code), decimal-short (f .rule))

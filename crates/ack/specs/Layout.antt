@@ -8,7 +8,7 @@ use Rattle.hl7.specs.Text.{bytes}
 use Rattle.hl7.specs.Bytes.{within}
 use Rattle.hl7.specs.Place.{carriageReturn, fieldOf}
 use Rattle.hl7.specs.declared.place.Delims.{Delims}
-use Rattle.grade.specs.Rule.{nameBytes, endNumber}
+use Rattle.grade.specs.Rule.{theEnd, nameBytes}
 use Rattle.grade.specs.declared.finding.Finding.{Finding}
 use Rattle.ack.specs.Decimal.{decimal}
 
@@ -82,7 +82,7 @@ unfoldable pub valueParts : Finding → List (List ℕ)
 valueParts f = cond (eqb (f .field) 0) [] (decimal (f .field) ∷ decimal (f .repetition) ∷ componentParts (f .component))
 
 unfoldable pub placeParts : Finding → List (List ℕ)
-placeParts f = cond (eqb (f .name) endNumber) [] (nameBytes (f .name) ∷ decimal (f .ordinal) ∷ valueParts f)
+placeParts f = cond (eqb (f .name) theEnd) [] (nameBytes (f .name) ∷ decimal (f .ordinal) ∷ valueParts f)
 
 -- ERR-3: the error code, its text and the table's number
 unfoldable pub codeText : ℕ → List ℕ

@@ -6,6 +6,7 @@ use crate::output::put;
 use grade::finding::Finding;
 use grade::header::Header;
 use grade::limits::LINKS;
+use grade::limits::NAME_PLACES;
 use grade::limits::SET_PLACES;
 use grade::order::FOLLOW;
 use grade::step::Step;
@@ -19,7 +20,7 @@ ghost use lib.ListN.{length, replicate};
 ghost use Rattle.hl7.specs.Place.{delimsOf};
 ghost use Rattle.hl7.specs.Refusals.{messageLimit};
 ghost use Rattle.grade.specs.Header.{headerFinding, onlyIf, headerFindings};
-ghost use Rattle.grade.specs.Limits.{fieldPlaces};
+ghost use Rattle.grade.specs.Limits.{fieldPlaces, namePlaces};
 ghost use Rattle.grade.specs.Rule.{otherNumber};
 ghost use Rattle.grade.specs.Linked.{Linked};
 ghost use Rattle.grade.specs.Order.{mayFollow, outOfOrder, tableSays};
@@ -67,9 +68,9 @@ fn put_errs_by(
     starts: &mut [usize],
 ) -> Put
     requires { ⌜ (from ≤ limit) × (length (now m) ≤ messageLimit) × Holds (now book) section × Placed (now book) section (now sets) × Linked (rulesIn (now book) section) (now links) × (fieldPlaces ≤ length (now starts)) ⌝ }
-    ensures { λ r. ⌜ Puts d (gradeFrom (outOfOrder (tableSays (now (table .entry)))) d (now (m .entry)) (now (book .entry)) section 0 otherNumber (replicate 10 0)) (now (out .entry)) from (now (out .exit)) r ⌝ }
+    ensures { λ r. ⌜ Puts d (gradeFrom (outOfOrder (tableSays (now (table .entry)))) d (now (m .entry)) (now (book .entry)) section 0 otherNumber (replicate namePlaces 0)) (now (out .entry)) from (now (out .exit)) r ⌝ }
 {
-    let mut counts = [0u32; 10];
+    let mut counts = [0u32; NAME_PLACES];
     let mut cursor = start(section);
     let mut to = from;
     let mut fault = false;
@@ -121,7 +122,7 @@ fn header_finding(code: u16, field: u8, component: u8) -> Finding
     ensures { λ r. ⌜ r ≡ headerFinding code field component ⌝ }
 {
     Finding {
-        name: 0,
+        name: 1,
         ordinal: 1,
         field,
         repetition: 1,

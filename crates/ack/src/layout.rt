@@ -6,8 +6,7 @@ use crate::output::put_byte;
 use crate::output::put_field;
 use crate::output::put_number;
 use grade::finding::Finding;
-use hl7::bytes::after;
-use hl7::bytes::front;
+use grade::rule::letters_of;
 use hl7::bytes::wide;
 use hl7::bytes::wide16;
 use hl7::bytes::wide32;
@@ -84,8 +83,16 @@ fn put_own(out: &mut [u8], at: usize, d: Delims, text: &[u8]) -> usize
 fn put_name(out: &mut [u8], at: usize, name: u8) -> usize
     ensures { λ r. ⌜ Wrote (now (out .entry)) at (nameBytes name) (now (out .exit)) r ⌝ }
 {
-    let names = b"MSHPIDPD1NK1PV1ORCRXARXROBXNTE";
-    put(out, at, front(after(names, wide(name) * 3), 3))
+    let letters = letters_of(name);
+    if letters == 0 {
+        return put(out, at, b"");
+    }
+    let text = [
+        (letters / 65536) as u8,
+        (letters / 256 % 256) as u8,
+        (letters % 256) as u8,
+    ];
+    put(out, at, &text)
 }
 
 // ERR-2's component, where it is not 0.
@@ -114,7 +121,7 @@ fn put_value(out: &mut [u8], at: usize, caret: u8, finding: Finding) -> usize
 fn put_place(out: &mut [u8], at: usize, caret: u8, finding: Finding) -> usize
     ensures { λ r. ⌜ Wrote (now (out .entry)) at (joined caret (placeParts finding)) (now (out .exit)) r ⌝ }
 {
-    if finding.name == 10 {
+    if finding.name == 0 {
         return put(out, at, b"");
     }
     let a = put_name(out, at, finding.name);

@@ -1,6 +1,7 @@
 // How long an ACK's segments are, by their numbers alone: the worst message has millions of findings.
 use crate::output::decimal_length;
 use grade::finding::Finding;
+use grade::rule::letters_of;
 use hl7::bytes::wide;
 use hl7::bytes::wide16;
 use hl7::bytes::wide32;
@@ -75,14 +76,14 @@ fn value_length(finding: Finding) -> usize
 fn name_length(name: u8) -> usize
     ensures { λ r. ⌜ (r ≡ length (nameBytes name)) × (r ≤ 3) ⌝ }
 {
-    if name < 10 { 3 } else { 0 }
+    if letters_of(name) == 0 { 0 } else { 3 }
 }
 
 // How long ERR-2 is.
 fn place_length(finding: Finding) -> usize
     ensures { λ r. ⌜ ((mark : ℕ) → r ≡ length (joined mark (placeParts finding))) × (r ≤ 87) ⌝ }
 {
-    if finding.name == 10 {
+    if finding.name == 0 {
         return 0;
     }
     1 + name_length(finding.name) + decimal_length(wide32(finding.ordinal)) + value_length(finding)

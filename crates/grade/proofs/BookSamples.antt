@@ -12,7 +12,7 @@ use Rattle.hl7.specs.Bytes.{all, same, among, begins}
 use Rattle.hl7.specs.Refusals.{firstRow}
 use Rattle.grade.specs.declared.rule.Severity.{Severity}
 use Rattle.grade.specs.declared.rule.Kind.{Kind}
-use Rattle.grade.specs.Rule.{segmentNames, numberFrom, nameOfLetters, placeFits, severityOf, kindOf, ruleOf}
+use Rattle.grade.specs.Rule.{pid, segmentNames, numberFrom, nameOfLetters, placeFits, severityOf, kindOf, ruleOf}
 use Rattle.grade.specs.Reader.{times}
 use Rattle.grade.specs.Book.{text, codeSet, ruleIn, section, distinct, sections, headRight, decoded, malformed, otherVersion, noSection}
 use Rattle.grade.specs.Admission.{bookRows}
@@ -96,9 +96,9 @@ example-says :
     ≡ record {
       key = bytes "AX";
       rules =
-          record { place = record { segment = 1; field = 7; component = 1 }; severity = Severity.Error; kind = Kind.Date }
-          ∷ record { place = record { segment = 1; field = 3; component = 1 }; severity = Severity.Error; kind = Kind.Required }
-          ∷ record { place = record { segment = 1; field = 8; component = 0 }; severity = Severity.Warning; kind = Kind.Required }
+          record { place = record { segment = pid; field = 7; component = 1 }; severity = Severity.Error; kind = Kind.Date }
+          ∷ record { place = record { segment = pid; field = 3; component = 1 }; severity = Severity.Error; kind = Kind.Required }
+          ∷ record { place = record { segment = pid; field = 8; component = 0 }; severity = Severity.Warning; kind = Kind.Required }
           ∷ [];
       sets = [];
     }

@@ -1,25 +1,26 @@
 -- The walk over the segments, which carries counts and the last name along, gives the findings by place. Assumes nothing.
-use Prim.Native.Nat.{ℕ, zero, suc, _+_, _≤_, _<_}
+use Prim.Native.Nat.{ℕ, zero, suc, _+_, _<_}
 use mathlib.Core.Path.{_≡_, refl, sym, ap, ap₂, _∙_}
 use mathlib.Core.Bool.{Bool, true, false, cond, _&&_}
 use mathlib.Core.List.{List, [], _∷_, _++_, map, append-assoc, append-nil}
 use native.Mathlib.Decide.{ℕ-discrete}
 use native.Mathlib.Omega.{arith}
-use borrow.Author.Tests.{lt-ltb, eq-eqb, ne-eqb, ltb-true, ltb-false}
+use borrow.Author.Tests.{eq-eqb, ne-eqb}
 use lib.Dec.{eqb}
 use lib.ListN.{length, getD, set, replicate, length-set, length-map, List·getD-eq-default}
 use lib.Seq.{getD-set-same, getD-set-other}
-use Rattle.hl7.specs.Bytes.{same}
 use Rattle.hl7.specs.Place.{delimsOf, segmentsOf}
 use Rattle.grade.specs.Strict.{keep, countFrom, pairsFrom}
-use Rattle.grade.specs.Rule.{nameOfLetters, segmentNames, numberFrom, otherNumber}
+use Rattle.grade.specs.Limits.{namePlaces}
+use Rattle.grade.specs.Rule.{theEnd, counted, otherNumber}
 use Rattle.grade.specs.Standing.{noRule}
-use Rattle.grade.specs.Order.{nameOf, nameAt, nameBefore, earlier, counted, theEnd, outOfOrder}
+use Rattle.grade.specs.Order.{nameOf, nameAt, nameBefore, earlier, outOfOrder}
 use Rattle.grade.specs.Broken.{breaksRule}
 use Rattle.grade.specs.Findings.{isAbout, ruleNumbered, segmentAt, named, valuesAt, orderBroken, ordinalAt, findingAt, findingOf, breaksAt, breaks, turns, findings}
 use Rattle.grade.specs.Rest.{brokenValues, valueFinding, ofRule, ofRules, orderFinding, ofOrder, gradeSegments}
 use Rattle.grade.specs.declared.rule.Rule.{Rule}
 use Rattle.grade.specs.declared.finding.Finding.{Finding}
+use Rattle.grade.proofs.Naming.{counted-bounds, uncounted}
 
 -- ---- a list that is a function's values from n on
 module _ {A : Type 0} (none : A) (f : ℕ → A) where
@@ -95,20 +96,6 @@ name-at (x ∷ s) (suc n) h = name-at s n (omega arith)
 name-at-end : (s : List (List ℕ)) (n : ℕ) → n ≡ length s → nameAt s n ≡ theEnd
 name-at-end s n e = List·getD-eq-default (map nameOf s) theEnd (omega (arith, length-map s nameOf))
 
--- a name that is none of the texts, which count from n, has the number of any other
-other-from : (name : List ℕ) (texts : List (List ℕ)) (n : ℕ) → n + length texts ≤ 10 → counted (numberFrom n name texts) ≡ false → numberFrom n name texts ≡ otherNumber
-unfolding numberFrom
-other-from name [] n h e = refl
-other-from name (text ∷ texts) n h e = by (same name text) (other-from name texts (suc n) (omega arith)) e
-  where
-    by : (b : Bool) → (counted (numberFrom (suc n) name texts) ≡ false → numberFrom (suc n) name texts ≡ otherNumber) → counted (cond b n (numberFrom (suc n) name texts)) ≡ false → cond b n (numberFrom (suc n) name texts) ≡ otherNumber
-    by true ih e = absurd (omega (arith, ltb-false n 10 e))
-    by false ih e = ih e
-
-uncounted-name : (segment : List ℕ) → counted (nameOf segment) ≡ false → nameOf segment ≡ otherNumber
-unfolding nameOfLetters segmentNames
-uncounted-name segment e = other-from _ segmentNames 0 (omega arith) e
-
 module _ (o : ℕ → ℕ → Bool) (c : List Rule) (t : List (List (List ℕ))) (m : List ℕ) where
   abbrev s : List (List ℕ)
   s = segmentsOf m
@@ -163,20 +150,20 @@ module _ (o : ℕ → ℕ → Bool) (c : List Rule) (t : List (List (List ℕ)))
   -- what the walk carries along is what stands before place n
   record Carried (n last : ℕ) (counts : List ℕ) : Type 0 where
     before : last ≡ nameBefore s n
-    many : length counts ≡ 10
-    each : (k : ℕ) → k < 10 → getD counts k 0 ≡ earlier s k n
+    many : length counts ≡ namePlaces
+    each : (k : ℕ) → k < namePlaces → getD counts k 0 ≡ earlier s k n
 
   -- one place after a counted segment, and after another
-  carried-on : (n last name : ℕ) (counts : List ℕ) → nameAt s n ≡ name → name < 10 → Carried n last counts → Carried (suc n) name (set counts name (suc (getD counts name 0)))
+  carried-on : (n last name : ℕ) (counts : List ℕ) → nameAt s n ≡ name → counted name ≡ true → Carried n last counts → Carried (suc n) name (set counts name (suc (getD counts name 0)))
   unfolding nameBefore earlier
   carried-on n last name counts e h old = record {
-    before = sym (rw (e, lt-ltb name 10 h));
+    before = sym (rw (e, h));
     many = length-set counts name _ ∙ old .many;
     each = λ k small. rw e (by k small (ℕ-discrete k name));
   }
     where
-      by : (k : ℕ) → k < 10 → Dec (k ≡ name) → getD (set counts name (suc (getD counts name 0))) k 0 ≡ cond (eqb name k) (suc (earlier s k n)) (earlier s k n)
-      by k small (yes p) = rw (eq-eqb name k (sym p), p) (getD-set-same counts name _ 0 (omega (arith, old .many)) ∙ ap suc (old .each name h))
+      by : (k : ℕ) → k < namePlaces → Dec (k ≡ name) → getD (set counts name (suc (getD counts name 0))) k 0 ≡ cond (eqb name k) (suc (earlier s k n)) (earlier s k n)
+      by k small (yes p) = rw (eq-eqb name k (sym p), p) (getD-set-same counts name _ 0 (omega (arith, old .many, counted-bounds name h)) ∙ ap suc (old .each name (omega (arith, counted-bounds name h))))
       by k small (no p) = rw (ne-eqb name k (λ q. p (sym q))) (getD-set-other counts name k _ 0 p ∙ old .each k small)
 
   carried-over : (n last : ℕ) (counts : List ℕ) → nameAt s n ≡ otherNumber → Carried n last counts → Carried (suc n) last counts
@@ -245,13 +232,13 @@ module _ (o : ℕ → ℕ → Bool) (c : List Rule) (t : List (List (List ℕ)))
       ordinal = suc (getD counts name 0)
 
       other : counted name ≡ false → name ≡ otherNumber
-      other = uncounted-name segment
+      other = uncounted _ _ _
 
       by : (b : Bool) → counted name ≡ b → ((last′ : ℕ) (counts′ : List ℕ) → suc n + length segments ≡ length s → Agrees [] (segmentAt o c t m) segments (suc n) → Carried (suc n) last′ counts′ → walked counts′ last′ segments ≡ laterPlaces (suc n) (suc (length segments))) → cond b (ofOrder (outOfOrder o) last name ordinal ++ (rulesAt name ordinal segment 0 c ++ walked (set counts name ordinal) name segments)) (walked counts last segments) ≡ laterPlaces n (suc (suc (length segments)))
       by true e ih =
-          ap (λ (l : List Finding). ofOrder (outOfOrder o) last name ordinal ++ (rulesAt name ordinal segment 0 c ++ l)) (ih name (set counts name ordinal) (omega arith) later (carried-on n last name counts (sym is-named) (ltb-true name 10 e) old))
+          ap (λ (l : List Finding). ofOrder (outOfOrder o) last name ordinal ++ (rulesAt name ordinal segment 0 c ++ l)) (ih name (set counts name ordinal) (omega arith) later (carried-on n last name counts (sym is-named) e old))
           ∙ sym (append-assoc (ofOrder (outOfOrder o) last name ordinal) (rulesAt name ordinal segment 0 c) (laterPlaces (suc n) (suc (length segments))))
-          ∙ place-found n (suc (length segments)) last name ordinal segment (old .before) is-named (number-at n name ordinal is-named e (ap suc (old .each name (ltb-true name 10 e)))) here-is
+          ∙ place-found n (suc (length segments)) last name ordinal segment (old .before) is-named (number-at n name ordinal is-named e (ap suc (old .each name (omega (arith, counted-bounds name e))))) here-is
       by false e ih =
           ih last counts (omega arith) later (carried-over n last counts (sym is-named ∙ other e) old)
           ∙ ap (λ (l : List Finding). l ++ laterPlaces (suc n) (suc (length segments))) (sym (ap (λ (k : ℕ). ofPlace last k 0 segment) (other e) ∙ quiet last segment))
@@ -263,6 +250,6 @@ zeros zero k = refl
 zeros (suc n) zero = refl
 zeros (suc n) (suc k) = zeros n k
 
-pub walk-all : (o : ℕ → ℕ → Bool) (c : List Rule) (t : List (List (List ℕ))) (m : List ℕ) → gradeSegments (outOfOrder o) (delimsOf m) c t (replicate 10 0) otherNumber (segmentsOf m) ≡ findings o c t m
+pub walk-all : (o : ℕ → ℕ → Bool) (c : List Rule) (t : List (List (List ℕ))) (m : List ℕ) → gradeSegments (outOfOrder o) (delimsOf m) c t (replicate namePlaces 0) otherNumber (segmentsOf m) ≡ findings o c t m
 unfolding findings nameBefore earlier
-walk-all o c t m = walk-found o c t m (segmentsOf m) 0 otherNumber _ (omega arith) (agrees-all [] (segmentAt o c t m) (segmentsOf m) (λ k. refl)) (record { before = refl; many = refl; each = λ k h. zeros 10 k })
+walk-all o c t m = walk-found o c t m (segmentsOf m) 0 otherNumber _ (omega arith) (agrees-all [] (segmentAt o c t m) (segmentsOf m) (λ k. refl)) (record { before = refl; many = refl; each = λ k h. zeros namePlaces k })

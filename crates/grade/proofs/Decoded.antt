@@ -10,19 +10,19 @@ use borrow.Author.Tests.{le-leb, eq-eqb, leb-true}
 use lib.ListN.{length, getD, drop, length-drop, length-append}
 use lib.Seq.{slice, drop-drop, take-append-seam, drop-append-seam}
 use Rattle.hl7.specs.Bytes.{within, all, same, begins}
-use Rattle.hl7.proofs.Comparing.{and-both, part-slice, drop-head, same-equal, upto-at}
+use Rattle.hl7.proofs.Comparing.{and-both, part-slice, drop-head, same-equal}
 use Rattle.grade.specs.declared.rule.Severity.{Severity}
 use Rattle.grade.specs.declared.rule.Kind.{Kind}
 use Rattle.grade.specs.declared.rule.Rule.{Rule}
 use Rattle.grade.specs.declared.rule.SeverityRead.{SeverityRead}
 use Rattle.grade.specs.declared.rule.KindRead.{KindRead}
 use Rattle.grade.specs.declared.rule.RuleRead.{RuleRead}
-use Rattle.grade.specs.Limits.{headSize, bookLimit, bookVersion, sectionLimit, keyLimit, ruleLimit, ruleSize, setLimit, codeLimit, codeCountLimit, segmentCount}
+use Rattle.grade.specs.Limits.{headSize, bookLimit, bookVersion, sectionLimit, keyLimit, ruleLimit, ruleSize, setLimit, codeLimit, codeCountLimit}
 use Rattle.grade.specs.Reader.{found, itemsOf, Reader, run, twoBytes, byte, times}
-use Rattle.grade.specs.Rule.{segmentNames, nameBytes, nameOfLetters, severityOf, kindOf, kindFits, placeFits, ruleOf, ruleFits}
+use Rattle.grade.specs.Rule.{counted, segmentNames, nameBytes, nameOfLetters, severityOf, kindOf, kindFits, placeFits, ruleOf, ruleFits}
 use Rattle.grade.specs.Book.{plain, text, codeSet, ruleIn, Contents, section, sections, distinct, keys, headRight, version, malformed, otherVersion, decoded}
 use Rattle.grade.specs.Encoding.{twoBytesOf, spellAll, textBytes, setBytes, severityByte, kindByte, lastBytes, ruleBytes, sectionBytes, bookBytes, each, textFits, setFits, sectionFits, wellFormed}
-use Rattle.grade.proofs.Naming.{letters-name}
+use Rattle.grade.proofs.Naming.{at-counted, letters-name}
 use Rattle.grade.proofs.Holding.{place-limits}
 
 module _ (b : List ℕ) where
@@ -95,9 +95,9 @@ abbrev threeAt : ℕ → Bool
 threeAt n = same (nameBytes n) (getD (nameBytes n) 0 0 ∷ getD (nameBytes n) 1 0 ∷ getD (nameBytes n) 2 0 ∷ [])
 
 -- a name has three letters
-three : (n : ℕ) → n < segmentCount → nameBytes n ≡ getD (nameBytes n) 0 0 ∷ getD (nameBytes n) 1 0 ∷ getD (nameBytes n) 2 0 ∷ []
+three : (n : ℕ) → counted n ≡ true → nameBytes n ≡ getD (nameBytes n) 0 0 ∷ getD (nameBytes n) 1 0 ∷ getD (nameBytes n) 2 0 ∷ []
 unfolding nameBytes segmentNames same
-three n h = same-equal _ _ (upto-at threeAt segmentCount n refl h)
+three n h = same-equal _ _ (at-counted threeAt refl n h)
 
 severity-back : (severity : Severity) → severityOf (severityByte severity) ≡ SeverityRead.Is severity
 unfolding severityOf

@@ -9,7 +9,8 @@ use native.Mathlib.Decide.{decLt}
 use lib.ListN.{length, getD, length-map, List·getD-eq-default}
 use lib.Dec.{T, eqb}
 use Rattle.hl7.specs.Place.{segmentsOf}
-use Rattle.grade.specs.Order.{counted, nameAt, nameOf, theEnd}
+use Rattle.grade.specs.Rule.{theEnd, counted}
+use Rattle.grade.specs.Order.{nameAt, nameOf}
 use Rattle.grade.specs.Broken.{breaksRule}
 use Rattle.grade.specs.Strict.{Increasing, keep}
 use Rattle.grade.specs.Findings.{isAbout, Event, orderAt, ruleAt, Earlier, Breaks, BreaksAt, Demand3, breaks, breaksAt, turns, places, findings, findingOf, named, valuesAt, ruleNumbered}

@@ -5,8 +5,8 @@ use mathlib.Core.Bool.{true, _&&_}
 use mathlib.Core.List.{List, [], _∷_, map}
 use native.Mathlib.Decide.{decLt}
 use native.Mathlib.Omega.{arith}
-use borrow.Author.Tests.{leb-true, ltb-true}
-use lib.Dec.{leb, ltb}
+use borrow.Author.Tests.{leb-true}
+use lib.Dec.{leb}
 use lib.ListN.{length, getD, take}
 use lib.Seq.{slice, getD-take, length-take-le, ext-getD}
 use Rattle.hl7.specs.Bytes.{within, all}
@@ -16,9 +16,9 @@ use Rattle.grade.specs.declared.rule.Kind.{Kind}
 use Rattle.grade.specs.declared.rule.Place.{Place}
 use Rattle.grade.specs.declared.rule.Rule.{Rule}
 use Rattle.grade.specs.declared.rule.RuleRead.{RuleRead}
-use Rattle.grade.specs.Limits.{ruleSize, segmentCount, fieldLimit, componentLimit}
+use Rattle.grade.specs.Limits.{ruleSize, fieldLimit, componentLimit}
 use Rattle.grade.specs.Reader.{found, isFound, itemsOf, times}
-use Rattle.grade.specs.Rule.{nameOfLetters, firstField, placeFits, kindFits, ruleOf, ruleFits}
+use Rattle.grade.specs.Rule.{counted, nameOfLetters, firstField, placeFits, kindFits, ruleOf, ruleFits}
 use Rattle.grade.specs.Book.{ruleIn, codeSet}
 use Rattle.grade.specs.Standing.{starting, rulesIn, setsIn, noRule, Holds, codesAt, SetAt, Placed}
 use Rattle.grade.proofs.Readings.{then-found, found-same, ended, row-at, row-length, starts-say, starts-stand}
@@ -97,7 +97,7 @@ sets-once b s {p} {q} v w = ext-getD 0 p q (v .sized ∙ sym (w .sized)) (λ k h
 
 -- what the limits say of a place
 pub record PlaceFits (p : Place) : Type 0 where
-  pub segment : p .segment < segmentCount
+  pub segment : counted (p .segment) ≡ true
   pub first : firstField (p .segment) ≤ p .field
   pub last : p .field ≤ fieldLimit
   pub component : p .component ≤ componentLimit
@@ -107,11 +107,11 @@ unfolding placeFits
 place-limits sets r h =
     let p = r .place in
     let w = and-both (placeFits p) (kindFits sets (r .kind)) h in
-    let u = and-both (ltb (p .segment) segmentCount && within (firstField (p .segment)) fieldLimit (p .field)) (leb (p .component) componentLimit) (w .0) in
-    let v = and-both (ltb (p .segment) segmentCount) (within (firstField (p .segment)) fieldLimit (p .field)) (u .0) in
+    let u = and-both (counted (p .segment) && within (firstField (p .segment)) fieldLimit (p .field)) (leb (p .component) componentLimit) (w .0) in
+    let v = and-both (counted (p .segment)) (within (firstField (p .segment)) fieldLimit (p .field)) (u .0) in
     let f = and-both (leb (firstField (p .segment)) (p .field)) (leb (p .field) fieldLimit) (v .1) in
     record {
-      segment = ltb-true (p .segment) segmentCount (v .0);
+      segment = v .0;
       first = leb-true (firstField (p .segment)) (p .field) (f .0);
       last = leb-true (p .field) fieldLimit (f .1);
       component = leb-true (p .component) componentLimit (u .1);

@@ -1,11 +1,10 @@
 -- Judging one segment: the codes of a rule, its values, and what a rule and the rules give. Assumes nothing.
 use Prim.Native.Nat.{ℕ, _+_, _-_, _≤_, _<_}
 use mathlib.Core.Path.{_≡_, refl, sym, ap, ap₂, subst, subst⁻¹, _∙_}
-use mathlib.Core.Bool.{Bool, true, false, not, _&&_, and-false}
+use mathlib.Core.Bool.{Bool, true, false, _&&_, and-false}
 use mathlib.Core.List.{List, [], _++_, map}
 use native.Mathlib.Numerals.{add-one}
-use native.Mathlib.Omega.{arith}
-use borrow.Author.Tests.{lt-ltb, eq-eqb, eqb-true}
+use borrow.Author.Tests.{eq-eqb, eqb-true}
 use lib.Dec.{eqb, leb}
 use lib.ListN.{length, getD, drop, drop-of-length-le}
 use lib.Seq.{drop-cons}
@@ -14,10 +13,8 @@ use Rattle.hl7.specs.Place.{isMsh, neverCut, fieldOf, cutUnless, repetitionsOf}
 use Rattle.hl7.specs.declared.place.Delims.{Delims}
 use Rattle.hl7.proofs.Walking.{parts-start}
 use Rattle.hl7.proofs.Placing.{cut-later}
-use Rattle.grade.specs.Limits.{segmentCount}
-use Rattle.grade.specs.Rule.{firstField, kindFits, ruleFits}
+use Rattle.grade.specs.Rule.{msh, counted, firstField, kindFits, ruleFits}
 use Rattle.grade.specs.Standing.{noRule, rulesIn, setsIn, SetStands, codesAt, SetAt}
-use Rattle.grade.specs.Order.{msh, counted}
 use Rattle.grade.specs.Broken.{judges, broken, codesOf, breaksRule}
 use Rattle.grade.specs.Findings.{valueIn, valuesOf}
 use Rattle.grade.specs.Rest.{CodesStand, CodesAre, breaksBy, brokenValues, brokenFrom, valueFinding, ofRule, ofRules, leftOf}
@@ -82,7 +79,7 @@ module _ (d : Delims) (b : List ℕ) (s : Section) (name ordinal : ℕ) (seg : L
   abbrev pub leftHere : Spot → List Finding
   leftHere spot = leftOf d (setsIn b s) name ordinal seg spot rule
 
-  module _ (counts : name < segmentCount) (fits : ruleFits (s .«set_count») rule ≡ true) (about : rule .place .segment ≡ name) (named : isMsh seg ≡ eqb name msh) where
+  module _ (counts : counted name ≡ true) (fits : ruleFits (s .«set_count») rule ≡ true) (about : rule .place .segment ≡ name) (named : isMsh seg ≡ eqb name msh) where
     values-cut : valuesOf d rule seg ≡ map (valueIn d false rule) (partsFrom (d .tilde) fieldHere 0)
     unfolding repetitionsOf cutUnless
     values-cut =
@@ -92,7 +89,7 @@ module _ (d : Delims) (b : List ℕ) (s : Section) (name ordinal : ℕ) (seg : L
 
     pub rule-whole : (i : ℕ) → ofRule d (setsIn b s) name ordinal seg (i + 1) rule ≡ leftHere (record { rule = i; at = 0; passed = 0; field = record { codes = 0; start = 0; end = 0 } })
     rule-whole i =
-        rw (lt-ltb name segmentCount counts, eq-eqb (rule .place .segment) name about)
+        rw (counts, eq-eqb (rule .place .segment) name about)
         (ap (λ (vs : List (List ℕ)). map (valueFinding name ordinal rule (i + 1)) (brokenValues (breaksRule (setsIn b s) rule) 0 vs)) values-cut)
 
   -- what it still gives, in the words of the code

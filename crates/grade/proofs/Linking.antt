@@ -10,7 +10,7 @@ use borrow.Author.Tests.{eq-eqb, ne-eqb}
 use lib.ListN.{length, getD, drop, set, replicate, getD-replicate, length-set, drop-of-length-le}
 use lib.Seq.{drop-cons, getD-set-same, getD-set-other, ext-getD}
 use Rattle.hl7.specs.declared.place.Delims.{Delims}
-use Rattle.grade.specs.Limits.{segmentCount, linkLimit}
+use Rattle.grade.specs.Limits.{namePlaces, linkLimit}
 use Rattle.grade.specs.Standing.{noRule, rulesIn}
 use Rattle.grade.specs.Linked.{nextAbout, Linked}
 use Rattle.grade.proofs.Judging.{rulesHere, other-rule, rules-next}
@@ -78,9 +78,9 @@ rules-skip d b s name number seg =
 -- ---- making the links, from the last rule to the first
 -- the rules from i on are linked
 pub record LinkedFrom (rules : List Rule) (i : ℕ) (links : List ℕ) : Type 0 where
-  pub first : (name : ℕ) → name < segmentCount → getD links name 0 ≡ nextAbout name i (drop i rules)
-  pub after : (j : ℕ) → i ≤ j → j < length rules → getD links (segmentCount + j) 0 ≡ nextAbout (segmentOfRule rules j) (j + 1) (drop (j + 1) rules)
-  pub past : (k : ℕ) → segmentCount + length rules ≤ k → k < linkLimit → getD links k 0 ≡ length rules
+  pub first : (name : ℕ) → name < namePlaces → getD links name 0 ≡ nextAbout name i (drop i rules)
+  pub after : (j : ℕ) → i ≤ j → j < length rules → getD links (namePlaces + j) 0 ≡ nextAbout (segmentOfRule rules j) (j + 1) (drop (j + 1) rules)
+  pub past : (k : ℕ) → namePlaces + length rules ≤ k → k < linkLimit → getD links k 0 ≡ length rules
 
 pub linked-none : (rules : List Rule) (n : ℕ) → n ≡ length rules → LinkedFrom rules n (replicate linkLimit n)
 linked-none rules n e = record {
@@ -95,45 +95,45 @@ linked-all rules i links h sized w =
     record { first = λ name l. w .first name l ∙ ap (λ (k : ℕ). nextAbout name k (drop k rules)) start; after = λ j l. w .after j (omega arith) l; past = w .past; sized = sized }
 
 -- rule i takes the place of the first one of its name, which becomes its next one
-module _ (rules : List Rule) (i k name : ℕ) (links : List ℕ) (more : k ≡ i + 1) (inside : i < length rules) (room : segmentCount + i < length links)
-    (named : name ≡ segmentOfRule rules i) (small : name < segmentCount) (w : LinkedFrom rules k links) where
+module _ (rules : List Rule) (i k name : ℕ) (links : List ℕ) (more : k ≡ i + 1) (inside : i < length rules) (room : namePlaces + i < length links)
+    (named : name ≡ segmentOfRule rules i) (small : name < namePlaces) (w : LinkedFrom rules k links) where
   abbrev behind : List ℕ
-  behind = set links (segmentCount + i) (getD links name 0)
+  behind = set links (namePlaces + i) (getD links name 0)
 
-  old-first : (n : ℕ) → n < segmentCount → getD links n 0 ≡ nextAbout n (i + 1) (drop (i + 1) rules)
+  old-first : (n : ℕ) → n < namePlaces → getD links n 0 ≡ nextAbout n (i + 1) (drop (i + 1) rules)
   old-first n h = w .first n h ∙ ap (λ (j : ℕ). nextAbout n j (drop j rules)) more
 
-  new-first : (n : ℕ) → n < segmentCount → getD (set behind name i) n 0 ≡ nextAbout n i (drop i rules)
+  new-first : (n : ℕ) → n < namePlaces → getD (set behind name i) n 0 ≡ nextAbout n i (drop i rules)
   new-first n h = by (ℕ-discrete n name)
     where
       by : Dec (n ≡ name) → getD (set behind name i) n 0 ≡ nextAbout n i (drop i rules)
-      by (yes e) = rw e (getD-set-same behind name i 0 (omega (arith, length-set links (segmentCount + i) (getD links name 0))) ∙ sym (next-this name rules i inside (sym named)))
+      by (yes e) = rw e (getD-set-same behind name i 0 (omega (arith, length-set links (namePlaces + i) (getD links name 0))) ∙ sym (next-this name rules i inside (sym named)))
       by (no e) =
-          getD-set-other behind name n i 0 e ∙ getD-set-other links (segmentCount + i) n (getD links name 0) 0 (λ q. absurd (omega arith)) ∙ old-first n h
+          getD-set-other behind name n i 0 e ∙ getD-set-other links (namePlaces + i) n (getD links name 0) 0 (λ q. absurd (omega arith)) ∙ old-first n h
           ∙ sym (next-later n rules i inside (λ q. e (sym q ∙ sym named)))
 
-  new-after : (j : ℕ) → i ≤ j → j < length rules → getD (set behind name i) (segmentCount + j) 0 ≡ nextAbout (segmentOfRule rules j) (j + 1) (drop (j + 1) rules)
-  new-after j h l = getD-set-other behind name (segmentCount + j) i 0 (λ q. absurd (omega arith)) ∙ by (ℕ-discrete j i)
+  new-after : (j : ℕ) → i ≤ j → j < length rules → getD (set behind name i) (namePlaces + j) 0 ≡ nextAbout (segmentOfRule rules j) (j + 1) (drop (j + 1) rules)
+  new-after j h l = getD-set-other behind name (namePlaces + j) i 0 (λ q. absurd (omega arith)) ∙ by (ℕ-discrete j i)
     where
-      by : Dec (j ≡ i) → getD behind (segmentCount + j) 0 ≡ nextAbout (segmentOfRule rules j) (j + 1) (drop (j + 1) rules)
-      by (yes e) = rw (e, ← named) (getD-set-same links (segmentCount + i) (getD links name 0) 0 room ∙ old-first name small)
-      by (no e) = getD-set-other links (segmentCount + i) (segmentCount + j) (getD links name 0) 0 (λ q. e (omega arith)) ∙ w .after j (omega (arith, e)) l
+      by : Dec (j ≡ i) → getD behind (namePlaces + j) 0 ≡ nextAbout (segmentOfRule rules j) (j + 1) (drop (j + 1) rules)
+      by (yes e) = rw (e, ← named) (getD-set-same links (namePlaces + i) (getD links name 0) 0 room ∙ old-first name small)
+      by (no e) = getD-set-other links (namePlaces + i) (namePlaces + j) (getD links name 0) 0 (λ q. e (omega arith)) ∙ w .after j (omega (arith, e)) l
 
-  new-past : (k : ℕ) → segmentCount + length rules ≤ k → k < linkLimit → getD (set behind name i) k 0 ≡ length rules
+  new-past : (k : ℕ) → namePlaces + length rules ≤ k → k < linkLimit → getD (set behind name i) k 0 ≡ length rules
   new-past k h l =
-      getD-set-other behind name k i 0 (λ q. absurd (omega arith)) ∙ getD-set-other links (segmentCount + i) k (getD links name 0) 0 (λ q. absurd (omega arith)) ∙ w .past k h l
+      getD-set-other behind name k i 0 (λ q. absurd (omega arith)) ∙ getD-set-other links (namePlaces + i) k (getD links name 0) 0 (λ q. absurd (omega arith)) ∙ w .past k h l
 
   pub linked-more : LinkedFrom rules i (set behind name i)
   linked-more = record { first = new-first; after = new-after; past = new-past }
 
 -- any two results that the contract of `links_of` allows are equal
 pub links-once : (rules : List Rule) {p q : List ℕ} → Linked rules p → Linked rules q → p ≡ q
-links-once rules {p} {q} v w = ext-getD 0 p q (v .sized ∙ sym (w .sized)) (λ k h. by k (omega (arith, v .sized)) (decLt k segmentCount) (decLt k (segmentCount + length rules)))
+links-once rules {p} {q} v w = ext-getD 0 p q (v .sized ∙ sym (w .sized)) (λ k h. by k (omega (arith, v .sized)) (decLt k namePlaces) (decLt k (namePlaces + length rules)))
   where
-    by : (k : ℕ) → k < linkLimit → Dec (k < segmentCount) → Dec (k < segmentCount + length rules) → getD p k 0 ≡ getD q k 0
+    by : (k : ℕ) → k < linkLimit → Dec (k < namePlaces) → Dec (k < namePlaces + length rules) → getD p k 0 ≡ getD q k 0
     by k h (yes l) _ = v .first k l ∙ sym (w .first k l)
     by k h (no l) (yes m) =
-        let i = k - segmentCount in
-        let e : segmentCount + i ≡ k = omega (arith, l) in
+        let i = k - namePlaces in
+        let e : namePlaces + i ≡ k = omega (arith, l) in
         rw (← e) (v .after i (omega (arith, l)) ∙ sym (w .after i (omega (arith, l))))
     by k h (no l) (no m) = v .past k (omega (arith, m)) h ∙ sym (w .past k (omega (arith, m)) h)

@@ -9,12 +9,12 @@ use Rattle.hl7.specs.Text.{bytes}
 use Rattle.hl7.specs.Bytes.{same, begins}
 use Rattle.hl7.specs.Cut.{cut, ahead, butLast, startAt}
 use Rattle.hl7.specs.Place.{delimsOf, nthOf, cutUnless, partOfField, neverCut, componentOf, repetitionsOf}
-use Rattle.hl7.specs.Refusals.{Told, firstRow, wrongBytes, hasForm, wrongSegments, formRows, messageRows}
-use Rattle.grade.specs.Rule.{segmentNames, numberFrom, nameOfLetters}
+use Rattle.hl7.specs.Refusals.{firstRow, wrongBytes, hasForm, wrongSegments, formRows, messageRows}
+use Rattle.grade.specs.Rule.{theEnd, orc, segmentNames, numberFrom, nameOfLetters}
 use Rattle.grade.specs.Digits.{countWithin, digitRun}
 use Rattle.grade.specs.Calendar.{monthLength, isRealDate}
 use Rattle.grade.specs.Values.{isUnsigned, isNumber, isDate}
-use Rattle.grade.specs.Order.{orc, theEnd, nameBefore, earlier, isIn, mayFollow}
+use Rattle.grade.specs.Order.{nameBefore, earlier, isIn, mayFollow}
 use Rattle.grade.specs.Broken.{broken, judges, breaksRule}
 use Rattle.grade.specs.Strict.{keep, countFrom, pairsFrom}
 use Rattle.grade.specs.Findings.{findings}

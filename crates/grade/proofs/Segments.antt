@@ -5,8 +5,8 @@ use mathlib.Core.Bool.{Bool, true, false, cond}
 use mathlib.Core.List.{List, [], _∷_, _++_, append-assoc}
 use native.Mathlib.Numerals.{add-one}
 use native.Mathlib.Omega.{arith}
-use borrow.Author.Tests.{lt-ltb, le-ltb, ne-eqb}
-use lib.Dec.{eqb}
+use borrow.Author.Tests.{ne-eqb}
+use lib.Dec.{eqb, lit≤}
 use lib.ListN.{length, getD, drop, set, replicate}
 use lib.Seq.{drop-length}
 use Rattle.hl7.specs.Bytes.{same, begins}
@@ -15,13 +15,13 @@ use Rattle.hl7.specs.Spans.{between}
 use Rattle.hl7.specs.Place.{delimsOf, carriageReturn, isMsh}
 use Rattle.hl7.specs.declared.place.Delims.{Delims}
 use Rattle.hl7.proofs.Walking.{ended-step, ended-stop}
-use Rattle.grade.specs.Limits.{segmentCount}
-use Rattle.grade.specs.Rule.{segmentNames, numberFrom, nameOfLetters, otherNumber}
+use Rattle.grade.specs.Limits.{segmentCount, namePlaces}
+use Rattle.grade.specs.Rule.{theEnd, msh, pid, counted, segmentNames, numberFrom, nameOfLetters, otherNumber}
 use Rattle.grade.specs.Standing.{Holds, rulesIn, setsIn, noRule}
 use Rattle.grade.specs.Linked.{nextAbout, Linked}
-use Rattle.grade.specs.Order.{msh, theEnd, nameOf, outOfOrder}
+use Rattle.grade.specs.Order.{nameOf, outOfOrder}
 use Rattle.grade.specs.Findings.{findings}
-use Rattle.grade.specs.Rest.{HereStands, Parted, SpotStands, segmentRest, rulesFrom, orderFinding, ofOrder, ofSegment, NextWithin, gradeSegments, gradeFrom, CountsStand, rest, Stands, betweenAt, endBy, endOpened, enteredAt, EnteredAt, Enters, Opens, Steps}
+use Rattle.grade.specs.Rest.{HereStands, Parted, segmentRest, rulesFrom, orderFinding, ofOrder, ofSegment, NextWithin, gradeSegments, gradeFrom, CountsStand, rest, Stands, betweenAt, endBy, endOpened, enteredAt, Enters, Opens, Steps}
 use Rattle.grade.specs.declared.walk.Section.{Section}
 use Rattle.grade.specs.declared.finding.Finding.{Finding}
 use Rattle.grade.specs.declared.within.Here.{Here}
@@ -33,31 +33,27 @@ use Rattle.grade.specs.declared.step.Opened.{Opened}
 use Rattle.grade.specs.declared.step.Opened.the-variants as Opened
 use Rattle.grade.specs.declared.step.Step.{Step}
 use Rattle.grade.specs.declared.step.Step.the-variants as Step
+use Rattle.grade.proofs.Naming.{is-counted, not-counted, number-bounds, name-bounds}
 use Rattle.grade.proofs.Holding.{rules-length}
 use Rattle.grade.proofs.Linking.{about-next}
 use Rattle.grade.proofs.Spots.{left-over, spot-begin}
 use Rattle.grade.proofs.ByPlace.{walk-all, zeros}
 
 -- a segment is named MSH exactly where hl7 takes it for an MSH
-later : (n : ℕ) (name : List ℕ) (texts : List (List ℕ)) → eqb (numberFrom (suc n) name texts) 0 ≡ false
-unfolding numberFrom
-later n name [] = refl
-later n name (text ∷ texts) = by (same name text) (later (suc n) name texts)
-  where
-    by : (t : Bool) → eqb (numberFrom (suc (suc n)) name texts) 0 ≡ false → eqb (cond t (suc n) (numberFrom (suc (suc n)) name texts)) 0 ≡ false
-    by true e = ne-eqb (suc n) 0 (λ q. absurd (omega arith))
-    by false e = e
+not-first : (name : List ℕ) → eqb (numberFrom pid name (drop 1 segmentNames)) msh ≡ false
+unfolding segmentNames
+not-first name = ne-eqb (numberFrom pid name (drop 1 segmentNames)) msh (λ q. absurd (omega (arith, q, number-bounds pid name (drop 1 segmentNames) (lit≤ tt))))
 
-first-is : (t : Bool) (r : ℕ) → eqb r 0 ≡ false → t ≡ eqb (cond t 0 r) 0
+first-is : (t : Bool) (r : ℕ) → eqb r msh ≡ false → t ≡ eqb (cond t msh r) msh
 first-is true r e = refl
 first-is false r e = sym e
 
 msh-named : (seg : List ℕ) → isMsh seg ≡ eqb (nameOf seg) msh
 unfolding begins nameOfLetters segmentNames numberFrom same
 msh-named [] = refl
-msh-named (x ∷ []) = first-is _ _ (later 0 (x ∷ (0 ∷ (0 ∷ []))) (drop 1 segmentNames))
-msh-named (x ∷ (y ∷ [])) = first-is _ _ (later 0 (x ∷ (y ∷ (0 ∷ []))) (drop 1 segmentNames))
-msh-named (x ∷ (y ∷ (z ∷ seg))) = first-is _ _ (later 0 (x ∷ (y ∷ (z ∷ []))) (drop 1 segmentNames))
+msh-named (x ∷ []) = first-is _ _ (not-first (x ∷ (0 ∷ (0 ∷ []))))
+msh-named (x ∷ (y ∷ [])) = first-is _ _ (not-first (x ∷ (y ∷ (0 ∷ []))))
+msh-named (x ∷ (y ∷ (z ∷ seg))) = first-is _ _ (not-first (x ∷ (y ∷ (z ∷ []))))
 
 -- a bound of all elements is kept by a store within it
 set-bound : (l : List ℕ) (i v most : ℕ) → v ≤ most → ((k : ℕ) → getD l k 0 ≤ most) → (k : ℕ) → getD (set l i v) k 0 ≤ most
@@ -89,7 +85,7 @@ module _ (follows : ℕ → ℕ → Bool) (d : Delims) (m b : List ℕ) (s : Sec
     pub between-stands : (starts counts : List ℕ) → CountsStand m next counts → Stands d m b s starts counts cursor
     unfolding begins
     between-stands starts counts h = record {
-      here = record { forward = omega arith; inside = omega arith; counts = omega arith; named = refl };
+      here = record { forward = omega arith; inside = omega arith; counts = refl; named = refl };
       spot = record { passed = omega arith; about = λ l. absurd (omega arith); parted = λ l. absurd (omega arith); known = λ l. absurd (omega arith) };
       passed = h;
     }
@@ -130,11 +126,14 @@ module _ (follows : ℕ → ℕ → Bool) (d : Delims) (m b : List ℕ) (s : Sec
 
     module _ (name : ℕ) (named : name ≡ nameOf segment) where
       -- a name that does not count
-      pub other-one : 10 ≤ name → from at last counts ≡ from (stop + 1) last counts
+      pub other-one : segmentCount < name → from at last counts ≡ from (stop + 1) last counts
       unfolding gradeSegments
-      other-one h = one-segment ∙ rw (← named, le-ltb name 10 h)
+      other-one h = one-segment ∙ rw (← named, not-counted name h)
 
       -- a counted one
+      counts-here : name ≤ segmentCount → counted name ≡ true
+      counts-here h = is-counted name (omega (arith, named, name-bounds (getD segment 0 0) (getD segment 1 0) (getD segment 2 0))) h
+
       abbrev ordinal : ℕ
       ordinal = getD counts name 0 + 1
 
@@ -148,20 +147,20 @@ module _ (follows : ℕ → ℕ → Bool) (d : Delims) (m b : List ℕ) (s : Sec
         abbrev this : Here
         this = record { start = at; end = stop; name = name; ordinal = ordinal; count = count; single = single }
 
-        pub this-stands : name < 10 → HereStands m this
-        this-stands h = record { forward = omega arith; inside = omega arith; counts = h; named = msh-named segment ∙ ap (λ (n : ℕ). eqb n msh) (sym named) }
+        pub this-stands : name ≤ segmentCount → HereStands m this
+        this-stands h = record { forward = omega arith; inside = omega arith; counts = counts-here h; named = msh-named segment ∙ ap (λ (n : ℕ). eqb n msh) (sym named) }
 
-        pub counted-one : name < 10 → from at last counts ≡ ofSegment out d m b s this last ++ from (stop + 1) name (set counts name ordinal)
+        pub counted-one : name ≤ segmentCount → from at last counts ≡ ofSegment out d m b s this last ++ from (stop + 1) name (set counts name ordinal)
         unfolding gradeSegments
         counted-one h =
             one-segment
-            ∙ rw (← named, lt-ltb name 10 h, ← add-one (getD counts name 0)) (sym (append-assoc (ofOrder out last name ordinal) (rulesFrom d m b s this 0) (from (stop + 1) name (set counts name ordinal))))
+            ∙ rw (← named, counts-here h, ← add-one (getD counts name 0)) (sym (append-assoc (ofOrder out last name ordinal) (rulesFrom d m b s this 0) (from (stop + 1) name (set counts name ordinal))))
 
       -- its cursor, before its rules
       module _ (begin : ℕ) (l : List Finding) (passed : l ≡ from at last counts) (ahead : begin ≤ at) (holds : Holds b s) {links : List ℕ} (linked : Linked (rulesIn b s) links)
-          (starts : List ℕ) (few : name < 10) (first : ℕ) (is-link : first ≡ getD links name 0) where
+          (starts : List ℕ) (few : name ≤ segmentCount) (first : ℕ) (is-link : first ≡ getD links name 0) where
         is-first : first ≡ nextAbout name 0 (rulesIn b s)
-        is-first = is-link ∙ linked .first name few
+        is-first = is-link ∙ linked .first name (omega arith)
 
         is-about : first < length (rulesIn b s) → getD (rulesIn b s) first noRule .place .segment ≡ name
         is-about = rw is-first (about-next name (rulesIn b s) 0)
@@ -220,13 +219,13 @@ module _ (follows : ℕ → ℕ → Bool) (d : Delims) (m b : List ℕ) (s : Sec
     then-end e = same ∙ subst opens e h
 
 -- ---- before the first segment
-pub start-counts : (m : List ℕ) → CountsStand m 0 (replicate 10 0)
-start-counts m = record { inside = omega arith; counted = λ k. omega (arith, zeros 10 k) }
+pub start-counts : (m : List ℕ) → CountsStand m 0 (replicate namePlaces 0)
+start-counts m = record { inside = omega arith; counted = λ k. omega (arith, zeros namePlaces k) }
 
-pub start-list : (follows : ℕ → ℕ → Bool) (m b : List ℕ) (s : Section) → gradeFrom (outOfOrder follows) (delimsOf m) m b s 0 otherNumber (replicate 10 0) ≡ findings follows (rulesIn b s) (setsIn b s) m
+pub start-list : (follows : ℕ → ℕ → Bool) (m b : List ℕ) (s : Section) → gradeFrom (outOfOrder follows) (delimsOf m) m b s 0 otherNumber (replicate namePlaces 0) ≡ findings follows (rulesIn b s) (setsIn b s) m
 start-list follows m b s = walk-all follows (rulesIn b s) (setsIn b s) m
 
 -- ---- another order that says the same, other delimiters that are the same
 pub list-as : (m b : List ℕ) (s : Section) {out : ℕ → ℕ → Bool} {d : Delims} (follows : ℕ → ℕ → Bool) → out ≡ outOfOrder follows → d ≡ delimsOf m
-    → gradeFrom out d m b s 0 otherNumber (replicate 10 0) ≡ findings follows (rulesIn b s) (setsIn b s) m
-list-as m b s follows e f = ap₂ (λ (o : ℕ → ℕ → Bool) (x : Delims). gradeFrom o x m b s 0 otherNumber (replicate 10 0)) e f ∙ start-list follows m b s
+    → gradeFrom out d m b s 0 otherNumber (replicate namePlaces 0) ≡ findings follows (rulesIn b s) (setsIn b s) m
+list-as m b s follows e f = ap₂ (λ (o : ℕ → ℕ → Bool) (x : Delims). gradeFrom o x m b s 0 otherNumber (replicate namePlaces 0)) e f ∙ start-list follows m b s

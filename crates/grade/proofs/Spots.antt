@@ -19,11 +19,10 @@ use Rattle.hl7.specs.declared.place.Delims.{Delims}
 use Rattle.hl7.proofs.Comparing.{all-take, all-drop}
 use Rattle.hl7.proofs.Cutting.{between-inside}
 use Rattle.hl7.proofs.Placing.{field-msh, field-other}
-use Rattle.grade.specs.Limits.{segmentCount, fieldLimit}
-use Rattle.grade.specs.Rule.{firstField, ruleFits, kindFits}
+use Rattle.grade.specs.Limits.{namePlaces, fieldLimit}
+use Rattle.grade.specs.Rule.{msh, firstField, ruleFits, kindFits}
 use Rattle.grade.specs.Standing.{Holds, rulesIn, setsIn, noRule}
 use Rattle.grade.specs.Linked.{nextAbout, Linked}
-use Rattle.grade.specs.Order.{msh}
 use Rattle.grade.specs.Rest.{CodesAre, brokenFrom, NextValue, valueFinding, ofRules, leftOf, leftFrom, bytesOf, HereStands, Fielded, SpotStands, rulesFrom, segmentRest, NextOfRule, NextWithin}
 use Rattle.grade.specs.declared.rule.Rule.{Rule}
 use Rattle.grade.specs.declared.walk.Section.{Section}
@@ -38,7 +37,7 @@ use Rattle.grade.specs.declared.within.Judged.the-variants as Judged
 use Rattle.grade.specs.declared.within.Within.the-variants.{Found}
 use Rattle.grade.proofs.Holding.{rules-length, rule-fits, place-limits, kind-limits}
 use Rattle.grade.proofs.Repetitions.{values-over}
-use Rattle.grade.proofs.Judging.{leftHere, rule-whole, left-as, rules-next, rules-end}
+use Rattle.grade.proofs.Judging.{rule-whole, left-as, rules-next, rules-end}
 use Rattle.grade.proofs.Linking.{rules-skip, about-next, next-bounds}
 
 -- ---- the rule at a spot, as the code reads it
@@ -57,9 +56,9 @@ module _ (d : Delims) (m b : List ℕ) (s : Section) (here : Here) (holds : Hold
   kind-in-range = kind-limits (s .«set_count») rule fits
 
   pub field-some : 1 ≤ rule .place .field
-  field-some = omega (arith, place-limits (s .«set_count») rule fits .first, first-field (eqb (rule .place .segment) 0))
+  field-some = omega (arith, place-limits (s .«set_count») rule fits .first, first-field (eqb (rule .place .segment) msh))
     where
-      first-field : (msh : Bool) → 1 ≤ cond msh 3 1
+      first-field : (test : Bool) → 1 ≤ cond test 3 1
       first-field true = omega arith
       first-field false = omega arith
 
@@ -196,7 +195,7 @@ module _ (d : Delims) (m b : List ℕ) (s : Section) (here : Here) where
           )
 
       -- the next rule about the segment
-      module _ {links : List ℕ} (linked : Linked (rulesIn b s) links) {k : ℕ} (is-link : k ≡ getD links (segmentCount + spot .rule) 0) where
+      module _ {links : List ℕ} (linked : Linked (rulesIn b s) links) {k : ℕ} (is-link : k ≡ getD links (namePlaces + spot .rule) 0) where
         next-is : k ≡ nextAbout (here .name) (spot .rule + 1) (drop (spot .rule + 1) (rulesIn b s))
         next-is = is-link ∙ linked .after (spot .rule) within ∙ ap (λ (name : ℕ). nextAbout name (spot .rule + 1) (drop (spot .rule + 1) (rulesIn b s))) (at .about few)
 

@@ -1,12 +1,13 @@
 -- What a caller of the grader knows of its steps: the laws that upper crates cite. Assumes nothing.
 use Prim.Native.Nat.{ℕ, _*_, _≤_, _<_}
-use mathlib.Core.Path.{_≡_, refl, sym, ap, subst, subst⁻¹, _∙_}
+use mathlib.Core.Path.{_≡_, ap, subst, subst⁻¹, _∙_}
 use mathlib.Core.Bool.{Bool}
-use mathlib.Core.List.{List, [], _∷_, head-eq-of-cons-eq, tail-eq-of-cons-eq, nil≢cons}
+use mathlib.Core.List.{List, [], _∷_}
 use native.Mathlib.Omega.{arith}
 use lib.ListN.{length, replicate}
 use Rattle.hl7.specs.Refusals.{messageLimit}
 use Rattle.hl7.specs.declared.place.Delims.{Delims}
+use Rattle.grade.specs.Limits.{namePlaces}
 use Rattle.grade.specs.Rule.{otherNumber}
 use Rattle.grade.specs.Standing.{Holds, rulesIn, setsIn}
 use Rattle.grade.specs.Order.{mayFollow, outOfOrder}
@@ -27,11 +28,11 @@ module _ (follows : ℕ → ℕ → Bool) (d : Delims) (m b : List ℕ) (s : Sec
 
   -- ---- before the first step
   module _ (holds : Holds b s) {c : Cursor} (begins : c ≡ betweenAt (s .«rule_count») 0 otherNumber) where
-    pub start-left : left (replicate 10 0) c ≡ gradeFrom (outOfOrder follows) d m b s 0 otherNumber (replicate 10 0)
-    start-left = ap (left (replicate 10 0)) begins ∙ between-list follows d m b s holds 0 otherNumber (replicate 10 0)
+    pub start-left : left (replicate namePlaces 0) c ≡ gradeFrom (outOfOrder follows) d m b s 0 otherNumber (replicate namePlaces 0)
+    start-left = ap (left (replicate namePlaces 0)) begins ∙ between-list follows d m b s holds 0 otherNumber (replicate namePlaces 0)
 
-    pub start-stands : (starts : List ℕ) → Stands d m b s starts (replicate 10 0) c
-    start-stands starts = subst⁻¹ (Stands d m b s starts (replicate 10 0)) begins (between-stands follows d m b s holds 0 otherNumber starts (replicate 10 0) (start-counts m))
+    pub start-stands : (starts : List ℕ) → Stands d m b s starts (replicate namePlaces 0) c
+    start-stands starts = subst⁻¹ (Stands d m b s starts (replicate namePlaces 0)) begins (between-stands follows d m b s holds 0 otherNumber starts (replicate namePlaces 0) (start-counts m))
 
   -- ---- one step, at which l is still to come
   module _ (starts counts : List ℕ) (l : List Finding) (r : Step) (h : Steps (outOfOrder follows) d m b s starts counts l r) where

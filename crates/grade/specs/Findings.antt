@@ -8,8 +8,8 @@ use lib.ListN.{length, getD}
 use lib.Dec.{T, eqb}
 use Rattle.hl7.specs.Place.{delimsOf, segmentsOf, neverCut, repetitionsOf, componentOf}
 use Rattle.hl7.specs.declared.place.Delims.{Delims}
-use Rattle.grade.specs.Order.{counted, nameAt, nameBefore, earlier, outOfOrder}
-use Rattle.grade.specs.Rule.{errorCode}
+use Rattle.grade.specs.Order.{nameAt, nameBefore, earlier, outOfOrder}
+use Rattle.grade.specs.Rule.{counted, errorCode}
 use Rattle.grade.specs.Standing.{noRule}
 use Rattle.grade.specs.Broken.{breaksRule, severityLetter}
 use Rattle.grade.specs.Strict.{Increasing, Lex, keep, countFrom, pairsFrom}

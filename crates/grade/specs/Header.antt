@@ -2,12 +2,13 @@
 -- Assumes nothing.
 use Prim.Native.Nat.{ℕ}
 use Prim.Native.Char.{code}
-use mathlib.Core.Bool.{Bool, true, false, cond, not, _||_}
+use mathlib.Core.Bool.{Bool, cond, not, _||_}
 use mathlib.Core.List.{List, [], _∷_, _++_}
 use Rattle.hl7.specs.Text.{bytes}
 use Rattle.hl7.specs.Bytes.{same}
 use Rattle.hl7.specs.Place.{segmentOf, inSegment}
 use Rattle.hl7.specs.declared.place.Delims.{Delims}
+use Rattle.grade.specs.Rule as Rule
 use Rattle.grade.specs.declared.finding.Finding.{Finding}
 use Rattle.grade.specs.declared.header.Header.{Header}
 
@@ -35,7 +36,7 @@ headerOf d msh =
 -- a header finding is an E at the first MSH
 abbrev pub headerFinding : ℕ → ℕ → ℕ → Finding
 headerFinding error field component =
-    record { name = 0; ordinal = 1; field = field; repetition = 1; component = component; rule = 0; code = error; severity = code "E" }
+    record { name = Rule.msh; ordinal = 1; field = field; repetition = 1; component = component; rule = 0; code = error; severity = code "E" }
 
 abbrev pub onlyIf : Bool → Finding → List Finding
 onlyIf test finding = cond test (finding ∷ []) []

@@ -30,6 +30,10 @@ ruleSize = 10
 abbrev pub segmentCount : ℕ
 segmentCount = 10
 
+-- a place for each name at its number, the end's at 0
+abbrev pub namePlaces : ℕ
+namePlaces = 11
+
 abbrev pub fieldLimit : ℕ
 fieldLimit = 99
 
@@ -47,9 +51,9 @@ codeCountLimit = 1024
 abbrev pub codeLimit : ℕ
 codeLimit = 20
 
--- a link for each name that counts, and for each rule
+-- a link for each of these places, and for each rule
 abbrev pub linkLimit : ℕ
-linkLimit = 266
+linkLimit = 267
 
 -- the starts of a segment's parts up to the last field that a rule may name, and their end
 abbrev pub fieldPlaces : ℕ

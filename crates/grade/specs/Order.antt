@@ -1,51 +1,14 @@
 -- The names of segments, and which may follow which. Assumes nothing.
-use Prim.Native.Nat.{ℕ, zero, suc}
+use Prim.Native.Nat.{ℕ, zero, suc, _-_}
 use mathlib.Core.Bool.{Bool, false, not, cond, _&&_, _||_}
 use mathlib.Core.List.{List, [], _∷_, map}
 use lib.ListN.{getD}
-use lib.Dec.{eqb, leb, ltb}
-use Rattle.grade.specs.Limits.{segmentCount}
-use Rattle.grade.specs.Rule.{nameOfLetters, endNumber, otherNumber}
+use lib.Dec.{eqb, leb}
+use Rattle.grade.specs.Limits.{segmentCount, namePlaces}
+use Rattle.grade.specs.Rule.{theEnd, msh, pid, pd1, nk1, pv1, orc, rxa, rxr, obx, nte, counted, nameOfLetters, otherNumber}
 use Rattle.grade.specs.Strict.{countFrom}
 
 -- ---- names
--- the numbers of the ten names that count, and of the end
-abbrev pub msh : ℕ
-msh = 0
-
-abbrev pub pid : ℕ
-pid = 1
-
-abbrev pub pd1 : ℕ
-pd1 = 2
-
-abbrev pub nk1 : ℕ
-nk1 = 3
-
-abbrev pub pv1 : ℕ
-pv1 = 4
-
-abbrev pub orc : ℕ
-orc = 5
-
-abbrev pub rxa : ℕ
-rxa = 6
-
-abbrev pub rxr : ℕ
-rxr = 7
-
-abbrev pub obx : ℕ
-obx = 8
-
-abbrev pub nte : ℕ
-nte = 9
-
-abbrev pub theEnd : ℕ
-theEnd = endNumber
-
-abbrev pub counted : ℕ → Bool
-counted name = ltb name segmentCount
-
 -- a segment's name is its first three bytes
 abbrev pub nameOf : List ℕ → ℕ
 nameOf seg = nameOfLetters (getD seg 0 0) (getD seg 1 0) (getD seg 2 0)
@@ -88,11 +51,11 @@ mayFollow before name = isIn name (followers before)
 
 -- a counted segment after the first, or the end, breaks the order when it may not follow the counted one before it
 abbrev pub outOfOrder : (ℕ → ℕ → Bool) → ℕ → ℕ → Bool
-outOfOrder follows before name = counted before && (leb name theEnd && not (follows before name))
+outOfOrder follows before name = counted before && (leb name segmentCount && not (follows before name))
 
--- ---- the follow table: ten rows, one for each name, and eleven columns, one for each name and the end
+-- ---- the follow table: ten rows, one for each name, and eleven columns, one for the end and one for each name
 abbrev pub tableOf : (ℕ → ℕ → Bool) → List (List Bool)
-tableOf follows = map (λ before. map (follows before) (countFrom 0 11)) (countFrom 0 10)
+tableOf follows = map (λ before. map (follows before) (countFrom theEnd namePlaces)) (countFrom msh segmentCount)
 
 abbrev pub tableSays : List (List Bool) → ℕ → ℕ → Bool
-tableSays table before name = getD (getD table before []) name false
+tableSays table before name = getD (getD table (before - 1) []) name false

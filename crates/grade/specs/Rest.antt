@@ -13,11 +13,10 @@ use Rattle.hl7.specs.Bytes.{all, differs}
 use Rattle.hl7.specs.Place.{carriageReturn, isMsh, fieldOf}
 use Rattle.hl7.specs.Refusals.{messageLimit}
 use Rattle.hl7.specs.declared.place.Delims.{Delims}
-use Rattle.grade.specs.Limits.{segmentCount}
-use Rattle.grade.specs.Rule.{errorCode, otherNumber}
+use Rattle.grade.specs.Rule.{theEnd, msh, pid, counted, otherNumber, errorCode}
 use Rattle.grade.specs.Standing.{noRule, rulesIn, setsIn, Holds, Placed, SetStands, codesAt}
 use Rattle.grade.specs.Linked.{Linked}
-use Rattle.grade.specs.Order.{msh, counted, nameOf, theEnd}
+use Rattle.grade.specs.Order.{nameOf}
 use Rattle.grade.specs.Broken.{judges, broken, breaksRule, severityLetter}
 use Rattle.grade.specs.Findings.{isAbout, valueIn, valuesOf}
 use Rattle.grade.specs.declared.rule.Kind.{Kind}
@@ -125,7 +124,7 @@ bytesOf m here = between m (here .start) (here .end)
 pub record HereStands (m : List ℕ) (here : Here) : Type 0 where
   pub forward : here .start ≤ here .end
   pub inside : here .end ≤ length m
-  pub counts : here .name < segmentCount
+  pub counts : counted (here .name) ≡ true
   pub named : isMsh (bytesOf m here) ≡ eqb (here .name) msh
 
 -- so many of a segment's parts are noted, and where `single` says so it has no tilde
@@ -222,7 +221,7 @@ pub record Stands (d : Delims) (m b : List ℕ) (s : Section) (starts counts : L
 abbrev pub betweenAt : ℕ → ℕ → ℕ → Cursor
 betweenAt count next last =
     record {
-      here = record { start = 0; end = 0; name = 1; ordinal = 0; count = 0; single = false };
+      here = record { start = 0; end = 0; name = pid; ordinal = 0; count = 0; single = false };
       spot = record { rule = count; at = 0; passed = 0; field = record { codes = 0; start = 0; end = 0 } };
       next = next;
       last = last;

@@ -1,9 +1,9 @@
 -- A rule, and what its ten bytes say (01, "The rule book").
-use Prim.Native.Nat.{ℕ, suc}
+use Prim.Native.Nat.{ℕ, suc, _+_, _*_}
 use Prim.Native.Char.{code}
 use mathlib.Core.Bool.{Bool, true, false, cond, _&&_, _||_}
 use mathlib.Core.List.{List, [], _∷_}
-use lib.Dec.{eqb, leb, ltb}
+use lib.Dec.{eqb, leb}
 use lib.ListN.{getD}
 use Rattle.hl7.specs.Text.{bytes}
 use Rattle.hl7.specs.Bytes.{within, same}
@@ -18,19 +18,53 @@ use Rattle.grade.specs.declared.rule.RuleRead.{RuleRead}
 
 -- ---- segments
 
--- The ten names that count. A name's number is its place here, from 0: the row of the follow table.
+-- The ten names that count. A name's number is its place here, from 1, so that a later name is appended and no number changes.
 unfoldable pub segmentNames : List (List ℕ)
 segmentNames =
     bytes "MSH" ∷ bytes "PID" ∷ bytes "PD1" ∷ bytes "NK1" ∷ bytes "PV1"
     ∷ bytes "ORC" ∷ bytes "RXA" ∷ bytes "RXR" ∷ bytes "OBX" ∷ bytes "NTE" ∷ []
 
+-- the message's end has no name
+abbrev pub theEnd : ℕ
+theEnd = 0
+
+abbrev pub msh : ℕ
+msh = 1
+
+abbrev pub pid : ℕ
+pid = 2
+
+abbrev pub pd1 : ℕ
+pd1 = 3
+
+abbrev pub nk1 : ℕ
+nk1 = 4
+
+abbrev pub pv1 : ℕ
+pv1 = 5
+
+abbrev pub orc : ℕ
+orc = 6
+
+abbrev pub rxa : ℕ
+rxa = 7
+
+abbrev pub rxr : ℕ
+rxr = 8
+
+abbrev pub obx : ℕ
+obx = 9
+
+abbrev pub nte : ℕ
+nte = 10
+
 -- the name of a number
 unfoldable pub nameBytes : ℕ → List ℕ
-nameBytes n = getD segmentNames n []
+nameBytes n = getD ([] ∷ segmentNames) n []
 
--- the message's end has the number after the names: the last column of the follow table
-abbrev pub endNumber : ℕ
-endNumber = 10
+-- one of the ten
+abbrev pub counted : ℕ → Bool
+counted name = within 1 segmentCount name
 
 -- any other name
 abbrev pub otherNumber : ℕ
@@ -43,18 +77,26 @@ numberFrom n name (text ∷ texts) = cond (same name text) n (numberFrom (suc n)
 
 -- the number of the name with these three letters
 unfoldable pub nameOfLetters : ℕ → ℕ → ℕ → ℕ
-nameOfLetters a b c = numberFrom 0 (a ∷ b ∷ c ∷ []) segmentNames
+nameOfLetters a b c = numberFrom msh (a ∷ b ∷ c ∷ []) segmentNames
+
+-- three letters as one number: what the code tells names apart by
+abbrev pub lettersNumber : ℕ → ℕ → ℕ → ℕ
+lettersNumber a b c = a * 65536 + b * 256 + c
+
+-- those of a name
+abbrev pub lettersOf : ℕ → ℕ
+lettersOf name = lettersNumber (getD (nameBytes name) 0 0) (getD (nameBytes name) 1 0) (getD (nameBytes name) 2 0)
 
 -- ---- places
 
 -- for MSH the field is at least 3
 abbrev pub firstField : ℕ → ℕ
-firstField segment = cond (eqb segment 0) 3 1
+firstField segment = cond (eqb segment msh) 3 1
 
 -- the segment is one of the ten, the field at most 99, the component at most 20
 unfoldable pub placeFits : Place → Bool
 placeFits p =
-    ltb (p .segment) segmentCount && within (firstField (p .segment)) fieldLimit (p .field) && leb (p .component) componentLimit
+    counted (p .segment) && within (firstField (p .segment)) fieldLimit (p .field) && leb (p .component) componentLimit
 
 -- ---- severity and kind
 

@@ -23,10 +23,6 @@ use Rattle.grade.specs.declared.book.Opened.{Opened}
 use Rattle.grade.specs.declared.admit.Admitted.{Admitted}
 use Rattle.grade.specs.declared.admit.Admitted.the-variants.{By}
 
--- three letters as one number
-abbrev pub lettersNumber : ℕ → ℕ → ℕ → ℕ
-lettersNumber a b c = a * 65536 + b * 256 + c
-
 -- where a reading ends
 abbrev pub endOf : {A : Type 0} → Parsed A → Next
 endOf fault = Next.Fault

@@ -1,6 +1,6 @@
 // One finding: what the ACK's ERR segment says.
 
-// The name is 0 to 9, or 10 where the end of the message breaks the order; ordinal counts among the segments of that name. An order finding has
+// The name is 1 to 10, or 0 where the end of the message breaks the order; ordinal counts among the segments of that name. An order finding has
 // no field, no repetition and no rule: these are 0. Component 0 is the whole repetition. The severity is its letter.
 pub struct Finding {
     pub name: u8,

@@ -16,8 +16,11 @@ pub const SET_LIMIT: u8 = 64;
 // The same, as the length of a list of places.
 pub const SET_PLACES: usize = 64;
 
-// Room for the first rule of each of the ten names, and for each rule's next one.
-pub const LINKS: usize = 266;
+// A place for each name at its number, the end's at 0.
+pub const NAME_PLACES: usize = 11;
+
+// Room for the first rule of each of these, and for each rule's next one.
+pub const LINKS: usize = 267;
 
 pub const CODE_COUNT_LIMIT: usize = 1024;
 

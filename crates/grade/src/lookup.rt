@@ -4,18 +4,19 @@ ghost use Prim.Native.Nat.{_<_, _≤_};
 ghost use mathlib.Core.Bool.{true};
 ghost use lib.ListN.{getD};
 ghost use Rattle.hl7.specs.Bytes.{among};
-ghost use Rattle.grade.specs.Limits.{codeLimit, linkLimit, segmentCount, setLimit};
+ghost use Rattle.grade.specs.Limits.{codeLimit, linkLimit, namePlaces, setLimit};
 ghost use Rattle.grade.specs.Reader.{isFound, itemsOf, times};
 ghost use Rattle.grade.specs.Book.{text, codeSet};
 ghost use Rattle.grade.specs.Standing.{endOf, rulesIn, noRule, Holds, SetStands, codesAt, NotedSets, Placed};
 ghost use Rattle.grade.specs.Linked.{Linked};
 ghost use Rattle.grade.specs.declared.walk.Next.{Next};
 use crate::limits::LINKS;
+use crate::limits::NAME_PLACES;
 use crate::limits::RULE_SIZE;
 use crate::limits::SET_PLACES;
 use crate::rule::Rule;
+use crate::rule::name_of_letters;
 use crate::rule::rule_from;
-use crate::rule::segment_of;
 use crate::walk::Section;
 use crate::walk::pair_at;
 use crate::walk::text_after;
@@ -36,14 +37,14 @@ pub fn rule_at(book: &[u8], section: Section, i: usize) -> Rule
 // The number of the name that the rule with a number is about.
 fn name_of_rule(book: &[u8], section: Section, i: usize) -> usize
     requires { ⌜ Holds (now book) section × (i < section .«rule_count») ⌝ }
-    ensures { λ r. ⌜ (r ≡ getD (rulesIn (now (book .entry)) section) i noRule .place .segment) × (r < segmentCount) ⌝ }
+    ensures { λ r. ⌜ (r ≡ getD (rulesIn (now (book .entry)) section) i noRule .place .segment) × (r < namePlaces) ⌝ }
 {
     let rules_at = section.rules_at;
     let at = rules_at + RULE_SIZE * i;
-    wide(segment_of(book[at], book[at + 1], book[at + 2]))
+    wide(name_of_letters(book[at], book[at + 1], book[at + 2]))
 }
 
-// For each name the first rule about it, and behind the ten names for each rule the next one about its segment: the rules' number where there is none.
+// For each name the first rule about it, and behind the names for each rule the next one about its segment: the rules' number where there is none.
 pub fn links_of(book: &[u8], section: Section) -> [u16; LINKS]
     requires { ⌜ Holds (now book) section ⌝ }
     ensures { λ r. ⌜ Linked (rulesIn (now (book .entry)) section) r ⌝ }
@@ -54,7 +55,7 @@ pub fn links_of(book: &[u8], section: Section) -> [u16; LINKS]
     while 0 < i {
         i -= 1;
         let name = name_of_rule(book, section, i);
-        links[10 + i] = links[name];
+        links[NAME_PLACES + i] = links[name];
         links[name] = i as u16;
     }
     links

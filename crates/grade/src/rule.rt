@@ -1,6 +1,6 @@
 // One rule: a place, a severity and one of six kinds, and the ten bytes that say it.
 ghost use mathlib.Core.Path.{_≡_};
-ghost use Prim.Native.Nat.{ℕ, _+_, _≤_};
+ghost use Prim.Native.Nat.{ℕ, _+_, _<_, _≤_};
 ghost use lib.ListN.{length};
 ghost use lib.Seq.{slice};
 ghost use Rattle.grade.specs.declared.rule.Severity.{Severity};
@@ -10,8 +10,7 @@ ghost use Rattle.grade.specs.declared.rule.KindRead.{KindRead};
 ghost use Rattle.grade.specs.declared.rule.Rule.{Rule};
 ghost use Rattle.grade.specs.declared.rule.RuleRead.{RuleRead};
 ghost use Rattle.grade.specs.Limits.{ruleSize};
-ghost use Rattle.grade.specs.Rule.{nameOfLetters, firstField, placeFits, severityOf, isSeverity, kindOf, isKind, errorCode, ruleOf, isRule};
-ghost use Rattle.grade.specs.Standing.{lettersNumber};
+ghost use Rattle.grade.specs.Rule.{nameOfLetters, lettersNumber, lettersOf, firstField, placeFits, severityOf, isSeverity, kindOf, isKind, errorCode, ruleOf, isRule};
 use crate::limits::COMPONENT_LIMIT;
 use crate::limits::FIELD_LIMIT;
 use crate::limits::SEGMENT_COUNT;
@@ -32,7 +31,7 @@ pub enum Kind {
     Code { set: u8 },
 }
 
-// Segments are numbered: 0 to 9 the ten names that count, 10 the message's end, 11 any other name.
+// A segment's name by its number: 1 to 10 the names that count, 11 any other; 0 is the message's end, which has none.
 pub struct Place {
     pub segment: u8,
     pub field: u8,
@@ -61,6 +60,27 @@ pub enum RuleRead {
     Fault,
 }
 
+// The ten names that count, each by its three letters as one number.
+const MSH: u32 = 0x4D5348;
+
+const PID: u32 = 0x504944;
+
+const PD1: u32 = 0x504431;
+
+const NK1: u32 = 0x4E4B31;
+
+const PV1: u32 = 0x505631;
+
+const ORC: u32 = 0x4F5243;
+
+const RXA: u32 = 0x525841;
+
+const RXR: u32 = 0x525852;
+
+const OBX: u32 = 0x4F4258;
+
+const NTE: u32 = 0x4E5445;
+
 // Three letters as one number.
 pub fn letters(a: u8, b: u8, c: u8) -> u32
     ensures { λ r. ⌜ r ≡ lettersNumber a b c ⌝ }
@@ -68,29 +88,48 @@ pub fn letters(a: u8, b: u8, c: u8) -> u32
     (a as u32) * 65536 + (b as u32) * 256 + (c as u32)
 }
 
-// The number of a segment's name.
-pub fn segment_of(a: u8, b: u8, c: u8) -> u8
+// The number of the name with these three letters.
+pub fn name_of_letters(a: u8, b: u8, c: u8) -> u8
     ensures { λ r. ⌜ (r ≡ nameOfLetters a b c) × (r ≤ 11) ⌝ }
 {
     match letters(a, b, c) {
-        0x4D5348 => 0,
-        0x504944 => 1,
-        0x504431 => 2,
-        0x4E4B31 => 3,
-        0x505631 => 4,
-        0x4F5243 => 5,
-        0x525841 => 6,
-        0x525852 => 7,
-        0x4F4258 => 8,
-        0x4E5445 => 9,
+        MSH => 1,
+        PID => 2,
+        PD1 => 3,
+        NK1 => 4,
+        PV1 => 5,
+        ORC => 6,
+        RXA => 7,
+        RXR => 8,
+        OBX => 9,
+        NTE => 10,
         _ => 11,
+    }
+}
+
+// The letters of a name as one number; 0 where the number is none of the ten.
+pub fn letters_of(name: u8) -> u32
+    ensures { λ r. ⌜ (r ≡ lettersOf name) × (r < 16777216) ⌝ }
+{
+    match name {
+        1 => MSH,
+        2 => PID,
+        3 => PD1,
+        4 => NK1,
+        5 => PV1,
+        6 => ORC,
+        7 => RXA,
+        8 => RXR,
+        9 => OBX,
+        10 => NTE,
+        _ => 0,
     }
 }
 
 fn first_field(segment: u8) -> u8
     ensures { λ r. ⌜ r ≡ firstField segment ⌝ }
 {
-    if segment == 0 {
+    if segment == 1 {
         return 3;
     }
     1
@@ -99,8 +138,9 @@ fn first_field(segment: u8) -> u8
 fn place_fits(place: Place) -> bool
     ensures { λ r. ⌜ r ≡ placeFits place ⌝ }
 {
+    let counted = is_within(place.segment, 1, SEGMENT_COUNT);
     let inside = is_within(place.field, first_field(place.segment), FIELD_LIMIT);
-    (place.segment < SEGMENT_COUNT) & inside & (place.component <= COMPONENT_LIMIT)
+    counted & inside & (place.component <= COMPONENT_LIMIT)
 }
 
 // Whether a letter stands for a severity: E, W or I.
@@ -174,7 +214,7 @@ pub fn rule_stands(book: &[u8], at: usize, sets: u8) -> bool
     ensures { λ r. ⌜ r ≡ isRule (ruleOf sets (slice at (at + ruleSize) (now (book .entry)))) ⌝ }
 {
     let place = Place {
-        segment: segment_of(book[at], book[at + 1], book[at + 2]),
+        segment: name_of_letters(book[at], book[at + 1], book[at + 2]),
         field: book[at + 3],
         component: book[at + 4],
     };
@@ -189,7 +229,7 @@ pub fn rule_from(book: &[u8], at: usize) -> Rule
 {
     Rule {
         place: Place {
-            segment: segment_of(book[at], book[at + 1], book[at + 2]),
+            segment: name_of_letters(book[at], book[at + 1], book[at + 2]),
             field: book[at + 3],
             component: book[at + 4],
         },

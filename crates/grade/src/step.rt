@@ -1,10 +1,11 @@
 // The grader: where it stands, and the next finding.
 use crate::finding::Finding;
 use crate::limits::LINKS;
+use crate::limits::NAME_PLACES;
 use crate::limits::SET_PLACES;
 use crate::lookup::link_at;
 use crate::order::out_of_order;
-use crate::rule::segment_of;
+use crate::rule::name_of_letters;
 use crate::walk::Section;
 use crate::within::Field;
 use crate::within::Here;
@@ -61,7 +62,7 @@ pub struct Marks {
 pub fn name_of(seg: &[u8]) -> usize
     ensures { λ r. ⌜ r ≡ nameOf (now (seg .entry)) ⌝ }
 {
-    wide(segment_of(byte_at(seg, 0), byte_at(seg, 1), byte_at(seg, 2)))
+    wide(name_of_letters(byte_at(seg, 0), byte_at(seg, 1), byte_at(seg, 2)))
 }
 
 // A cursor between two segments: nothing is left of the one before.
@@ -72,7 +73,7 @@ fn between(section: Section, next: usize, last: usize) -> Cursor
         here: Here {
             start: 0,
             end: 0,
-            name: 1,
+            name: 2,
             ordinal: 0,
             count: 0,
             single: false,
@@ -103,8 +104,8 @@ pub fn start(section: Section) -> Cursor
 fn finish(table: &[[bool; 11]; 10], section: Section, end: usize, last: usize) -> Opened
     ensures { λ r. ⌜ r ≡ endOpened (outOfOrder (tableSays (now (table .entry)))) (section .«rule_count») end last ⌝ }
 {
-    if out_of_order(table, last, 10) {
-        return Opened::Order(order_finding(10, 0), between(section, end, 11));
+    if out_of_order(table, last, 0) {
+        return Opened::Order(order_finding(0, 0), between(section, end, 11));
     }
     Opened::End
 }
@@ -141,7 +142,7 @@ fn enter(
     ordinal: u32,
     last: usize,
 ) -> Opened
-    requires { ⌜ (at ≤ stop) × (stop < length (now m)) × (1 ≤ length (now starts)) × (name < segmentCount) ⌝ }
+    requires { ⌜ (at ≤ stop) × (stop < length (now m)) × (1 ≤ length (now starts)) × (name ≤ segmentCount) ⌝ }
     ensures { λ r. ⌜ Enters (outOfOrder (tableSays (now (table .entry)))) d (now (m .entry)) (now (starts .exit)) rules first at stop name ordinal last r ⌝ }
 {
     let marks = note_segment(d, &m[at..stop], first < rules, starts);
@@ -182,7 +183,7 @@ fn open_segment(
     section: Section,
     links: &[u16; LINKS],
     starts: &mut [usize],
-    counts: &mut [u32; 10],
+    counts: &mut [u32; NAME_PLACES],
     from: usize,
     last: usize,
 ) -> Opened
@@ -197,7 +198,7 @@ fn open_segment(
             return finish(table, section, end, last);
         }
         let name = name_of(&m[at..stop]);
-        if name < 10 {
+        if name <= 10 {
             let ordinal = counts[name] + 1;
             counts[name] = ordinal;
             let first = link_at(links, name);
@@ -230,7 +231,7 @@ pub fn next(
     sets: &[usize; SET_PLACES],
     links: &[u16; LINKS],
     starts: &mut [usize],
-    counts: &mut [u32; 10],
+    counts: &mut [u32; NAME_PLACES],
     cursor: Cursor,
 ) -> Step
     requires { ⌜ Given (now m) (now book) section (now sets) (now links) × Stands d (now m) (now book) section (now starts) (now counts) cursor × (fieldPlaces ≤ length (now starts)) ⌝ }

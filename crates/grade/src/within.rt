@@ -3,6 +3,7 @@ use crate::broken::breaks_rule;
 use crate::broken::is_required;
 use crate::finding::Finding;
 use crate::limits::LINKS;
+use crate::limits::NAME_PLACES;
 use crate::limits::SET_PLACES;
 use crate::lookup::link_at;
 use crate::lookup::place_at;
@@ -26,7 +27,6 @@ ghost use Rattle.hl7.specs.Refusals.{messageLimit};
 ghost use Rattle.grade.specs.Limits.{fieldPlaces, ruleLimit, segmentCount};
 ghost use Rattle.grade.specs.Rule.{kindFits};
 ghost use Rattle.grade.specs.Standing.{Holds, Placed, rulesIn, setsIn, noRule};
-ghost use Rattle.grade.specs.Order.{theEnd};
 ghost use Rattle.grade.specs.Broken.{severityLetter};
 ghost use Rattle.grade.specs.Rest.{CodesStand, CodesAre, brokenFrom, NextValue, valueFinding, bytesOf, HereStands, Parted, Fielded, SpotStands, Given, segmentRest, orderFinding, NextOfRule, NextWithin};
 
@@ -127,7 +127,7 @@ fn severity_letter(severity: Severity) -> u8
 }
 
 pub fn value_finding(here: Here, rule: Rule, i: usize, repetition: u32) -> Finding
-    requires { ⌜ (here .name < segmentCount) × (i ≤ ruleLimit) ⌝ }
+    requires { ⌜ (here .name ≤ segmentCount) × (i ≤ ruleLimit) ⌝ }
     ensures { λ r. ⌜ r ≡ valueFinding (here .name) (here .ordinal) rule i repetition ⌝ }
 {
     let kind = rule.kind;
@@ -194,7 +194,7 @@ fn open_field(
         &m[start..end],
         starts,
         here.count,
-        part_of(here.name == 0, rule.place.field),
+        part_of(here.name == 1, rule.place.field),
     );
     Field {
         codes,
@@ -306,7 +306,7 @@ pub(crate) fn next_within(
                 return Within::Found(
                     f,
                     Spot {
-                        rule: link_at(links, 10 + at.rule),
+                        rule: link_at(links, NAME_PLACES + at.rule),
                         at: 0,
                         passed: 0,
                         field: Field {
@@ -319,7 +319,7 @@ pub(crate) fn next_within(
             }
             Judged::Nothing => {
                 at = Spot {
-                    rule: link_at(links, 10 + at.rule),
+                    rule: link_at(links, NAME_PLACES + at.rule),
                     at: 0,
                     passed: 0,
                     field: Field {
@@ -335,7 +335,7 @@ pub(crate) fn next_within(
 }
 
 pub fn order_finding(name: usize, ordinal: u32) -> Finding
-    requires { ⌜ name ≤ theEnd ⌝ }
+    requires { ⌜ name ≤ segmentCount ⌝ }
     ensures { λ r. ⌜ r ≡ orderFinding name ordinal ⌝ }
 {
     Finding {

@@ -5,6 +5,7 @@ use native.Mathlib.Omega.{arith}
 use borrow.Author.Needs.{needs}
 use lib.ListN.{length, replicate}
 use Rattle.grade.specs.Order.{outOfOrder, tableSays}
+use Rattle.grade.specs.Limits.{namePlaces}
 use Rattle.grade.specs.Rule.{otherNumber}
 use Rattle.grade.specs.Rest.{gradeFrom, rest, Stands}
 use Rattle.grade.proofs.Stepping.{start-left, start-stands, step-found, step-end, step-less}
@@ -17,7 +18,7 @@ use Rattle.ack.proofs.errs.put_errs_by.Tie as tie
 abbrev Inv-loop : tie.InvT-loop
 Inv-loop table out₀ from d m book section sets links starts₀ counts₀ cursor₀ to₀ fault₀ out starts counts cursor to fault =
     (length out < limit) × (to ≤ limit) × (length starts ≡ length starts₀) × Stands d m book section starts counts cursor
-    × Completes d (gradeFrom (outOfOrder (tableSays table)) d m book section 0 otherNumber (replicate 10 0)) (rest (outOfOrder (tableSays table)) d m book section counts cursor) out₀ from out to fault
+    × Completes d (gradeFrom (outOfOrder (tableSays table)) d m book section 0 otherNumber (replicate namePlaces 0)) (rest (outOfOrder (tableSays table)) d m book section counts cursor) out₀ from out to fault
 
 abbrev μ-loop : tie.MeasureT-loop
 μ-loop table out₀ from d m book section sets links starts₀ counts₀ cursor₀ to₀ fault₀ out starts counts cursor to fault =

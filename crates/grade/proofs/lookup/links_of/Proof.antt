@@ -5,7 +5,7 @@ use native.Mathlib.Omega.{arith}
 use denote.Ref.{now}
 use lib.ListN.{length, getD, set, length-set}
 use borrow.Author.Needs.{needs}
-use Rattle.grade.specs.Limits.{linkLimit}
+use Rattle.grade.specs.Limits.{namePlaces, linkLimit}
 use Rattle.grade.specs.Standing.{rulesIn, Holds}
 use Rattle.grade.proofs.Holding.{rules-length}
 use Rattle.grade.proofs.Linking.{LinkedFrom, linked-none, linked-more, linked-all}
@@ -66,10 +66,10 @@ loop-again c =
     let l = c .before .before .loop in
     let name = c .name-of-rule in
     let few = l .inv .0 .fewRules in
-    let behind = set (l .links) (10 + (l .i - 1)) (getD (l .links) (name .result) 0) in (
+    let behind = set (l .links) (namePlaces + (l .i - 1)) (getD (l .links) (name .result) 0) in (
       l .inv .0,
       omega arith,
-      length-set behind (name .result) (l .i - 1) ∙ length-set (l .links) (10 + (l .i - 1)) (getD (l .links) (name .result) 0) ∙ l .inv .2,
+      length-set behind (name .result) (l .i - 1) ∙ length-set (l .links) (namePlaces + (l .i - 1)) (getD (l .links) (name .result) 0) ∙ l .inv .2,
       linked-more (rulesIn (now (a .book)) (a .section)) (l .i - 1) (l .i) (name .result) (l .links) (omega arith) (omega (arith, rules-length (now (a .book)) (a .section) (l .inv .0))) (omega (arith, few)) (name .ensures .0) (name .ensures .1) (l .inv .3),
     )
 

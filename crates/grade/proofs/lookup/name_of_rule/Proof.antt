@@ -5,6 +5,7 @@ use denote.Ref.{now}
 use lib.ListN.{getD}
 use borrow.Author.Needs.{needs}
 use Rattle.grade.specs.Standing.{rulesIn, noRule}
+use Rattle.grade.proofs.Naming.{counted-bounds}
 use Rattle.grade.proofs.Holding.{its-bytes, its-name, rule-fits, place-limits}
 use Rattle.grade.proofs.lookup.name_of_rule.Statement.{statement}
 use Rattle.grade.proofs.lookup.name_of_rule.Tie as tie
@@ -18,38 +19,38 @@ add-at c =
     let w = its-bytes (now (s .args .book)) (s .args .section) (s .pre .0) (s .args .i) (s .pre .1) in
     omega (arith, w .0)
 
-shared-slice-read-segment-of : tie.Need-shared-slice-read-segment-of
-shared-slice-read-segment-of c =
+shared-slice-read-name-of-letters : tie.Need-shared-slice-read-name-of-letters
+shared-slice-read-name-of-letters c =
     let s = c .before .before in
     let w = its-bytes (now (s .args .book)) (s .args .section) (s .pre .0) (s .args .i) (s .pre .1) in
     omega (arith, w .0)
 
-add-segment-of : tie.Need-add-segment-of
-add-segment-of c =
+add-name-of-letters : tie.Need-add-name-of-letters
+add-name-of-letters c =
     let s = c .before .before in
     let w = its-bytes (now (s .args .book)) (s .args .section) (s .pre .0) (s .args .i) (s .pre .1) in
     omega (arith, w .0)
 
-shared-slice-read-segment-of-2 : tie.Need-shared-slice-read-segment-of-2
-shared-slice-read-segment-of-2 c =
+shared-slice-read-name-of-letters-2 : tie.Need-shared-slice-read-name-of-letters-2
+shared-slice-read-name-of-letters-2 c =
     let s = c .before .before .before in
     let w = its-bytes (now (s .args .book)) (s .args .section) (s .pre .0) (s .args .i) (s .pre .1) in
     omega (arith, w .0)
 
-add-segment-of-2 : tie.Need-add-segment-of-2
-add-segment-of-2 c =
+add-name-of-letters-2 : tie.Need-add-name-of-letters-2
+add-name-of-letters-2 c =
     let s = c .before .before .before in
     let w = its-bytes (now (s .args .book)) (s .args .section) (s .pre .0) (s .args .i) (s .pre .1) in
     omega (arith, w .0)
 
-shared-slice-read-segment-of-3 : tie.Need-shared-slice-read-segment-of-3
-shared-slice-read-segment-of-3 c =
+shared-slice-read-name-of-letters-3 : tie.Need-shared-slice-read-name-of-letters-3
+shared-slice-read-name-of-letters-3 c =
     let s = c .before .before .before .before in
     let w = its-bytes (now (s .args .book)) (s .args .section) (s .pre .0) (s .args .i) (s .pre .1) in
     omega (arith, w .0)
 
-segment-of-requires : tie.Need-segment-of-requires
-segment-of-requires c κs = search needs
+name-of-letters-requires : tie.Need-name-of-letters-requires
+name-of-letters-requires c κs = search needs
 
 wide-requires : tie.Need-wide-requires
 wide-requires c κs = search needs
@@ -58,8 +59,8 @@ returns : tie.Need-returns
 returns c =
     let s = c .before .before .before .before .before .before in
     let rule = getD (rulesIn (now (s .args .book)) (s .args .section)) (s .args .i) noRule in
-    let named = c .wide .ensures .0 ∙ c .before .segment-of .ensures .0 ∙ its-name (now (s .args .book)) (s .args .section) (s .pre .0) (s .args .i) (s .pre .1) in
-    (named, omega (arith, named, place-limits (s .args .section .«set_count») rule (rule-fits (now (s .args .book)) (s .args .section) (s .pre .0) (s .args .i) (s .pre .1)) .segment))
+    let named = c .wide .ensures .0 ∙ c .before .name-of-letters .ensures .0 ∙ its-name (now (s .args .book)) (s .args .section) (s .pre .0) (s .args .i) (s .pre .1) in
+    (named, omega (arith, named, counted-bounds (rule .place .segment) (place-limits (s .args .section .«set_count») rule (rule-fits (now (s .args .book)) (s .args .section) (s .pre .0) (s .args .i) (s .pre .1)) .segment)))
 
 pub name-of-rule-spec : {M : Type 1} → statement M
 name-of-rule-spec =
@@ -67,11 +68,11 @@ name-of-rule-spec =
     (tie.spec
     mul-at
     add-at
-    shared-slice-read-segment-of
-    add-segment-of
-    shared-slice-read-segment-of-2
-    add-segment-of-2
-    shared-slice-read-segment-of-3
-    segment-of-requires
+    shared-slice-read-name-of-letters
+    add-name-of-letters
+    shared-slice-read-name-of-letters-2
+    add-name-of-letters-2
+    shared-slice-read-name-of-letters-3
+    name-of-letters-requires
     wide-requires
     returns)

@@ -18,23 +18,23 @@ use borrow.Author.Needs.{needs}
 use Rattle.grade.proofs.rule.rule_from.Statement.{statement}
 use Rattle.grade.proofs.rule.rule_from.Tie as tie
 
-shared-slice-read-segment-of : tie.Need-shared-slice-read-segment-of
-shared-slice-read-segment-of c = search needs
+shared-slice-read-name-of-letters : tie.Need-shared-slice-read-name-of-letters
+shared-slice-read-name-of-letters c = search needs
 
-add-segment-of : tie.Need-add-segment-of
-add-segment-of c = search needs
+add-name-of-letters : tie.Need-add-name-of-letters
+add-name-of-letters c = search needs
 
-shared-slice-read-segment-of-2 : tie.Need-shared-slice-read-segment-of-2
-shared-slice-read-segment-of-2 c = search needs
+shared-slice-read-name-of-letters-2 : tie.Need-shared-slice-read-name-of-letters-2
+shared-slice-read-name-of-letters-2 c = search needs
 
-add-segment-of-2 : tie.Need-add-segment-of-2
-add-segment-of-2 c = search needs
+add-name-of-letters-2 : tie.Need-add-name-of-letters-2
+add-name-of-letters-2 c = search needs
 
-shared-slice-read-segment-of-3 : tie.Need-shared-slice-read-segment-of-3
-shared-slice-read-segment-of-3 c = search needs
+shared-slice-read-name-of-letters-3 : tie.Need-shared-slice-read-name-of-letters-3
+shared-slice-read-name-of-letters-3 c = search needs
 
-segment-of-requires : tie.Need-segment-of-requires
-segment-of-requires c κs = search needs
+name-of-letters-requires : tie.Need-name-of-letters-requires
+name-of-letters-requires c κs = search needs
 
 add-t12 : tie.Need-add-t12
 add-t12 c = search needs
@@ -106,18 +106,18 @@ returns c =
     let s = c .before .before .before .before .before in
     let g = s .before .before .before .before in
     let a = g .before .before .before .before .before .args in
-    joined (now (a .book)) (a .at) _ _ _ (g .segment-of .ensures .0) (s .severity-at .ensures) (c .kind-at .ensures)
+    joined (now (a .book)) (a .at) _ _ _ (g .name-of-letters .ensures .0) (s .severity-at .ensures) (c .kind-at .ensures)
 
 pub rule-from-spec : {M : Type 1} → statement M
 rule-from-spec =
     tie.close
     (tie.spec
-    shared-slice-read-segment-of
-    add-segment-of
-    shared-slice-read-segment-of-2
-    add-segment-of-2
-    shared-slice-read-segment-of-3
-    segment-of-requires
+    shared-slice-read-name-of-letters
+    add-name-of-letters
+    shared-slice-read-name-of-letters-2
+    add-name-of-letters-2
+    shared-slice-read-name-of-letters-3
+    name-of-letters-requires
     add-t12
     shared-slice-read-t14
     add-t15

@@ -12,8 +12,8 @@ byte-at-requires-2 c κs = search needs
 byte-at-requires-3 : tie.Need-byte-at-requires-3
 byte-at-requires-3 c κs = search needs
 
-segment-of-requires : tie.Need-segment-of-requires
-segment-of-requires c κs = search needs
+name-of-letters-requires : tie.Need-name-of-letters-requires
+name-of-letters-requires c κs = search needs
 
 wide-requires : tie.Need-wide-requires
 wide-requires c κs = search needs
@@ -28,6 +28,6 @@ name-of-spec =
     byte-at-requires
     byte-at-requires-2
     byte-at-requires-3
-    segment-of-requires
+    name-of-letters-requires
     wide-requires
     returns)

@@ -3,6 +3,7 @@ use Prim.Native.Nat.{_-_}
 use native.Mathlib.Omega.{arith}
 use lib.ListN.{drop, length-take, length-drop}
 use Rattle.grade.specs.Standing.{setsIn}
+use Rattle.grade.proofs.Naming.{counted-bounds}
 use Rattle.grade.proofs.Judging.{codes-stand}
 use Rattle.grade.proofs.Spots.{codes-known, rule-found, rule-last, rule-fine}
 use borrow.Author.Needs.{needs}
@@ -50,7 +51,7 @@ value-finding-requires c κs =
     let begin = at-rule .before .before .before .before in
     let a = begin .args in
     let p = begin .pre in
-    (p .3 .counts, omega (arith, p .6, p .1 .fewRules))
+    (counted-bounds (a .here .name) (p .3 .counts) .1, omega (arith, p .6, p .1 .fewRules))
 
 sub-if1 : tie.Need-sub-if1
 sub-if1 c = search needs
