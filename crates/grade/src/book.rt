@@ -155,7 +155,7 @@ fn open_sections(book: &[u8], key: &[u8]) -> Opened
 }
 
 // The book's refusals in their order, or the section with the key. The whole book is checked before any of it is used.
-pub fn open_book(book: &[u8], key: &[u8]) -> Opened
+pub(crate) fn open_book(book: &[u8], key: &[u8]) -> Opened
     ensures { λ r. ⌜ OpensBook (bookRows (now (book .entry)) (now (key .entry))) (siteIn (now (book .entry)) (now (key .entry))) r ⌝ }
 {
     if !head_right(book) {
