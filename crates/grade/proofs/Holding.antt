@@ -1,25 +1,27 @@
 -- What a section that `Holds` has: its rules by number, within their limits, and its sets. Assumes nothing.
-use Prim.Native.Nat.{ℕ, _+_, _*_, _<_, _≤_}
-use mathlib.Core.Path.{_≡_, sym, ap, _∙_}
-use mathlib.Core.Bool.{Bool, true, false, _&&_, _||_}
-use mathlib.Core.List.{List}
-use borrow.Author.Tests.{leb-true, eqb-true}
-use lib.Dec.{eqb, leb, lit≤}
-use lib.ListN.{length, getD}
-use lib.Seq.{slice}
-use Rattle.hl7.specs.Bytes.{within}
-use Rattle.hl7.proofs.Comparing.{and-both}
+use Prim.Native.Nat.{ℕ, zero, suc, _+_, _*_, _<_, _≤_}
+use mathlib.Core.Path.{_≡_, refl, sym, ap, _∙_}
+use mathlib.Core.Bool.{true, _&&_}
+use mathlib.Core.List.{List, [], _∷_, map}
+use native.Mathlib.Decide.{decLt}
+use native.Mathlib.Omega.{arith}
+use borrow.Author.Tests.{leb-true}
+use lib.Dec.{leb}
+use lib.ListN.{length, getD, take}
+use lib.Seq.{slice, getD-take, length-take-le, ext-getD}
+use Rattle.hl7.specs.Bytes.{within, all}
+use Rattle.hl7.proofs.Comparing.{and-both, all-at}
 use Rattle.grade.specs.declared.walk.Section.{Section}
 use Rattle.grade.specs.declared.rule.Kind.{Kind}
 use Rattle.grade.specs.declared.rule.Place.{Place}
 use Rattle.grade.specs.declared.rule.Rule.{Rule}
 use Rattle.grade.specs.declared.rule.RuleRead.{RuleRead}
 use Rattle.grade.specs.Limits.{ruleSize, fieldLimit, componentLimit}
-use Rattle.grade.specs.Reader.{found, itemsOf, times}
+use Rattle.grade.specs.Reader.{found, isFound, itemsOf, times}
 use Rattle.grade.specs.Rule.{counted, nameOfLetters, firstField, placeFits, kindFits, ruleOf, ruleFits}
 use Rattle.grade.specs.Book.{ruleIn, codeSet}
-use Rattle.grade.specs.Standing.{rulesIn, setsIn, noRule, Holds}
-use Rattle.grade.proofs.Readings.{ended, row-at, row-length}
+use Rattle.grade.specs.Standing.{starting, rulesIn, setsIn, noRule, Holds, codesAt, SetAt, Placed}
+use Rattle.grade.proofs.Readings.{then-found, found-same, ended, row-at, row-length, starts-say, starts-stand}
 use Rattle.grade.proofs.Parts.{made-there, rule-found, read-fits}
 
 module _ (b : List ℕ) (s : Section) (h : Holds b s) where
@@ -37,9 +39,6 @@ module _ (b : List ℕ) (s : Section) (h : Holds b s) where
 
   pub rules-length : length (rulesIn b s) ≡ s .«rule_count»
   rules-length = row-length (ruleIn (s .«set_count»)) b (s .«rule_count») (s .«rules_at») (rulesIn b s) (s .«sets_at») rules-read
-
-  pub sets-length : length (setsIn b s) ≡ s .«set_count»
-  sets-length = row-length codeSet b (s .«set_count») (s .«sets_at») (setsIn b s) (h .setsAfter) sets-read
 
   module _ (i : ℕ) (k : i < s .«rule_count») where
     -- the ten bytes of a rule
@@ -67,6 +66,35 @@ module _ (b : List ℕ) (s : Section) (h : Holds b s) where
         let at = s .«rules_at» + ruleSize * i in
         read-fits (s .«set_count») (slice at (at + ruleSize) b) (getD (rulesIn b s) i noRule) (its-bytes .1)
 
+-- each set of the section stands at its place
+pub placed-at : (b : List ℕ) (s : Section) {places : List ℕ} → Placed b s places → Holds b s → (k : ℕ) → k < s .«set_count» → SetAt b (setsIn b s) k (getD places k 0)
+placed-at b s {places} w h k l =
+    let n = s .«set_count» in
+    let q = then-found (times n (starting codeSet) b (s .«sets_at»)) _ (setsIn b s) (h .setsAfter) (sym (starts-say codeSet b itemsOf (λ c e. refl) n (s .«sets_at»)) ∙ sets-read b s h) in
+    let starts : q .0 ≡ take n places = sym (w .starts ∙ ap itemsOf (q .2)) in
+    let sets : map (codesAt b) (take n places) ≡ setsIn b s = ap (map (codesAt b)) (sym starts) ∙ found-same (map (codesAt b) (q .0)) (setsIn b s) (q .1) (h .setsAfter) (q .3) .0 in
+    let long : k < length (take n places) = rw (length-take-le n places (omega (arith, w .sized, h .fewSets))) l in
+    let here : getD (take n places) k 0 ≡ getD places k 0 = getD-take n places k 0 l in
+    rw (← here)
+    (record {
+      stands = all-at (λ at. isFound (codeSet b at)) (take n places) k (ap (all (λ at. isFound (codeSet b at))) (sym starts) ∙ starts-stand codeSet b n (s .«sets_at») (q .0) (q .1) (q .2)) long;
+      codes = sym (ap (λ (ss : List (List (List ℕ))). getD ss k []) (sym sets) ∙ getD-map (codesAt b) (take n places) k long);
+    })
+  where
+    getD-map : {A : Type 0} (f : ℕ → List A) (l : List ℕ) (k : ℕ) → k < length l → getD (map f l) k [] ≡ f (getD l k 0)
+    getD-map f [] k h = absurd (omega arith)
+    getD-map f (x ∷ l) zero h = refl
+    getD-map f (x ∷ l) (suc k) h = getD-map f l k (omega arith)
+
+-- any two results that the contract of `sets_of` allows are equal
+pub sets-once : (b : List ℕ) (s : Section) {p q : List ℕ} → Placed b s p → Placed b s q → p ≡ q
+sets-once b s {p} {q} v w = ext-getD 0 p q (v .sized ∙ sym (w .sized)) (λ k h. by k (decLt k (s .«set_count»)))
+  where
+    by : (k : ℕ) → Dec (k < s .«set_count») → getD p k 0 ≡ getD q k 0
+    by k (yes h) =
+        sym (getD-take (s .«set_count») p k 0 h) ∙ ap (λ (l : List ℕ). getD l k 0) (v .starts ∙ sym (w .starts)) ∙ getD-take (s .«set_count») q k 0 h
+    by k (no h) = v .past k (omega (arith, h)) ∙ sym (w .past k (omega (arith, h)))
+
 -- what the limits say of a place
 pub record PlaceFits (p : Place) : Type 0 where
   pub segment : counted (p .segment) ≡ true
@@ -93,31 +121,7 @@ place-limits sets r h =
 pub kind-limits : (sets : ℕ) (r : Rule) → ruleFits sets r ≡ true → kindFits sets (r .kind) ≡ true
 kind-limits sets r h = and-both (placeFits (r .place)) (kindFits sets (r .kind)) h .1
 
-pub length-limits : (sets low high : ℕ) → kindFits sets (Kind.Length low high) ≡ true → (1 ≤ low) × (low ≤ high)
-length-limits sets low high h =
-    let w = and-both (leb 1 low) (leb low high) h in
-    (leb-true 1 low (w .0), leb-true low high (w .1))
-
 pub code-limits : (sets set : ℕ) → kindFits sets (Kind.Code set) ≡ true → (1 ≤ set) × (set ≤ sets)
 code-limits sets set h =
     let w = and-both (leb 1 set) (leb set sets) h in
     (leb-true 1 set (w .0), leb-true set sets (w .1))
-
-pub time-limits : (sets digits : ℕ) → kindFits sets (Kind.Time digits) ≡ true → (4 ≤ digits) × (digits ≤ 14)
-time-limits sets digits h =
-    or-case (eqb digits 4 || eqb digits 6 || eqb digits 8 || eqb digits 10 || eqb digits 12) (eqb digits 14)
-    (or-case (eqb digits 4 || eqb digits 6 || eqb digits 8 || eqb digits 10) (eqb digits 12)
-    (or-case (eqb digits 4 || eqb digits 6 || eqb digits 8) (eqb digits 10)
-    (or-case (eqb digits 4 || eqb digits 6) (eqb digits 8)
-    (or-case (eqb digits 4) (eqb digits 6) (case 4 (lit≤ tt) (lit≤ tt)) (case 6 (lit≤ tt) (lit≤ tt)))
-    (case 8 (lit≤ tt) (lit≤ tt)))
-    (case 10 (lit≤ tt) (lit≤ tt)))
-    (case 12 (lit≤ tt) (lit≤ tt)))
-    (case 14 (lit≤ tt) (lit≤ tt)) h
-  where
-    or-case : {G : Type 0} (t u : Bool) → (t ≡ true → G) → (u ≡ true → G) → (t || u) ≡ true → G
-    or-case true u f g e = f e
-    or-case false u f g e = g e
-
-    case : (n : ℕ) → 4 ≤ n → n ≤ 14 → eqb digits n ≡ true → (4 ≤ digits) × (digits ≤ 14)
-    case n low high e = rw (eqb-true digits n e) (low, high)

@@ -1,6 +1,6 @@
 -- Laws of `specs/Linked.antt`: the next rule about a name, the links of one rule more, and that the rules passed over give nothing.
 -- Assumes nothing.
-use Prim.Native.Nat.{ℕ, zero, suc, _+_, _≤_, _<_}
+use Prim.Native.Nat.{ℕ, zero, suc, _+_, _-_, _≤_, _<_}
 use mathlib.Core.Path.{_≡_, refl, sym, ap, subst⁻¹, _∙_}
 use mathlib.Core.List.{List, _++_}
 use native.Mathlib.Decide.{decLt, ℕ-discrete}
@@ -8,7 +8,7 @@ use native.Mathlib.Numerals.{add-one}
 use native.Mathlib.Omega.{arith}
 use borrow.Author.Tests.{eq-eqb, ne-eqb}
 use lib.ListN.{length, getD, drop, set, replicate, getD-replicate, length-set, drop-of-length-le}
-use lib.Seq.{drop-cons, getD-set-same, getD-set-other}
+use lib.Seq.{drop-cons, getD-set-same, getD-set-other, ext-getD}
 use Rattle.hl7.specs.declared.place.Delims.{Delims}
 use Rattle.grade.specs.Limits.{namePlaces, linkLimit}
 use Rattle.grade.specs.Standing.{noRule, rulesIn}
@@ -80,17 +80,19 @@ rules-skip d b s name number seg =
 pub record LinkedFrom (rules : List Rule) (i : ℕ) (links : List ℕ) : Type 0 where
   pub first : (name : ℕ) → name < namePlaces → getD links name 0 ≡ nextAbout name i (drop i rules)
   pub after : (j : ℕ) → i ≤ j → j < length rules → getD links (namePlaces + j) 0 ≡ nextAbout (segmentOfRule rules j) (j + 1) (drop (j + 1) rules)
+  pub past : (k : ℕ) → namePlaces + length rules ≤ k → k < linkLimit → getD links k 0 ≡ length rules
 
 pub linked-none : (rules : List Rule) (n : ℕ) → n ≡ length rules → LinkedFrom rules n (replicate linkLimit n)
 linked-none rules n e = record {
   first = λ name h. getD-replicate linkLimit name n 0 (omega arith) ∙ sym (next-none name rules n (omega arith));
   after = λ j h l. absurd (omega arith);
+  past = λ k h l. getD-replicate linkLimit k n 0 l ∙ e;
 }
 
-pub linked-all : (rules : List Rule) (i : ℕ) (links : List ℕ) → i ≤ 0 → LinkedFrom rules i links → Linked rules links
-linked-all rules i links h w =
+pub linked-all : (rules : List Rule) (i : ℕ) (links : List ℕ) → i ≤ 0 → length links ≡ linkLimit → LinkedFrom rules i links → Linked rules links
+linked-all rules i links h sized w =
     let start : i ≡ 0 = omega arith in
-    record { first = λ name l. w .first name l ∙ ap (λ (k : ℕ). nextAbout name k (drop k rules)) start; after = λ j l. w .after j (omega arith) l }
+    record { first = λ name l. w .first name l ∙ ap (λ (k : ℕ). nextAbout name k (drop k rules)) start; after = λ j l. w .after j (omega arith) l; past = w .past; sized = sized }
 
 -- rule i takes the place of the first one of its name, which becomes its next one
 module _ (rules : List Rule) (i k name : ℕ) (links : List ℕ) (more : k ≡ i + 1) (inside : i < length rules) (room : namePlaces + i < length links)
@@ -117,5 +119,21 @@ module _ (rules : List Rule) (i k name : ℕ) (links : List ℕ) (more : k ≡ i
       by (yes e) = rw (e, ← named) (getD-set-same links (namePlaces + i) (getD links name 0) 0 room ∙ old-first name small)
       by (no e) = getD-set-other links (namePlaces + i) (namePlaces + j) (getD links name 0) 0 (λ q. e (omega arith)) ∙ w .after j (omega (arith, e)) l
 
+  new-past : (k : ℕ) → namePlaces + length rules ≤ k → k < linkLimit → getD (set behind name i) k 0 ≡ length rules
+  new-past k h l =
+      getD-set-other behind name k i 0 (λ q. absurd (omega arith)) ∙ getD-set-other links (namePlaces + i) k (getD links name 0) 0 (λ q. absurd (omega arith)) ∙ w .past k h l
+
   pub linked-more : LinkedFrom rules i (set behind name i)
-  linked-more = record { first = new-first; after = new-after }
+  linked-more = record { first = new-first; after = new-after; past = new-past }
+
+-- any two results that the contract of `links_of` allows are equal
+pub links-once : (rules : List Rule) {p q : List ℕ} → Linked rules p → Linked rules q → p ≡ q
+links-once rules {p} {q} v w = ext-getD 0 p q (v .sized ∙ sym (w .sized)) (λ k h. by k (omega (arith, v .sized)) (decLt k namePlaces) (decLt k (namePlaces + length rules)))
+  where
+    by : (k : ℕ) → k < linkLimit → Dec (k < namePlaces) → Dec (k < namePlaces + length rules) → getD p k 0 ≡ getD q k 0
+    by k h (yes l) _ = v .first k l ∙ sym (w .first k l)
+    by k h (no l) (yes m) =
+        let i = k - namePlaces in
+        let e : namePlaces + i ≡ k = omega (arith, l) in
+        rw (← e) (v .after i (omega (arith, l)) ∙ sym (w .after i (omega (arith, l))))
+    by k h (no l) (no m) = v .past k (omega (arith, m)) h ∙ sym (w .past k (omega (arith, m)) h)

@@ -15,11 +15,11 @@ use Rattle.grade.specs.declared.walk.Section.{Section}
 use Rattle.grade.specs.declared.book.Opened.{Opened}
 use Rattle.grade.specs.Limits.{headSize, bookVersion, ruleLimit, setLimit}
 use Rattle.grade.specs.Reader.{Parsed, fault, found, isFound, itemsOf, times}
-use Rattle.grade.specs.Book.{Contents, distinct, keys, sections, headRight, version, decoded, under, malformed, otherVersion, noSection}
+use Rattle.grade.specs.Book.{Contents, section, distinct, keys, sections, headRight, version, decoded, under, malformed, otherVersion, noSection}
 use Rattle.grade.specs.Admission.{bookRows, openedTold}
-use Rattle.grade.specs.Standing.{endOf, textAt, standsAt, contentsAt, siteAt, startOf, siteOf, siteIn, OpensBook, rulesIn, setsIn, Holds}
-use Rattle.grade.proofs.Readings.{then-found, found-same}
-use Rattle.grade.proofs.Parts.{SectionParts, stands-parts, stands-key, starts-say, starts-stand, book-parts}
+use Rattle.grade.specs.Standing.{endOf, textAt, standsAt, contentsAt, siteAt, starting, siteOf, siteIn, OpensBook, rulesIn, setsIn, Holds}
+use Rattle.grade.proofs.Readings.{then-found, found-same, starts-stand}
+use Rattle.grade.proofs.Parts.{SectionParts, stands-parts, stands-key, sections-say, book-parts}
 
 -- ---- the ways out
 
@@ -137,11 +137,11 @@ opened-under b key none = go (sections b headSize) refl (not-false (among key (k
     go (found all end) e m =
         let q = book-parts b all end e in
         let n = getD b headSize 0 in
-        let s = then-found (times n startOf b (headSize + 1)) _ all (length b) (sym (starts-say b n (headSize + 1)) ∙ q .read) in
+        let s = then-found (times n (starting section) b (headSize + 1)) _ all (length b) (sym (sections-say b n (headSize + 1)) ∙ q .read) in
         let says : map (contentsAt b) (s .0) ≡ all = found-same (map (contentsAt b) (s .0)) all (s .1) (length b) (s .3) .0 in
         let d : decoded b ≡ map (contentsAt b) (s .0) = ap itemsOf e ∙ sym says in
         let c =
-        chosen-in b key (s .0) (starts-stand b n (headSize + 1) (s .0) (s .1) (s .2)) (ap (λ (xs : List Contents). distinct (keys xs)) says ∙ q .differ)
+        chosen-in b key (s .0) (starts-stand section b n (headSize + 1) (s .0) (s .1) (s .2)) (ap (λ (xs : List Contents). distinct (keys xs)) says ∙ q .differ)
         (ap (λ (xs : List Contents). among key (keys xs)) (sym d) ∙ m)
         in
         subst (λ (xs : List ℕ). Under b key (siteOf b key xs)) (sym (ap itemsOf (s .2))) (chosen-under b key (s .0) d c)

@@ -1,5 +1,5 @@
 -- What a text, a set, a rule and a section that were read are made of. Assumes nothing.
-use Prim.Native.Nat.{ℕ, zero, suc, _+_, _-_, _*_, _<_, _≤_}
+use Prim.Native.Nat.{ℕ, _+_, _-_, _*_, _<_, _≤_}
 use native.Mathlib.Nat.{add-zero}
 use native.Mathlib.Omega.{arith}
 use mathlib.Core.Path.{_≡_, refl, sym, ap, ap₂, subst, subst₂, _∙_}
@@ -20,11 +20,11 @@ use Rattle.grade.specs.declared.rule.SeverityRead.{SeverityRead}
 use Rattle.grade.specs.declared.rule.Rule.{Rule}
 use Rattle.grade.specs.declared.rule.RuleRead.{RuleRead}
 use Rattle.grade.specs.Limits.{headSize, sectionLimit, keyLimit, ruleLimit, ruleSize, setLimit, codeLimit, codeCountLimit}
-use Rattle.grade.specs.Reader.{Parsed, fault, found, isFound, itemsOf, check, times, byte, run, pair, twoBytes}
+use Rattle.grade.specs.Reader.{Parsed, found, isFound, itemsOf, check, times, byte, run, pair, twoBytes}
 use Rattle.grade.specs.Rule.{nameOfLetters, unused, timeDigits, kindIf, kindOf, isKind, kindFits, severityOf, isSeverity, placeFits, placeOf, ruleWith, ruleOf, isRule, ruleFits}
 use Rattle.grade.specs.Book.{plain, keys, text, section, ruleIn, codeSet, Contents, ruleRead, distinct, nothingAfter, sections}
-use Rattle.grade.specs.Standing.{endOf, mapped, textEnd, textAt, TextFits, standsAt, contentsOf, contentsAt, siteAt, startOf, noRule, SetStands}
-use Rattle.grade.proofs.Readings.{then-found, found-same, check-found, byte-found, run-found, two-found, ended, is-found, row-mapped, row-end, row-inside, row-found, cond-gave}
+use Rattle.grade.specs.Standing.{endOf, mapped, textEnd, textAt, TextFits, standsAt, contentsOf, contentsAt, siteAt, starting, noRule, SetStands}
+use Rattle.grade.proofs.Readings.{then-found, found-same, check-found, byte-found, run-found, two-found, ended, is-found, row-end, row-inside, row-found, cond-gave, starts-say}
 
 -- ---- texts
 
@@ -289,30 +289,9 @@ stands-key b at h =
 
 -- ---- sections in a row, by where they start
 
-pub start-found : (b : List ℕ) (at end : ℕ) → endOf (section b at) ≡ Next.At end → startOf b at ≡ found at end
-start-found b at end h = ap (mapped (λ _. at)) (ended (section b at) end h .1)
-
--- what is read at a start is the section that stands there
-start-says : (b : List ℕ) (at : ℕ) → section b at ≡ mapped (contentsAt b) (startOf b at)
-start-says b at = by (section b at) refl
-  where
-    by : (r : Parsed Contents) → section b at ≡ r → r ≡ mapped (contentsAt b) (mapped (λ _. at) r)
-    by fault e = refl
-    by (found c end) e = ap (λ (x : Contents). found x end) (sym (ap contentsOf e))
-
 -- reading where sections start, and then what stands there, is reading the sections
-pub starts-say : (b : List ℕ) (n at : ℕ) → times n section b at ≡ mapped (map (contentsAt b)) (times n startOf b at)
-starts-say b = row-mapped startOf section (contentsAt b) b (start-says b)
-
-pub starts-stand : (b : List ℕ) (n at : ℕ) (starts : List ℕ) (end : ℕ) → times n startOf b at ≡ found starts end → all (standsAt b) starts ≡ true
-unfolding times all
-starts-stand b zero at starts end q = ap (all (standsAt b)) (sym (found-same [] starts at end q .0))
-starts-stand b (suc n) at starts end q =
-    let s = row-found startOf b (suc n) at starts end (omega arith) q in
-    let m : suc n - 1 ≡ n = omega arith in
-    let t = then-found (section b at) _ (s .0) (s .1) (s .3) in
-    let here : standsAt b (s .0) ≡ true = ap (standsAt b) (sym (found-same at (s .0) (t .1) (s .1) (t .3) .0)) ∙ ap isFound (t .2) in
-    ap (all (standsAt b)) (s .5) ∙ rw here (starts-stand b n (s .1) (s .2) end (rw m at (s .4)))
+pub sections-say : (b : List ℕ) (n at : ℕ) → times n section b at ≡ mapped (map (contentsAt b)) (times n (starting section) b at)
+sections-say b = starts-say section b contentsOf (λ c e. refl)
 
 -- the keys of sections are the texts with which they start
 pub keys-texts : (b starts : List ℕ) → all (standsAt b) starts ≡ true → keys (map (contentsAt b) starts) ≡ map (textAt b) starts

@@ -2,14 +2,16 @@
 use Prim.Native.Nat.{ℕ, zero, suc, _+_, _-_, _*_, _<_, _≤_}
 use native.Mathlib.Nat.{not-suc-le-zero, le-of-suc-le-suc, mul-zero, mul-suc, add-zero}
 use native.Mathlib.Omega.{arith}
+use native.Mathlib.Numerals.{add-one}
 use mathlib.Core.Path.{_≡_, refl, sym, ap, _∙_}
 use mathlib.Core.List.{List, [], _∷_, _++_, map, append-assoc, append-nil}
 use mathlib.Core.Bool.{Bool, true, false, cond, false≢true}
 use borrow.Author.Tests.{leb-true}
 use lib.Dec.{leb}
-use lib.ListN.{length, getD}
-use lib.Seq.{slice}
-use Rattle.grade.specs.Standing.{endOf, mapped}
+use lib.ListN.{length, getD, take, set}
+use lib.Seq.{slice, take-suc-set}
+use Rattle.hl7.specs.Bytes.{all}
+use Rattle.grade.specs.Standing.{endOf, mapped, starting}
 use Rattle.grade.specs.declared.walk.Next.{Next}
 use Rattle.grade.specs.Reader.{Parsed, fault, found, isFound, itemsOf, Reader, andThen, check, byte, pair, twoBytes, run, times}
 
@@ -204,3 +206,43 @@ module _ {A : Type 0} (p : Reader A) (b : List ℕ) where
       let s = row-found (suc n) at xs e (omega arith) q in
       let m : suc n - 1 ≡ n = omega arith in
       row-inside f n (s .1) (s .2) e (f at (s .0) (s .1) (s .3)) (rw m at (s .4))
+
+-- ---- a row by where its parts start
+
+module _ {A : Type 0} (p : Reader A) (b : List ℕ) where
+  pub start-found : (at end : ℕ) → endOf (p b at) ≡ Next.At end → starting p b at ≡ found at end
+  start-found at end h = ap (mapped (λ _. at)) (ended (p b at) end h .1)
+
+  -- each can be read where it starts
+  pub starts-stand : (n at : ℕ) (starts : List ℕ) (end : ℕ) → times n (starting p) b at ≡ found starts end → all (λ at. isFound (p b at)) starts ≡ true
+  unfolding times all
+  starts-stand zero at starts end q = ap (all (λ at. isFound (p b at))) (sym (found-same [] starts at end q .0))
+  starts-stand (suc n) at starts end q =
+      let s = row-found (starting p) b (suc n) at starts end (omega arith) q in
+      let m : suc n - 1 ≡ n = omega arith in
+      let t = then-found (p b at) _ (s .0) (s .1) (s .3) in
+      let here : isFound (p b (s .0)) ≡ true = ap (λ (k : ℕ). isFound (p b k)) (sym (found-same at (s .0) (t .1) (s .1) (t .3) .0)) ∙ ap isFound (t .2) in
+      ap (all (λ at. isFound (p b at))) (s .5) ∙ rw here (starts-stand n (s .1) (s .2) end (rw m at (s .4)))
+
+  -- reading where they start, and then what stands there, is reading them
+  pub starts-say : (value : Parsed A → A) → ((a : A) (e : ℕ) → value (found a e) ≡ a) → (n at : ℕ) → times n p b at ≡ mapped (map (λ at. value (p b at))) (times n (starting p) b at)
+  starts-say value is = row-mapped (starting p) p (λ at. value (p b at)) b (λ at. by at (p b at) refl)
+    where
+      by : (at : ℕ) (r : Parsed A) → p b at ≡ r → r ≡ mapped (λ at. value (p b at)) (mapped (λ _. at) r)
+      by at fault e = refl
+      by at (found a end) e = ap (λ (x : A). found x end) (sym (ap value e ∙ is a end))
+
+  -- a loop that notes them: one more, and all of them
+  module _ (count i from : ℕ) (starts : List ℕ) {whole : Parsed (List ℕ)} (w : whole ≡ after (take i starts) (times (count - i) (starting p) b from)) where
+    pub noted-more : (end : ℕ) → i < count → i < length starts → endOf (p b from) ≡ Next.At end →
+        whole ≡ after (take (i + 1) (set starts i from)) (times (count - (i + 1)) (starting p) b end)
+    noted-more end h k e =
+        let q : take (i + 1) (set starts i from) ≡ take i starts ++ (from ∷ []) = rw (add-one, take-suc-set starts i from k) in
+        let m : count - (i + 1) ≡ count - i - 1 = omega arith in
+        w ∙ rw (q, m) (row-next (starting p) b (take i starts) (count - i) from end from (omega arith) (start-found from end e))
+
+    pub noted-fault : i < count → endOf (p b from) ≡ Next.Fault → whole ≡ fault
+    noted-fault h e = w ∙ row-fault (starting p) b (take i starts) (count - i) from (omega arith) (ap (mapped (λ _. from)) (faulted (p b from) e))
+
+    pub noted-all : i ≡ count → whole ≡ found (take count starts) from
+    noted-all e = rw e at (w ∙ row-none (starting p) b (take i starts) (count - i) from (omega arith))

@@ -3,7 +3,7 @@ use Prim.Native.Nat.{ℕ, _+_, _*_, _<_, _≤_}
 use mathlib.Core.Path.{_≡_}
 use mathlib.Core.Bool.{Bool, true, false, cond}
 use mathlib.Core.List.{List, [], _∷_}
-use lib.ListN.{length, getD}
+use lib.ListN.{length, getD, take}
 use lib.Seq.{slice}
 use Rattle.hl7.specs.Bytes.{same}
 use Rattle.hl7.specs.Place.{delimsOf}
@@ -36,6 +36,10 @@ upTo a (Next.At end) = found a end
 -- the same reading, with another value
 abbrev pub mapped : {A B : Type 0} → (A → B) → Parsed A → Parsed B
 mapped f r = andThen r (λ a after. found (f a) after)
+
+-- something is read, and where it starts is kept of it
+abbrev pub starting : {A : Type 0} → Reader A → Reader ℕ
+starting p b at = mapped (λ _. at) (p b at)
 
 -- ---- texts
 
@@ -80,13 +84,9 @@ siteAt b at =
       «set_count» = getD b (textEnd b at + 2) 0;
     }
 
--- a section is read, and where it starts is kept of it
-abbrev pub startOf : Reader ℕ
-startOf b at = mapped (λ _. at) (section b at)
-
 -- where the sections of a book start
 abbrev pub startsIn : List ℕ → List ℕ
-startsIn b = itemsOf (times (getD b headSize 0) startOf b (headSize + 1))
+startsIn b = itemsOf (times (getD b headSize 0) (starting section) b (headSize + 1))
 
 -- where the section with the key stands, of those that start at the positions
 unfoldable pub siteOf : List ℕ → List ℕ → List ℕ → Section
@@ -109,6 +109,7 @@ pub record AdmitsBy (rows : List Row) (d : Delims) (msh b : List ℕ) (r : Admit
   pub toldIs : admittedTold r ≡ firstRow rows
   pub by : firstRow rows .number ≡ 0 → r ≡ By (siteIn b (keyOf d msh)) (headerOf d msh)
 
+-- a message and a book: rows 1 to 9
 abbrev pub Admits : (m b : List ℕ) → Admitted → Type 0
 Admits m b r = AdmitsBy (admitRows m b) (delimsOf m) (mshOf m) b r
 
@@ -152,10 +153,12 @@ pub record SetAt (b : List ℕ) (sets : List (List (List ℕ))) (k at : ℕ) : T
   pub stands : SetStands b at
   pub codes : codesAt b at ≡ getD sets k []
 
--- each of the sets stands at its position, of so many
-abbrev pub SetsAt : List ℕ → List (List (List ℕ)) → ℕ → List ℕ → Type 0
-SetsAt b sets count places = (k : ℕ) → k < count → SetAt b sets k (getD places k 0)
+-- where each of count sets stands that stand in a row from a position on, and 0 behind these places
+pub record NotedSets (b : List ℕ) (at count : ℕ) (places : List ℕ) : Type 0 where
+  pub sized : length places ≡ setLimit
+  pub starts : take count places ≡ itemsOf (times count (starting codeSet) b at)
+  pub past : (k : ℕ) → count ≤ k → getD places k 0 ≡ 0
 
--- each set of a section stands at its position
+-- where each set of a section stands
 abbrev pub Placed : List ℕ → Section → List ℕ → Type 0
-Placed b s places = SetsAt b (setsIn b s) (s .«set_count») places
+Placed b s places = NotedSets b (s .«sets_at») (s .«set_count») places

@@ -8,9 +8,9 @@ ghost use Rattle.hl7.specs.Bytes.{all, among};
 ghost use Rattle.hl7.specs.Refusals.{row};
 ghost use Rattle.grade.specs.Limits.{headSize};
 ghost use Rattle.grade.specs.Reader.{isFound, times};
-ghost use Rattle.grade.specs.Book.{distinct, headRight, sections, noSection};
+ghost use Rattle.grade.specs.Book.{section, distinct, headRight, sections, noSection};
 ghost use Rattle.grade.specs.Admission.{bookRows};
-ghost use Rattle.grade.specs.Standing.{upTo, textAt, TextFits, TellsPlain, standsAt, siteAt, startOf, siteOf, siteIn, OpensBook};
+ghost use Rattle.grade.specs.Standing.{upTo, textAt, TextFits, TellsPlain, standsAt, siteAt, starting, siteOf, siteIn, OpensBook};
 use crate::limits::BOOK_LIMIT;
 use crate::limits::BOOK_VERSION;
 use crate::limits::HEAD_SIZE;
@@ -42,7 +42,7 @@ fn walk_sections(
     starts: &mut [usize],
 ) -> Next
     requires { ⌜ TellsPlain (now table) × (count ≤ length (now starts)) ⌝ }
-    ensures { λ r. ⌜ times count startOf (now (book .entry)) at ≡ upTo (take count (now (starts .exit))) r ⌝ }
+    ensures { λ r. ⌜ times count (starting section) (now (book .entry)) at ≡ upTo (take count (now (starts .exit))) r ⌝ }
 {
     let mut from = at;
     let mut i = 0;
@@ -155,7 +155,7 @@ fn open_sections(book: &[u8], key: &[u8]) -> Opened
 }
 
 // The book's refusals in their order, or the section with the key. The whole book is checked before any of it is used.
-pub fn open_book(book: &[u8], key: &[u8]) -> Opened
+pub(crate) fn open_book(book: &[u8], key: &[u8]) -> Opened
     ensures { λ r. ⌜ OpensBook (bookRows (now (book .entry)) (now (key .entry))) (siteIn (now (book .entry)) (now (key .entry))) r ⌝ }
 {
     if !head_right(book) {

@@ -54,7 +54,7 @@ fn year_of(v: &[u8]) -> usize
     100 * pair_at(v, 0) + pair_at(v, 2)
 }
 
-pub fn is_date(v: &[u8]) -> bool
+pub(crate) fn is_date(v: &[u8]) -> bool
     ensures { λ r. ⌜ r ≡ isDate (now (v .entry)) ⌝ }
 {
     (v.len() == 8) & (digit_run(v) == 8) & is_real_date(year_of(v), pair_at(v, 4), pair_at(v, 6))
@@ -106,7 +106,7 @@ fn is_fraction(v: &[u8]) -> bool
     (byte_at(v, 0) == b'.') & ((1 <= digits) & (digits <= 4)) & is_zone_or_none(after(rest, digits))
 }
 
-pub fn is_time(v: &[u8], low: usize) -> bool
+pub(crate) fn is_time(v: &[u8], low: usize) -> bool
     ensures { λ r. ⌜ r ≡ isTime low (now (v .entry)) ⌝ }
 {
     let digits = digit_run(v);

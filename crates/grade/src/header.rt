@@ -20,7 +20,7 @@ pub struct Header {
 }
 
 // Where a component of MSH stands, in the first repetition of its field.
-pub fn msh_part(
+pub(crate) fn msh_part(
     d: Delims,
     msh: &[u8],
     starts: &[usize],
@@ -76,7 +76,7 @@ fn has_processing_id(d: Delims, msh: &[u8], starts: &[usize], count: usize) -> b
     is_processing_id(&msh[start..end])
 }
 
-pub fn header_of(d: Delims, msh: &[u8], starts: &[usize], count: usize) -> Header
+pub(crate) fn header_of(d: Delims, msh: &[u8], starts: &[usize], count: usize) -> Header
     requires { ⌜ MshNoted d (now msh) (now starts) count ⌝ }
     ensures { λ r. ⌜ r ≡ headerOf d (now (msh .entry)) ⌝ }
 {

@@ -7,7 +7,7 @@ ghost use Rattle.hl7.specs.Bytes.{among};
 ghost use Rattle.grade.specs.Limits.{codeLimit, linkLimit, namePlaces, setLimit};
 ghost use Rattle.grade.specs.Reader.{isFound, itemsOf, times};
 ghost use Rattle.grade.specs.Book.{text, codeSet};
-ghost use Rattle.grade.specs.Standing.{endOf, rulesIn, noRule, Holds, SetStands, codesAt, SetsAt, Placed};
+ghost use Rattle.grade.specs.Standing.{endOf, rulesIn, noRule, Holds, SetStands, codesAt, NotedSets, Placed};
 ghost use Rattle.grade.specs.Linked.{Linked};
 ghost use Rattle.grade.specs.declared.walk.Next.{Next};
 use crate::limits::LINKS;
@@ -26,7 +26,7 @@ use hl7::bytes::wide;
 use hl7::bytes::wide16;
 
 // The rule with a number, counted from 0.
-pub fn rule_at(book: &[u8], section: Section, i: usize) -> Rule
+pub(crate) fn rule_at(book: &[u8], section: Section, i: usize) -> Rule
     requires { ⌜ Holds (now book) section × (i < section .«rule_count») ⌝ }
     ensures { λ r. ⌜ r ≡ getD (rulesIn (now (book .entry)) section) i noRule ⌝ }
 {
@@ -62,7 +62,7 @@ pub fn links_of(book: &[u8], section: Section) -> [u16; LINKS]
 }
 
 // The link with a number.
-pub fn link_at(links: &[u16; LINKS], k: usize) -> usize
+pub(crate) fn link_at(links: &[u16; LINKS], k: usize) -> usize
     requires { ⌜ k < linkLimit ⌝ }
     ensures { λ r. ⌜ r ≡ getD (now (links .entry)) k 0 ⌝ }
 {
@@ -94,7 +94,7 @@ fn set_after(book: &[u8], at: usize) -> usize
 // Where each of count sets stands, the first at a position.
 fn note_sets(book: &[u8], at: usize, count: usize) -> [usize; SET_PLACES]
     requires { ⌜ (isFound (times count codeSet (now book) at) ≡ true) × (count ≤ setLimit) ⌝ }
-    ensures { λ r. ⌜ SetsAt (now (book .entry)) (itemsOf (times count codeSet (now (book .entry)) at)) count r ⌝ }
+    ensures { λ r. ⌜ NotedSets (now (book .entry)) at count r ⌝ }
 {
     let mut places = [0usize; SET_PLACES];
     let mut from = at;
@@ -118,7 +118,7 @@ pub fn sets_of(book: &[u8], section: Section) -> [usize; SET_PLACES]
 }
 
 // The place with a number.
-pub fn place_at(places: &[usize; SET_PLACES], k: usize) -> usize
+pub(crate) fn place_at(places: &[usize; SET_PLACES], k: usize) -> usize
     requires { ⌜ k < setLimit ⌝ }
     ensures { λ r. ⌜ r ≡ getD (now (places .entry)) k 0 ⌝ }
 {
@@ -143,7 +143,7 @@ fn among_codes(book: &[u8], at: usize, count: usize, value: &[u8]) -> bool
 }
 
 // The value is a code of the set that stands at a position.
-pub fn has_code(book: &[u8], at: usize, value: &[u8]) -> bool
+pub(crate) fn has_code(book: &[u8], at: usize, value: &[u8]) -> bool
     requires { ⌜ SetStands (now book) at ⌝ }
     ensures { λ r. ⌜ r ≡ among (now (value .entry)) (codesAt (now (book .entry)) at) ⌝ }
 {

@@ -21,7 +21,7 @@ pub const FOLLOW: [[bool; 11]; 10] = [
 ];
 
 // Whether a name, or the end, may not follow the counted name before it, by the table.
-pub fn out_of_order(table: &[[bool; 11]; 10], before: usize, name: usize) -> bool
+pub(crate) fn out_of_order(table: &[[bool; 11]; 10], before: usize, name: usize) -> bool
     ensures { λ r. ⌜ r ≡ outOfOrder (tableSays (now (table .entry))) before name ⌝ }
 {
     if before == 0 {

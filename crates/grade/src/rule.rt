@@ -82,14 +82,14 @@ const OBX: u32 = 0x4F4258;
 const NTE: u32 = 0x4E5445;
 
 // Three letters as one number.
-pub fn letters(a: u8, b: u8, c: u8) -> u32
+fn letters(a: u8, b: u8, c: u8) -> u32
     ensures { λ r. ⌜ r ≡ lettersNumber a b c ⌝ }
 {
     (a as u32) * 65536 + (b as u32) * 256 + (c as u32)
 }
 
 // The number of the name with these three letters.
-pub fn name_of_letters(a: u8, b: u8, c: u8) -> u8
+pub(crate) fn name_of_letters(a: u8, b: u8, c: u8) -> u8
     ensures { λ r. ⌜ (r ≡ nameOfLetters a b c) × (r ≤ 11) ⌝ }
 {
     match letters(a, b, c) {
@@ -195,7 +195,7 @@ fn kind_at(number: u8, set: u8, low: u8, high: u8) -> Kind
 }
 
 // The code that ERR-3 gives where a rule of the kind is broken.
-pub fn error_code(kind: Kind) -> u16
+pub(crate) fn error_code(kind: Kind) -> u16
     ensures { λ r. ⌜ r ≡ errorCode kind ⌝ }
 {
     match kind {
@@ -209,7 +209,7 @@ pub fn error_code(kind: Kind) -> u16
 }
 
 // Whether the ten bytes at a position say a rule, in a section with so many sets.
-pub fn rule_stands(book: &[u8], at: usize, sets: u8) -> bool
+pub(crate) fn rule_stands(book: &[u8], at: usize, sets: u8) -> bool
     requires { ⌜ at + ruleSize ≤ length (now book) ⌝ }
     ensures { λ r. ⌜ r ≡ isRule (ruleOf sets (slice at (at + ruleSize) (now (book .entry)))) ⌝ }
 {
@@ -223,7 +223,7 @@ pub fn rule_stands(book: &[u8], at: usize, sets: u8) -> bool
 }
 
 // The rule that they say, where they say one: nothing is checked again.
-pub fn rule_from(book: &[u8], at: usize) -> Rule
+pub(crate) fn rule_from(book: &[u8], at: usize) -> Rule
     requires { ⌜ at + ruleSize ≤ length (now book) ⌝ }
     ensures { λ r. ⌜ ((sets : ℕ) (rule : Rule) → ruleOf sets (slice at (at + ruleSize) (now (book .entry))) ≡ RuleRead.Is rule → r ≡ rule) ⌝ }
 {

@@ -59,7 +59,7 @@ pub struct Marks {
 }
 
 // The number of a segment's name.
-pub fn name_of(seg: &[u8]) -> usize
+fn name_of(seg: &[u8]) -> usize
     ensures { λ r. ⌜ r ≡ nameOf (now (seg .entry)) ⌝ }
 {
     wide(name_of_letters(byte_at(seg, 0), byte_at(seg, 1), byte_at(seg, 2)))

@@ -57,7 +57,7 @@ pub(crate) fn digit_at(v: &[u8], at: usize) -> usize
 
 // ---- LENGTH and NUMBER
 
-pub fn has_length(v: &[u8], low: usize, high: usize) -> bool
+pub(crate) fn has_length(v: &[u8], low: usize, high: usize) -> bool
     ensures { λ r. ⌜ r ≡ hasLength low high (now (v .entry)) ⌝ }
 {
     (low <= v.len()) & (v.len() <= high)
@@ -71,7 +71,7 @@ fn is_unsigned(v: &[u8]) -> bool
     (digits + points == v.len()) & (points <= 1) & (1 <= digits)
 }
 
-pub fn is_number(v: &[u8]) -> bool
+pub(crate) fn is_number(v: &[u8]) -> bool
     ensures { λ r. ⌜ r ≡ isNumber (now (v .entry)) ⌝ }
 {
     is_unsigned(after(v, pick(is_sign(byte_at(v, 0)), 1, 0)))

@@ -75,7 +75,7 @@ fn repetition_end(fld: &[u8], tilde: u8, single: bool, at: usize) -> usize
 }
 
 // The first repetition from a position of a field on that breaks a rule, so many having been passed; single: the field is known to have no tilde.
-pub fn next_value(
+fn next_value(
     d: Delims,
     fld: &[u8],
     single: bool,
@@ -126,7 +126,7 @@ fn severity_letter(severity: Severity) -> u8
     }
 }
 
-pub fn value_finding(here: Here, rule: Rule, i: usize, repetition: u32) -> Finding
+fn value_finding(here: Here, rule: Rule, i: usize, repetition: u32) -> Finding
     requires { ⌜ (here .name ≤ segmentCount) × (i ≤ ruleLimit) ⌝ }
     ensures { λ r. ⌜ r ≡ valueFinding (here .name) (here .ordinal) rule i repetition ⌝ }
 {
@@ -145,7 +145,7 @@ pub fn value_finding(here: Here, rule: Rule, i: usize, repetition: u32) -> Findi
 }
 
 // Where the codes of a kind's set stand, if it has one.
-pub fn codes_of(book: &[u8], section: Section, sets: &[usize; SET_PLACES], kind: Kind) -> usize
+fn codes_of(book: &[u8], section: Section, sets: &[usize; SET_PLACES], kind: Kind) -> usize
     requires { ⌜ Holds (now book) section × Placed (now book) section (now sets) × (kindFits (section .«set_count») kind ≡ true) ⌝ }
     ensures { λ r. ⌜ CodesAre (now (book .entry)) (setsIn (now (book .entry)) section) kind r ⌝ }
 {
@@ -334,7 +334,7 @@ pub(crate) fn next_within(
     Within::Nothing
 }
 
-pub fn order_finding(name: usize, ordinal: u32) -> Finding
+pub(crate) fn order_finding(name: usize, ordinal: u32) -> Finding
     requires { ⌜ name ≤ segmentCount ⌝ }
     ensures { λ r. ⌜ r ≡ orderFinding name ordinal ⌝ }
 {

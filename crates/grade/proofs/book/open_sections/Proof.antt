@@ -15,12 +15,13 @@ use Rattle.grade.specs.declared.walk.Next.{Next}
 use Rattle.grade.specs.declared.book.Opened.{Opened}
 use Rattle.grade.specs.Limits.{headSize, sectionLimit}
 use Rattle.grade.specs.Reader.{fault, found, isFound, itemsOf, times}
-use Rattle.grade.specs.Standing.{upTo, textAt, TextFits, standsAt, contentsAt, startOf, siteOf, siteIn, OpensBook}
-use Rattle.grade.specs.Book.{distinct, sections, decoded, noSection}
+use Rattle.grade.specs.Standing.{upTo, textAt, TextFits, standsAt, contentsAt, starting, siteOf, siteIn, OpensBook}
+use Rattle.grade.specs.Book.{section, distinct, sections, decoded, noSection}
 use Rattle.grade.specs.Strict.{countFrom}
 use Rattle.hl7.proofs.Comparing.{and-both, all-at}
 use Rattle.grade.proofs.Following.{tells-plain}
-use Rattle.grade.proofs.Parts.{stands-key, starts-say, starts-stand, keys-texts}
+use Rattle.grade.proofs.Readings.{starts-stand}
+use Rattle.grade.proofs.Parts.{stands-key, sections-say, keys-texts}
 use Rattle.grade.proofs.Opening.{opens-refused, opens-as}
 use borrow.Author.Needs.{needs}
 use Rattle.grade.proofs.book.open_sections.Statement.{statement}
@@ -48,34 +49,34 @@ module _ (b key : List ℕ) where
       few : getD b 5 0 ≤ sectionLimit
       few = leb-true (getD b 5 0) sectionLimit (and-both (leb 1 (getD b 5 0)) (leb (getD b 5 0) sectionLimit) l .1)
 
-      module _ (starts : List ℕ) (r : Next) (w : times (getD b 5 0) startOf b 6 ≡ upTo (take (getD b 5 0) starts) r) where
+      module _ (starts : List ℕ) (r : Next) (w : times (getD b 5 0) (starting section) b 6 ≡ upTo (take (getD b 5 0) starts) r) where
         bad-section : r ≡ Next.Fault → Gives Opened.Malformed
         unfolding sections
-        bad-section e = at-fault (rw (le-leb 6 (length b) h, l, starts-say b (getD b 5 0) 6, w, e))
+        bad-section e = at-fault (rw (le-leb 6 (length b) h, l, sections-say b (getD b 5 0) 6, w, e))
 
         module _ (end : ℕ) (e : r ≡ Next.At end) where
-          walked : times (getD b 5 0) startOf b 6 ≡ found (take (getD b 5 0) starts) end
+          walked : times (getD b 5 0) (starting section) b 6 ≡ found (take (getD b 5 0) starts) end
           walked = w ∙ ap (upTo (take (getD b 5 0) starts)) e
 
           stand : all (standsAt b) (take (getD b 5 0) starts) ≡ true
-          stand = starts-stand b (getD b 5 0) 6 (take (getD b 5 0) starts) end walked
+          stand = starts-stand section b (getD b 5 0) 6 (take (getD b 5 0) starts) end walked
 
           texts : (k : ℕ) → k < length (take (getD b 5 0) starts) → TextFits b (getD (take (getD b 5 0) starts) k 0)
           texts k m = stands-key b (getD (take (getD b 5 0) starts) k 0) (all-at (standsAt b) (take (getD b 5 0) starts) k stand m) .0
 
           trailing : (end ≡ length b → ⊥) → Gives Opened.Malformed
           unfolding sections
-          trailing n = at-fault (rw (le-leb 6 (length b) h, l, starts-say b (getD b 5 0) 6, walked, ne-eqb end (length b) n))
+          trailing n = at-fault (rw (le-leb 6 (length b) h, l, sections-say b (getD b 5 0) 6, walked, ne-eqb end (length b) n))
 
           module _ (n : end ≡ length b) where
             repeated : distinct (map (textAt b) (take (getD b 5 0) starts)) ≡ false → Gives Opened.Malformed
             unfolding sections
-            repeated d = at-fault (rw (le-leb 6 (length b) h, l, starts-say b (getD b 5 0) 6, walked, eq-eqb end (length b) n, keys-texts b (take (getD b 5 0) starts) stand, d))
+            repeated d = at-fault (rw (le-leb 6 (length b) h, l, sections-say b (getD b 5 0) 6, walked, eq-eqb end (length b) n, keys-texts b (take (getD b 5 0) starts) stand, d))
 
             module _ (d : distinct (map (textAt b) (take (getD b 5 0) starts)) ≡ true) where
               read : sections b headSize ≡ found (map (contentsAt b) (take (getD b 5 0) starts)) end
               unfolding sections
-              read = rw (le-leb 6 (length b) h, l, starts-say b (getD b 5 0) 6, walked, eq-eqb end (length b) n, keys-texts b (take (getD b 5 0) starts) stand, d)
+              read = rw (le-leb 6 (length b) h, l, sections-say b (getD b 5 0) 6, walked, eq-eqb end (length b) n, keys-texts b (take (getD b 5 0) starts) stand, d)
 
               whole : {o : Opened} → OpensBook (row 9 (not (among key (map (textAt b) (take (getD b 5 0) starts)))) ∷ []) (siteOf b key (take (getD b 5 0) starts)) o → Gives o
               unfolding firstRow noSection decoded

@@ -77,7 +77,7 @@ returns : tie.Need-returns Inv-loop μ-loop
 returns c =
     let a = c .before .before .before .args in
     let l = c .before .loop in
-    linked-all (rulesIn (now (a .book)) (a .section)) (l .i) (l .links) (omega arith) (l .inv .3)
+    linked-all (rulesIn (now (a .book)) (a .section)) (l .i) (l .links) (omega arith) (l .inv .2) (l .inv .3)
 
 pub links-of-spec : {M : Type 1} → statement M
 links-of-spec =

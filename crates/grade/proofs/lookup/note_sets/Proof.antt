@@ -1,75 +1,65 @@
--- `grade::lookup::note_sets` meets its contract: the sets passed stand where it is noted, and those left are the list of sets from i on.
+-- `grade::lookup::note_sets` meets its contract: the places noted so far, put before those of the sets that are left, are all the places.
 -- Assumes nothing.
-use Prim.Native.Nat.{ℕ, _+_, _-_, _<_, _≤_}
+use Prim.Native.Nat.{ℕ, zero, suc, _+_, _-_, _<_, _≤_}
 use mathlib.Core.Path.{_≡_, refl, sym, _∙_, ap}
 use mathlib.Core.Bool.{true}
-use mathlib.Core.List.{List, []}
+use mathlib.Core.List.{List, map}
 use native.Mathlib.Nat.{sub-zero}
-use native.Mathlib.Decide.{ℕ-discrete}
 use native.Mathlib.Omega.{arith}
 use denote.Ref.{now}
-use lib.ListN.{length, getD, drop, set, length-set}
-use lib.Seq.{getD-set-same, getD-set-other}
+use lib.ListN.{length, getD, take, set, replicate, length-set}
+use lib.Seq.{getD-set-other}
 use borrow.Author.Needs.{needs}
-use Rattle.hl7.proofs.Comparing.{drop-head, drop-rest}
-use Rattle.grade.specs.declared.walk.Next.{Next}
 use Rattle.grade.specs.Limits.{setLimit}
-use Rattle.grade.specs.Reader.{found, isFound, itemsOf, times}
-use Rattle.grade.specs.Standing.{endOf, SetAt, SetsAt}
+use Rattle.grade.specs.Reader.{Parsed, fault, found, isFound, itemsOf, times}
+use Rattle.grade.specs.Standing.{mapped, starting, SetStands, codesAt}
 use Rattle.grade.specs.Book.{codeSet}
-use Rattle.grade.proofs.Readings.{is-found, row-found}
+use Rattle.grade.proofs.Readings.{then-found, is-found, row-found, after, after-nil, starts-say, noted-more, noted-all}
 use Rattle.grade.proofs.lookup.note_sets.Statement.{statement}
 use Rattle.grade.proofs.lookup.note_sets.Tie as tie
 
 abbrev Inv-loop : tie.InvT-loop
 Inv-loop book at count places₀ from₀ i₀ places from i =
-    (i ≤ count) × (count ≤ setLimit) × (length places ≡ setLimit) × SetsAt book (itemsOf (times count codeSet book at)) i places
-    × ((end : ℕ) × (times (count - i) codeSet book from ≡ found (drop i (itemsOf (times count codeSet book at))) end))
+    (i ≤ count) × (count ≤ setLimit) × (length places ≡ setLimit) × (isFound (times count (starting codeSet) book at) ≡ true)
+    × (times count (starting codeSet) book at ≡ after (take i places) (times (count - i) (starting codeSet) book from))
+    × ((k : ℕ) → i ≤ k → getD places k 0 ≡ 0)
 
 abbrev μ-loop : tie.MeasureT-loop
 μ-loop book at count places₀ from₀ i₀ places from i = count - i
 
-none-passed : (b : List ℕ) (at count : ℕ) → isFound (times count codeSet b at) ≡ true →
-    (end : ℕ) × (times (count - 0) codeSet b at ≡ found (itemsOf (times count codeSet b at)) end)
-none-passed b at count f =
-    let w = is-found (times count codeSet b at) f in
-    (w .1, rw sub-zero (w .2 ∙ ap (λ (xs : List (List (List ℕ))). found xs (w .1)) (sym (ap itemsOf (w .2)))))
-
--- the set with number i, over plain variables
-module _ (b : List ℕ) (sets : List (List (List ℕ))) (count i from end : ℕ) (h : i < count) (q : times (count - i) codeSet b from ≡ found (drop i sets) end) where
-  this : (m : ℕ) × (codeSet b from ≡ found (getD sets i []) m) × (times (count - (i + 1)) codeSet b m ≡ found (drop (i + 1) sets) end)
-  this =
-      let s = row-found codeSet b (count - i) from (drop i sets) end (omega arith) q in
-      let m : count - (i + 1) ≡ count - i - 1 = omega arith in (
-        s .1,
-        s .3 ∙ ap (λ (x : List (List ℕ)). found x (s .1)) (sym (drop-head sets i (s .0) (s .2) (s .5) [])),
-        rw m (s .4 ∙ ap (λ (xs : List (List (List ℕ))). found xs end) (sym (drop-rest sets i (s .0) (s .2) (s .5)))),
-      )
-
-  next : (e : ℕ) → endOf (codeSet b from) ≡ Next.At e → (end′ : ℕ) × (times (count - (i + 1)) codeSet b e ≡ found (drop (i + 1) sets) end′)
-  next e k = (end, rw (← same-end (ap endOf (this .1)) k) (this .2))
-    where
-      same-end : endOf (codeSet b from) ≡ Next.At (this .0) → endOf (codeSet b from) ≡ Next.At e → this .0 ≡ e
-      same-end u v = cc
-
-  that : SetAt b sets i from
-  that = record { stands = ap isFound (this .1); codes = ap itemsOf (this .1) }
-
--- one place more is noted
-noted : (b : List ℕ) (sets : List (List (List ℕ))) (places : List ℕ) (i from : ℕ) → i < length places → SetsAt b sets i places → SetAt b sets i from → SetsAt b sets (i + 1) (set places i from)
-noted b sets places i from h all here k l = by (ℕ-discrete k i)
+-- over plain variables
+starts-found : (b : List ℕ) (at count : ℕ) → isFound (times count codeSet b at) ≡ true → isFound (times count (starting codeSet) b at) ≡ true
+starts-found b at count f = by (times count (starting codeSet) b at) (ap isFound (sym (starts-say codeSet b itemsOf (λ c e. refl) count at)) ∙ f)
   where
-    by : Dec (k ≡ i) → SetAt b sets k (getD (set places i from) k 0)
-    by (yes e) = rw (e, getD-set-same places i from 0 h) here
-    by (no n) = rw (getD-set-other places i k from 0 n) (all k (omega (arith, n)))
+    by : (r : Parsed (List ℕ)) → isFound (mapped (map (codesAt b)) r) ≡ true → isFound r ≡ true
+    by fault f = f
+    by (found starts end) f = refl
+
+-- the set that comes next can be read
+stands : (b : List ℕ) (done : List ℕ) (n from : ℕ) → 0 < n → isFound (after done (times n (starting codeSet) b from)) ≡ true → SetStands b from
+stands b done n from h f =
+    let w = is-found (after done (times n (starting codeSet) b from)) f in
+    let r = then-found (times n (starting codeSet) b from) _ (w .0) (w .1) (w .2) in
+    let s = row-found (starting codeSet) b n from (r .0) (r .1) h (r .2) in
+    ap isFound (then-found (codeSet b from) _ (s .0) (s .1) (s .3) .2)
+
+-- what is behind the place that was noted stays
+kept : (places : List ℕ) (i from : ℕ) → ((k : ℕ) → i ≤ k → getD places k 0 ≡ 0) → (k : ℕ) → i + 1 ≤ k → getD (set places i from) k 0 ≡ 0
+kept places i from zeros k h = getD-set-other places i k from 0 (λ e. absurd (omega arith)) ∙ zeros k (omega arith)
+
+zeros : (n k : ℕ) → _≡_ {A = ℕ} (getD (replicate n 0) k 0) 0
+zeros zero k = refl
+zeros (suc n) zero = refl
+zeros (suc n) (suc k) = zeros n k
 
 loop-holds : tie.Need-loop-holds Inv-loop μ-loop
 loop-holds c = (
   omega arith,
   c .before .pre .1,
   refl,
-  λ k h. absurd (omega arith),
-  none-passed (now (c .before .args .book)) (c .before .args .at) (c .before .args .count) (c .before .pre .0),
+  starts-found (now (c .before .args .book)) (c .before .args .at) (c .before .args .count) (c .before .pre .0),
+  rw sub-zero (sym (after-nil _)),
+  λ k h. zeros setLimit k,
 )
 
 mul-places : tie.Need-mul-places Inv-loop μ-loop
@@ -82,7 +72,7 @@ set-after-requires : tie.Need-set-after-requires Inv-loop μ-loop
 set-after-requires c κs =
     let a = c .before .before .before .args in
     let l = c .before .loop in
-    that (now (a .book)) _ (a .count) (l .i) (l .from) (l .inv .4 .0) (omega arith) (l .inv .4 .1) .stands
+    stands (now (a .book)) (take (l .i) (l .places)) (a .count - l .i) (l .from) (omega arith) (sym (ap isFound (l .inv .4)) ∙ l .inv .3)
 
 add-i : tie.Need-add-i Inv-loop μ-loop
 add-i c = search needs
@@ -93,17 +83,24 @@ loop-less c = search needs
 loop-again : tie.Need-loop-again Inv-loop μ-loop
 loop-again c =
     let a = c .before .before .before .before .args in
-    let l = c .before .before .loop in
-    let sets = itemsOf (times (a .count) codeSet (now (a .book)) (a .at)) in (
+    let l = c .before .before .loop in (
       omega arith,
       l .inv .1,
       length-set (l .places) (l .i) (l .from) ∙ l .inv .2,
-      noted (now (a .book)) sets (l .places) (l .i) (l .from) (omega arith) (l .inv .3) (that (now (a .book)) sets (a .count) (l .i) (l .from) (l .inv .4 .0) (omega arith) (l .inv .4 .1)),
-      next (now (a .book)) sets (a .count) (l .i) (l .from) (l .inv .4 .0) (omega arith) (l .inv .4 .1) _ (c .set-after .ensures),
+      l .inv .3,
+      noted-more codeSet (now (a .book)) (a .count) (l .i) (l .from) (l .places) (l .inv .4) _ (omega arith) (omega arith) (c .set-after .ensures),
+      kept (l .places) (l .i) (l .from) (l .inv .5),
     )
 
 returns : tie.Need-returns Inv-loop μ-loop
-returns c = λ k h. c .before .loop .inv .3 k (omega arith)
+returns c =
+    let a = c .before .before .before .args in
+    let l = c .before .loop in
+    record {
+      sized = l .inv .2;
+      starts = sym (ap itemsOf (noted-all codeSet (now (a .book)) (a .count) (l .i) (l .from) (l .places) (l .inv .4) (omega arith)));
+      past = λ k h. l .inv .5 k (omega arith);
+    }
 
 pub note-sets-spec : {M : Type 1} → statement M
 note-sets-spec =

@@ -2,7 +2,6 @@
 use mathlib.Core.Path.{ap}
 use denote.Ref.{now}
 use Rattle.grade.specs.Reader.{isFound}
-use Rattle.grade.specs.Standing.{setsIn}
 use Rattle.grade.proofs.Holding.{sets-read}
 use borrow.Author.Needs.{needs}
 use Rattle.grade.proofs.lookup.sets_of.Statement.{statement}
@@ -15,7 +14,6 @@ note-sets-requires : tie.Need-note-sets-requires
 note-sets-requires c κs = let s = c .before .before in (ap isFound (sets-read (now (s .args .book)) (s .args .section) (s .pre)), s .pre .fewSets)
 
 returns : tie.Need-returns
-unfolding setsIn
 returns c = c .note-sets .ensures
 
 pub sets-of-spec : {M : Type 1} → statement M

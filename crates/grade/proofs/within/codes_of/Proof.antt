@@ -1,5 +1,6 @@
 -- `grade::within::codes_of` meets its contract: a CODE rule has a set within the section, any other kind has none. Assumes nothing.
 use native.Mathlib.Omega.{arith}
+use Rattle.grade.proofs.Holding.{placed-at}
 use Rattle.grade.proofs.Judging.{set-in-range, codes-as, codes-placed}
 use borrow.Author.Needs.{needs}
 use Rattle.grade.proofs.within.codes_of.Statement.{statement}
@@ -54,7 +55,7 @@ returns-6 : tie.Need-returns-6
 returns-6 c =
     let start = c .before .before .before .before .before .before in
     let range = set-in-range (c .before .before .before .kind .given .1) (start .pre .2) in
-    codes-placed _ _ (c .place-at .result) (c .before .before .before .kind .given .1) (c .before .wide .ensures .0) (c .place-at .ensures) (start .pre .1 _ (omega (arith, c .before .wide .ensures .0)))
+    codes-placed _ _ (c .place-at .result) (c .before .before .before .kind .given .1) (c .before .wide .ensures .0) (c .place-at .ensures) (placed-at _ _ (start .pre .1) (start .pre .0) _ (omega (arith, c .before .wide .ensures .0)))
 
 pub codes-of-spec : {M : Type 1} → statement M
 codes-of-spec =
