@@ -28,7 +28,10 @@ use Rattle.grade.specs.Header.{mshOf, headerOf, anyWrong, headerFinding, onlyIf
 use Rattle.grade.specs.Admission.{bookRows, admitRows}
 use Rattle.grade.specs.Grading.{sectionFor, findingsBy, findingsFor}
 use Rattle.grade.specs.declared.rule.Severity.{Severity}
+use Rattle.grade.specs.Standing.{Admits}
 use Rattle.grade.specs.declared.rule.Rule.{Rule}
+use Rattle.grade.specs.declared.walk.Section.{Section}
+use Rattle.grade.specs.declared.admit.Admitted.the-variants.{By}
 use Rattle.grade.specs.declared.header.Header.{Header}
 use Rattle.grade.specs.declared.finding.Finding.{Finding}
 use Rattle.grade.proofs.Demand3.{findings-meet}
@@ -264,16 +267,15 @@ msh-within m = part-short carriageReturn m 0
 module _ (m b stamp : List ℕ) (control : ℕ) (out : List ℕ) where
   -- a message that passes rows 1 to 9 is short, and its findings are few
   listed-few : firstRow (admitRows m b) .number ≡ 0 → length (findingsFor m b) ≤ findingLimit
-  listed-few e = by (anyWrong (headerOf (delimsOf m) (mshOf m))) refl
+  listed-few e = let is = admits-passed m b e in by is (anyWrong (headerOf (delimsOf m) (mshOf m))) refl
     where
-      is = admits-passed m b e
-
-      by : (wrong : Bool) → anyWrong (headerOf (delimsOf m) (mshOf m)) ≡ wrong → length (findingsFor m b) ≤ findingLimit
-      by true w = rw (listed-header m b _ (admitted-by m b is .opens) w) (omega (arith, header-few (headerOf (delimsOf m) (mshOf m))))
-      by false w = rw (listed-graded m b _ (admitted-by m b is .opens) w) (admitted-few m b is)
+      by : {s : Section} {h : Header} → Admits m b (By s h) → (wrong : Bool) → anyWrong (headerOf (delimsOf m) (mshOf m)) ≡ wrong → length (findingsFor m b) ≤ findingLimit
+      by is true w = rw (listed-header m b _ (admitted-by m b is .opens) w) (omega (arith, header-few (headerOf (delimsOf m) (mshOf m))))
+      by is false w = rw (listed-graded m b _ (admitted-by m b is .opens) w) (admitted-few m b is)
 
   -- no detail reaches 2 ^ 48, and no number 12
   pub answer-bounded : (answerOf m b stamp control out .told .number < 12) × (answerOf m b stamp control out .told .detail ≤ 2 ^ 48)
+  unfolding firstRow
   answer-bounded = by (ℕ-discrete (firstRow (admitRows m b) .number) 0)
     where
       Small : Told → Type 0
@@ -284,7 +286,6 @@ module _ (m b stamp : List ℕ) (control : ℕ) (out : List ℕ) where
 
       -- row 11, or the ACK
       last : length ack ≤ 2 ^ 48 → Small (shortOr ack out .told)
-      unfolding firstRow
       last h = by (ltb (length out) (length ack))
         where
           by : (short : Bool) → Small (outcomeBy (cond short (told 11 (length ack)) (told 0 0)) ack out .told)

@@ -4,16 +4,14 @@ use mathlib.Core.Bool.{Bool, true, false, cond}
 use mathlib.Core.List.{List, [], _∷_, flatMap}
 use Prim.Native.Nat.{ℕ, zero, suc, _+_, _-_, _*_, _^_, _≤_, _<_}
 use native.Mathlib.Omega.{arith}
-use lib.ListN.{length, take, drop, length-append, length-map, length-take, length-drop}
+use lib.ListN.{length, length-append, length-map}
 use lib.Dec.{eqb, lit≤}
 use borrow.Author.Tests.{ne-eqb}
-use Rattle.hl7.specs.Cut.{cut, pieceAt}
-use Rattle.hl7.specs.Place.{isMsh, partOfField}
+use Rattle.hl7.specs.Place.{isMsh}
 use Rattle.hl7.specs.declared.place.Delims.{Delims}
-use Rattle.hl7.proofs.Cutting.{piece-stands}
 use Rattle.grade.specs.Rule.{theEnd, nameBytes, lettersOf}
 use Rattle.grade.specs.declared.finding.Finding.{Finding}
-use Rattle.ack.specs.Splice.{limit}
+use Rattle.grade.proofs.Few.{field-short}
 use Rattle.ack.specs.Decimal.{decimal}
 use Rattle.ack.specs.Layout.{ownByte, marked, joined, copied, mshLine, verdict, msaLine, componentParts, valueParts, placeParts, codeText, errLine, ended, ackBytes}
 use Rattle.ack.specs.Pieces.{heading, errs}
