@@ -1,0 +1,70 @@
+-- Packing loses nothing: of every answer, number and detail can be had back from the code, and of every place start and length. Assumes nothing.
+use mathlib.Core.Path.{_≡_, refl, sym, ap, subst, _∙_}
+use mathlib.Core.Bool.{Bool, true, false}
+use mathlib.Core.List.{List}
+use Prim.Native.Nat.{ℕ, _+_, _-_, _*_, _/_, _%_, _^_, _≤_, _<_}
+use native.Mathlib.Omega.{arith}
+use lib.ListN.{length, take, drop, length-take, length-drop}
+use Rattle.hl7.specs.Cut.{Piece}
+use Rattle.hl7.specs.Spans.{Spans}
+use Rattle.hl7.specs.Refusals.{messageLimit, Told, firstRow, messageRows, isSound, located}
+use Rattle.hl7.specs.declared.cut.Span.{Span}
+use Rattle.hl7.proofs.Refusing.{reading-bounded, sound-short, located-refused}
+use Rattle.ack.specs.Answers.{Outcome, answerOf, paper, Gives}
+use Rattle.ack.specs.declared.refusal.Answer.{Answer}
+use Rattle.ack.proofs.Promises.{answer-bounded}
+use Rattle.jasminedo.specs.Packed.{packed, packedPlace, packedSpan}
+
+-- ---- answers
+packed-back : (number detail : ℕ) → number < 256 → ((detail * 256 + number) % 256 ≡ number) × ((detail * 256 + number) / 256 ≡ detail)
+packed-back number detail h = (omega arith, omega arith)
+
+-- the number of every answer is its code modulo 256, and the detail its code over 256
+pub answer-unpacked : (m b stamp : List ℕ) (control : ℕ) (out : List ℕ)
+    → (packed (answerOf m b stamp control out .told) % 256 ≡ answerOf m b stamp control out .told .number) × (packed (answerOf m b stamp control out .told) / 256 ≡ answerOf m b stamp control out .told .detail)
+answer-unpacked m b stamp control out =
+    let bounded = answer-bounded m b stamp control out in
+    packed-back (answerOf m b stamp control out .told .number) (answerOf m b stamp control out .told .detail) (omega arith)
+
+pub reading-unpacked : (m : List ℕ) → (packed (firstRow (messageRows m)) % 256 ≡ firstRow (messageRows m) .number) × (packed (firstRow (messageRows m)) / 256 ≡ firstRow (messageRows m) .detail)
+reading-unpacked m = let bounded = reading-bounded m in packed-back (firstRow (messageRows m) .number) (firstRow (messageRows m) .detail) (omega arith)
+
+-- ---- answers, in the words of the code
+module _ (m b stamp : List ℕ) (control : ℕ) (out : List ℕ) {a : Answer} {after : List ℕ} (w : Gives a after (answerOf m b stamp control out)) where
+  pub answer-small : a .detail ≤ 2 ^ 48
+  answer-small = subst (λ (n : ℕ). n ≤ 2 ^ 48) (sym (ap (λ (o : Outcome). o .told .detail) w)) (answer-bounded m b stamp control out .1)
+
+  pub answer-packed : {code : ℕ} → code ≡ packed (paper a) → (code ≡ packed (answerOf m b stamp control out .told)) × (after ≡ answerOf m b stamp control out .output)
+  answer-packed e = (e ∙ ap (λ (o : Outcome). packed (o .told)) w, ap (λ (o : Outcome). o .output) w)
+
+module _ (m : List ℕ) {a : Answer} (w : paper a ≡ firstRow (messageRows m)) where
+  pub reading-small : a .detail ≤ 2 ^ 48
+  reading-small = let bounded = reading-bounded m in let same = ap (λ (t : Told). t .detail) w in omega arith
+
+  pub reading-packed : {code : ℕ} → code ≡ packed (paper a) → code ≡ packed (firstRow (messageRows m))
+  reading-packed e = e ∙ ap packed w
+
+-- ---- places
+module _ {m : List ℕ} {p : Piece} {x : Span} (w : Spans m p x) where
+  spans-length : length (p .bytes) ≡ x .end - x .start
+  spans-length = sym (ap length (w .bytes)) ∙ length-take (x .end - x .start) (drop (x .start) m) ∙ omega (arith, length-drop (x .start) m, w .forward, w .inside)
+
+  pub place-packed : {code : ℕ} → code ≡ packedSpan x → code ≡ packedPlace p
+  place-packed e = omega (arith, e, w .start, spans-length)
+
+pub place-small : (m : List ℕ) (n f r c : ℕ) {x : Span} → Spans m (located m n f r c) x → x .end ≤ messageLimit
+place-small m n f r c {x} w = by (isSound m) refl
+  where
+    by : (sound : Bool) → isSound m ≡ sound → x .end ≤ messageLimit
+    by true e = omega (arith, w .inside, sound-short m e)
+    by false e =
+        let nothing = located-refused m n f r c e in
+        omega (arith, w .start ∙ ap (λ (p : Piece). p .start) nothing, sym (spans-length w) ∙ ap (λ (p : Piece). length (p .bytes)) nothing)
+
+-- the length of every place is its code modulo 65,536, and the start its code over 65,536
+pub place-unpacked : (m : List ℕ) (n f r c : ℕ) {x : Span} → Spans m (located m n f r c) x
+    → (packedPlace (located m n f r c) % 65536 ≡ length (located m n f r c .bytes)) × (packedPlace (located m n f r c) / 65536 ≡ located m n f r c .start)
+place-unpacked m n f r c w =
+    let long = spans-length w in
+    let small = place-small m n f r c w in
+    (omega arith, omega arith)
