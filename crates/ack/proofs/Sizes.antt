@@ -1,16 +1,15 @@
 -- How long the parts of an ACK are, in the words of the code that counts, and how long an ACK is at most. Assumes nothing.
-use mathlib.Core.Path.{_≡_, refl, sym, ap, subst, _∙_}
+use mathlib.Core.Path.{_≡_, refl, ap}
 use mathlib.Core.Bool.{Bool, true, false, cond}
 use mathlib.Core.List.{List, [], _∷_, flatMap}
-use Prim.Native.Nat.{ℕ, zero, suc, _+_, _-_, _*_, _^_, _≤_, _<_, min}
+use Prim.Native.Nat.{ℕ, _+_, _-_, _*_, _^_, _≤_, _<_, min}
 use native.Mathlib.Omega.{arith}
-use lib.ListN.{length, take, drop, length-append, length-map, length-take, length-drop}
+use lib.ListN.{length, length-append, length-map, length-take, length-drop}
 use lib.Dec.{eqb, lit≤}
 use borrow.Author.Tests.{ne-eqb}
-use Rattle.hl7.specs.Cut.{cut, pieceAt}
-use Rattle.hl7.specs.Place.{isMsh, partOfField}
+use Rattle.hl7.specs.Place.{isMsh}
 use Rattle.hl7.specs.declared.place.Delims.{Delims}
-use Rattle.hl7.proofs.Cutting.{piece-stands}
+use Rattle.hl7.proofs.Placing.{field-short}
 use Rattle.grade.specs.Rule.{nameBytes}
 use Rattle.grade.specs.declared.finding.Finding.{Finding}
 use Rattle.ack.specs.Splice.{limit}
@@ -78,22 +77,8 @@ heading-whole d msh stamp control second = simp (length-append, joined-size, mar
 
 -- a field is no longer than its segment
 pub copied-short : (d : Delims) (msh : List ℕ) (k : ℕ) → length (copied d msh k) ≤ length msh
-unfolding copied partOfField
-copied-short d msh k = of (isMsh msh) k
-  where
-    part : (n from : ℕ) → length (take n (drop from msh)) ≤ length msh
-    part n from = simp (length-take, length-drop) (omega arith)
-
-    piece : (j : ℕ) → length (pieceAt (cut (d .bar) msh) j .bytes) ≤ length msh
-    piece j =
-        let p = pieceAt (cut (d .bar) msh) j in
-        subst (λ (l : List ℕ). length l ≤ length msh) (piece-stands (d .bar) msh j) (part (length (p .bytes)) (p .start))
-
-    of : (msh : Bool) (k : ℕ) → length (partOfField msh (d .bar) msh k .bytes) ≤ length msh
-    of msh zero = omega arith
-    of true (suc zero) = part 1 3
-    of true (suc (suc k)) = piece (suc k)
-    of false (suc k) = piece (suc k)
+unfolding copied
+copied-short d msh k = field-short (isMsh msh) (d .bar) msh k
 
 heading-short : (d : Delims) (msh stamp : List ℕ) (control second : ℕ) → length (heading d msh stamp control second) ≤ 110 + length stamp + 6 * length msh
 heading-short d msh stamp control second =

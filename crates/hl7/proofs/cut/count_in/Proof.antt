@@ -4,7 +4,7 @@ use mathlib.Core.Path.{_≡_, refl, sym, _∙_}
 use Prim.Native.Nat.{_+_, _-_, _≤_}
 use native.Mathlib.Omega.{arith}
 use lib.ListN.{length, drop}
-use Rattle.hl7.specs.Bytes.{occurrences}
+use Rattle.hl7.specs.Spans.{occurrences}
 use Rattle.hl7.proofs.Comparing.{occurs-more, occurs-none}
 use Rattle.hl7.proofs.cut.count_in.Statement.{statement}
 use Rattle.hl7.proofs.cut.count_in.Tie as tie
