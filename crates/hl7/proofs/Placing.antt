@@ -139,7 +139,7 @@ whole-few true d s = omega arith
 whole-few false d s = cut-few d s
 
 -- ---- a part of the lent slice itself
--- what the contract of `locate` allows is one machine value: the same pointer and the same count, also of an empty part
+-- what the contract of `locate` allows, as every one by `Lies`, is one machine value: the same pointer and the same count, also of an empty part
 pub locate-once : {s r q : RefT (List ℕ)} {p : Piece} → Lies s r p → Lies s q p → slice-vals r ≡ slice-vals q
 locate-once {s} {r} {q} a b =
     let same-bytes : r .now ≡ q .now = a .bytes ∙ sym (b .bytes) in

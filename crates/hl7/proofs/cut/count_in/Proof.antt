@@ -1,6 +1,6 @@
 -- `hl7::cut::count_in` meets its contract. The invariant of its loop: those counted and those left are all; no more are counted than passed.
 -- Assumes nothing.
-use mathlib.Core.Path.{_≡_, refl, sym, _∙_}
+use mathlib.Core.Path.{_≡_}
 use Prim.Native.Nat.{_+_, _-_, _≤_}
 use native.Mathlib.Omega.{arith}
 use lib.ListN.{length, drop}

@@ -1,4 +1,5 @@
 -- `hl7::place::noted_part` meets its contract: it is noted, or there is none. Assumes nothing.
+use native.Mathlib.Omega.{arith}
 use Rattle.hl7.proofs.Cutting.{spans-as}
 use borrow.Author.Needs.{needs}
 use Rattle.hl7.proofs.place.noted_part.Statement.{statement}
@@ -22,7 +23,8 @@ shared-slice-read-t13 c = search needs
 sub-t14 : tie.Need-sub-t14
 sub-t14 c =
     let chosen = c .before .before in
-    chosen .before .before .before .pre .0 .ahead _ (chosen .if1 .taken)
+    let begin = chosen .before .before .before in
+    omega (arith, begin .pre .0 .ahead (begin .args .k) (chosen .if1 .taken))
 
 returns : tie.Need-returns
 returns c =
