@@ -4,7 +4,7 @@ use mathlib.Core.Bool.{true, false}
 use mathlib.Core.List.{List}
 use Prim.Native.Nat.{ℕ, _≤_}
 use native.Mathlib.Omega.{arith}
-use lib.ListN.{length, take, drop, length-take, length-drop}
+use lib.ListN.{length}
 use borrow.Author.Tests.{eqb-true}
 use Rattle.hl7.specs.Place.{delimsOf, isMsh}
 use Rattle.hl7.specs.Refusals.{messageLimit, Told, told, firstRow}
@@ -38,10 +38,6 @@ unfolding isStamp
 stamp-length v e =
     let run = and-both _ _ (and-both _ _ (and-both _ _ (and-both _ _ e .0) .0) .0) .0 in
     eqb-true (length v) 19 run
-
--- ---- a part of the message
-pub part-within : (m : List ℕ) (n from : ℕ) → length m ≤ messageLimit → length (take n (drop from m)) ≤ messageLimit
-part-within m n from h = simp (length-take, length-drop) (omega arith)
 
 -- ---- what the code asks of itself
 module _ (m b : List ℕ) {s : Section} {h : Header} (is : Admits m b (By s h)) where

@@ -18,6 +18,7 @@ use Rattle.hl7.specs.Bytes.{all, isIn}
 use Rattle.hl7.specs.Place.{carriageReturn, delimsOf, nthOf, cutUnless, segmentsOf, place}
 use Rattle.hl7.specs.Refusals.{messageLimit, Told, told, firstRow, numbersOf, apart, holdsAt, First, messageRows, formRows}
 use Rattle.hl7.proofs.Comparing.{and-both, all-append}
+use Rattle.hl7.proofs.Cutting.{part-short}
 use Rattle.grade.specs.Digits.{isDigit, isSign, digitRun}
 use Rattle.grade.specs.Values.{isStamp}
 use Rattle.grade.specs.Broken.{severityLetter}
@@ -35,7 +36,6 @@ use Rattle.grade.specs.declared.admit.Admitted.the-variants.{By}
 use Rattle.grade.specs.declared.header.Header.{Header}
 use Rattle.grade.specs.declared.finding.Finding.{Finding}
 use Rattle.grade.proofs.Demand3.{findings-meet}
-use Rattle.grade.proofs.Few.{part-short}
 use Rattle.grade.proofs.Grading.{listed-header, listed-graded}
 use Rattle.grade.proofs.Admitting.{admitted-by, admits-passed, admit-bounded}
 use Rattle.ack.specs.Layout.{has, isHeader, isFault, mshLine, msaLine, errLine, ackLines}

@@ -12,11 +12,12 @@ use lib.ListN.{length, getD, take, drop}
 use borrow.Author.Tests.{ne-eqb, eqb-false, not-true}
 use Rattle.hl7.specs.Text.{bytes}
 use Rattle.hl7.specs.Bytes.{all, begins}
-use Rattle.hl7.specs.Cut.{ahead, cut, partAt, pieceAt, butLast}
-use Rattle.hl7.specs.Place.{carriageReturn, segmentsOf, nthOf, cutUnless, partOfField, isMsh, neverCut, componentOf, inField, inSegment, place}
+use Rattle.hl7.specs.Cut.{ahead, cut, partAt, butLast}
+use Rattle.hl7.specs.Place.{carriageReturn, segmentsOf, nthOf, cutUnless, partOfField, isMsh, neverCut, fieldOf, componentOf, inField, inSegment, place}
 use Rattle.hl7.specs.declared.place.Delims.{Delims}
 use Rattle.hl7.proofs.Comparing.{and-both, all-append, all-take, all-drop}
-use Rattle.hl7.proofs.Cutting.{cut-delimiter, cut-other, piece-stands}
+use Rattle.hl7.proofs.Cutting.{cut-delimiter, cut-other}
+use Rattle.hl7.proofs.Placing.{field-stands}
 use Rattle.grade.specs.Rule.{theEnd, counted, segmentNames, nameBytes}
 use Rattle.grade.specs.declared.finding.Finding.{Finding}
 use Rattle.ack.specs.Decimal.{digit, lastDigits, decimal}
@@ -149,19 +150,10 @@ name-clean n = by (counted n) refl
 
 -- a field is a part of its segment
 copied-clean : (d : Delims) (msh : List ℕ) (k : ℕ) → clean msh → clean (copied d msh k)
-unfolding copied partOfField all
-copied-clean d msh k e = of (isMsh msh) k
-  where
-    piece : (j : ℕ) → clean (pieceAt (cut (d .bar) msh) j .bytes)
-    piece j =
-        let p = pieceAt (cut (d .bar) msh) j in
-        subst clean (piece-stands (d .bar) msh j) (part-clean (length (p .bytes)) (p .start) msh e)
-
-    of : (named : Bool) (k : ℕ) → clean (partOfField named (d .bar) msh k .bytes)
-    of named zero = refl
-    of true (suc zero) = part-clean 1 3 msh e
-    of true (suc (suc k)) = piece (suc k)
-    of false (suc k) = piece (suc k)
+unfolding copied
+copied-clean d msh k e =
+    let p = fieldOf d msh k in
+    subst clean (field-stands (isMsh msh) (d .bar) msh k) (part-clean (length (p .bytes)) (p .start) msh e)
 
 -- a text without CR has none either when the five are put into it
 own-clean : (d : Delims) → Fine d → (text : List ℕ) → clean text → clean (own d text)

@@ -9,9 +9,9 @@ use lib.Dec.{eqb, lit≤}
 use borrow.Author.Tests.{ne-eqb}
 use Rattle.hl7.specs.Place.{isMsh}
 use Rattle.hl7.specs.declared.place.Delims.{Delims}
+use Rattle.hl7.proofs.Placing.{field-short}
 use Rattle.grade.specs.Rule.{theEnd, nameBytes, lettersOf}
 use Rattle.grade.specs.declared.finding.Finding.{Finding}
-use Rattle.grade.proofs.Few.{field-short}
 use Rattle.ack.specs.Decimal.{decimal}
 use Rattle.ack.specs.Layout.{ownByte, marked, joined, copied, mshLine, verdict, msaLine, componentParts, valueParts, placeParts, codeText, errLine, ended, ackBytes}
 use Rattle.ack.specs.Pieces.{heading, errs}

@@ -176,12 +176,10 @@ fn answer_admitted(
     if is_stamp(stamp) {
         let d = delims_of(m);
         let msh = segment(m, 1);
-        let from = msh.start;
-        let to = msh.end;
         if any_wrong(header) {
-            return answer_header(out, d, &m[from..to], stamp, control, header);
+            return answer_header(out, d, msh, stamp, control, header);
         }
-        return answer_graded(out, d, m, book, section, &m[from..to], stamp, control);
+        return answer_graded(out, d, m, book, section, msh, stamp, control);
     }
     refused(10)
 }

@@ -11,12 +11,12 @@ use hl7::bytes::wide;
 use hl7::bytes::wide16;
 use hl7::bytes::wide32;
 use hl7::place::Delims;
-use hl7::place::noted_part;
+use hl7::place::noted_field;
 ghost use mathlib.Core.Path.{_≡_};
 ghost use mathlib.Core.Bool.{cond};
 ghost use mathlib.Core.List.{_∷_};
-ghost use Prim.Native.Nat.{_<_, _≤_};
-ghost use Rattle.hl7.specs.Place.{MshNoted};
+ghost use Prim.Native.Nat.{_≤_};
+ghost use Rattle.hl7.specs.Noted.{MshNoted};
 ghost use Rattle.hl7.specs.declared.place.Delims.{Delims};
 ghost use Rattle.grade.specs.Rule.{nameBytes};
 ghost use Rattle.ack.specs.Splice.{Wrote};
@@ -170,13 +170,11 @@ fn put_copy(
     count: usize,
     k: usize,
 ) -> usize
-    requires { ⌜ MshNoted d (now msh) (now starts) count × (2 < k) × (k ≤ 12) ⌝ }
+    requires { ⌜ MshNoted d (now msh) (now starts) count × (k ≤ 12) ⌝ }
     ensures { λ r. ⌜ Wrote (now (out .entry)) at (d .bar ∷ copied d (now (msh .entry)) k) (now (out .exit)) r ⌝ }
 {
-    let span = noted_part(d, msh, starts, count, k - 1);
-    let start = span.start;
-    let end = span.end;
-    put_field(out, at, d.bar, &msh[start..end])
+    let field = noted_field(d, msh, true, starts, count, k);
+    put_field(out, at, d.bar, field)
 }
 
 // The MSH segment; msh is the MSH of the message that is answered, its fields noted.

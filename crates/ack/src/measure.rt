@@ -6,11 +6,11 @@ use hl7::bytes::wide;
 use hl7::bytes::wide16;
 use hl7::bytes::wide32;
 use hl7::place::Delims;
-use hl7::place::noted_part;
+use hl7::place::noted_field;
 ghost use mathlib.Core.Path.{_≡_};
-ghost use Prim.Native.Nat.{ℕ, _≤_, _<_};
+ghost use Prim.Native.Nat.{ℕ, _≤_};
 ghost use lib.ListN.{length};
-ghost use Rattle.hl7.specs.Place.{MshNoted};
+ghost use Rattle.hl7.specs.Noted.{MshNoted};
 ghost use Rattle.hl7.specs.Refusals.{messageLimit};
 ghost use Rattle.hl7.specs.declared.place.Delims.{Delims};
 ghost use Rattle.grade.specs.Rule.{nameBytes};
@@ -19,11 +19,10 @@ ghost use Rattle.ack.specs.Pieces.{heading};
 
 // How long a field of the message's own MSH is.
 fn copy_length(d: Delims, msh: &[u8], starts: &[usize], count: usize, k: usize) -> usize
-    requires { ⌜ MshNoted d (now msh) (now starts) count × (length (now msh) ≤ messageLimit) × (2 < k) × (k ≤ 12) ⌝ }
+    requires { ⌜ MshNoted d (now msh) (now starts) count × (length (now msh) ≤ messageLimit) × (k ≤ 12) ⌝ }
     ensures { λ r. ⌜ (r ≡ length (copied d (now (msh .entry)) k)) × (r ≤ messageLimit) ⌝ }
 {
-    let span = noted_part(d, msh, starts, count, k - 1);
-    span.end - span.start
+    noted_field(d, msh, true, starts, count, k).len()
 }
 
 // How long the first two segments are, whatever MSA-1 is: their fixed bytes, and what stands between them.

@@ -1,16 +1,17 @@
 -- How many findings a message can have at most: one for each place that there is. Assumes nothing.
-use Prim.Native.Nat.{ℕ, zero, suc, _+_, _*_, _-_, _≤_}
+use Prim.Native.Nat.{ℕ, zero, suc, _+_, _*_, _≤_}
 use mathlib.Core.Path.{_≡_, refl, ap}
 use mathlib.Core.Bool.{Bool, true, false, cond}
 use mathlib.Core.List.{List, [], _∷_}
 use native.Mathlib.Omega.{arith}
 use native.Mathlib.Nat.{le-trans, mul-le-mul-left, mul-le-mul-right}
-use lib.ListN.{length, drop, length-take, length-drop, length-append, length-map}
-use lib.Dec.{eqb}
-use Rattle.hl7.specs.Cut.{cut, ahead, partAt, pieceAt, butLast}
-use Rattle.hl7.specs.Place.{delimsOf, segmentsOf, cutUnless, partOfField, isMsh, fieldOf, neverCut, repetitionsOf}
+use lib.ListN.{length, length-append, length-map}
+use Rattle.hl7.specs.Cut.{cut}
+use Rattle.hl7.specs.Place.{delimsOf, segmentsOf, isMsh, fieldOf, neverCut, repetitionsOf}
 use Rattle.hl7.specs.declared.place.Delims.{Delims}
-use Rattle.hl7.proofs.Cutting.{piece-stands}
+use Rattle.hl7.proofs.Cutting.{cut-few, part-short}
+use Rattle.hl7.proofs.Placing.{field-short, whole-few}
+use Rattle.hl7.proofs.Walking.{ended-few, ended-short}
 use Rattle.grade.specs.Strict.{keep, countFrom, pairsFrom}
 use Rattle.grade.specs.Findings.{valuesOf, breaks, turns, places, findings, ruleNumbered, segmentAt}
 use Rattle.grade.specs.declared.rule.Rule.{Rule}
@@ -36,45 +37,7 @@ pairs-few n zero b f h = omega arith
 pairs-few {A} n (suc k) b f h =
     simp (length-append, length-map) (omega (arith, h n, pairs-few (suc n) k b f h))
 
--- ---- the parts of a cut
-cut-few : (d : ℕ) (s : List ℕ) → length (cut d s) ≤ length s + 1
-unfolding cut ahead
-cut-few d [] = omega arith
-cut-few d (x ∷ s) = by (eqb x d) (cut-few d s)
-  where
-    by : (b : Bool) → length (cut d s) ≤ length s + 1 → length (ahead b x (cut d s)) ≤ length (x ∷ s) + 1
-    by true ih = omega arith
-    by false ih = omega (arith, length-drop 1 (cut d s))
-
-pub part-short : (d : ℕ) (s : List ℕ) (k : ℕ) → length (partAt (cut d s) k) ≤ length s
-part-short d s k = omega (arith, ap length (piece-stands d s k), length-take (length (partAt (cut d s) k)) (drop (pieceAt (cut d s) k .start) s), length-drop (pieceAt (cut d s) k .start) s)
-
-ended-few : (ps : List (List ℕ)) → length (butLast ps) ≤ length ps - 1
-unfolding butLast
-ended-few [] = omega arith
-ended-few (p ∷ []) = omega arith
-ended-few (p ∷ (q ∷ ps)) = omega (arith, ended-few (q ∷ ps))
-
-ended-short : (ps : List (List ℕ)) (k : ℕ) → length (partAt (butLast ps) k) ≤ length (partAt ps k)
-unfolding butLast
-ended-short [] k = omega arith
-ended-short (p ∷ []) k = omega arith
-ended-short (p ∷ (q ∷ ps)) zero = omega arith
-ended-short (p ∷ (q ∷ ps)) (suc k) = ended-short (q ∷ ps) k
-
 -- ---- segments, fields, repetitions
-pub field-short : (msh : Bool) (bar : ℕ) (seg : List ℕ) (f : ℕ) → length (partOfField msh bar seg f .bytes) ≤ length seg
-unfolding partOfField
-field-short msh bar seg zero = omega arith
-field-short true bar seg (suc zero) = omega (arith, length-take 1 (drop 3 seg), length-drop 3 seg)
-field-short true bar seg (suc (suc k)) = part-short bar seg (suc k)
-field-short false bar seg (suc k) = part-short bar seg (suc k)
-
-whole-few : (b : Bool) (d : ℕ) (s : List ℕ) → length (cutUnless b d s) ≤ length s + 1
-unfolding cutUnless
-whole-few true d s = omega arith
-whole-few false d s = cut-few d s
-
 values-few : (d : Delims) (rule : Rule) (seg : List ℕ) → length (valuesOf d rule seg) ≤ length seg + 1
 unfolding repetitionsOf
 values-few d rule seg =

@@ -1,16 +1,13 @@
 -- Going from spot to spot of a segment: what each function of `within` leaves of the list of what is still to come. Assumes nothing.
 use Prim.Native.Nat.{ℕ, _+_, _-_, _≤_, _<_}
 use mathlib.Core.Path.{_≡_, refl, sym, ap, subst, subst⁻¹, _∙_}
-use mathlib.Core.Bool.{Bool, true, false, cond}
+use mathlib.Core.Bool.{true}
 use mathlib.Core.List.{List, [], _∷_, _++_, map}
 use native.Mathlib.Decide.{decLt}
 use native.Mathlib.Numerals.{add-one}
 use native.Mathlib.Omega.{arith}
-use borrow.Author.Tests.{eqb-true}
-use lib.Dec.{eqb}
 use lib.ListN.{length, getD, drop, length-take, length-drop, drop-of-length-le}
 use lib.Seq.{drop-cons}
-use Rattle.hl7.specs.Cut.{cut, pieceAt}
 use Rattle.hl7.specs.Spans.{between, Spans}
 use Rattle.hl7.specs.Bytes.{all, differs}
 use Rattle.hl7.specs.Place.{fieldOf}
@@ -18,9 +15,8 @@ use Rattle.hl7.specs.declared.cut.Span.{Span}
 use Rattle.hl7.specs.declared.place.Delims.{Delims}
 use Rattle.hl7.proofs.Comparing.{all-take, all-drop}
 use Rattle.hl7.proofs.Cutting.{between-inside}
-use Rattle.hl7.proofs.Placing.{field-msh, field-other}
 use Rattle.grade.specs.Limits.{namePlaces, fieldLimit}
-use Rattle.grade.specs.Rule.{msh, firstField, ruleFits, kindFits}
+use Rattle.grade.specs.Rule.{ruleFits, kindFits}
 use Rattle.grade.specs.Standing.{Holds, rulesIn, setsIn, noRule}
 use Rattle.grade.specs.Linked.{nextAbout, Linked}
 use Rattle.grade.specs.Rest.{CodesAre, brokenFrom, NextValue, valueFinding, ofRules, leftOf, leftFrom, bytesOf, HereStands, Fielded, SpotStands, rulesFrom, segmentRest, NextOfRule, NextWithin}
@@ -49,53 +45,25 @@ module _ (d : Delims) (m b : List ℕ) (s : Section) (here : Here) (holds : Hold
   fits : ruleFits (s .«set_count») rule ≡ true
   fits = ap (ruleFits (s .«set_count»)) is-it ∙ rule-fits b s holds (spot .rule) few
 
-  segment-is : rule .place .segment ≡ here .name
-  segment-is = ap (λ (r : Rule). r .place .segment) is-it ∙ about
-
   pub kind-in-range : kindFits (s .«set_count») (rule .kind) ≡ true
   kind-in-range = kind-limits (s .«set_count») rule fits
-
-  pub field-some : 1 ≤ rule .place .field
-  field-some = omega (arith, place-limits (s .«set_count») rule fits .first, first-field (eqb (rule .place .segment) msh))
-    where
-      first-field : (test : Bool) → 1 ≤ cond test 3 1
-      first-field true = omega arith
-      first-field false = omega arith
 
   pub field-last : rule .place .field ≤ fieldLimit
   field-last = place-limits (s .«set_count») rule fits .last
 
-  -- the part that the rule's field is
-  module _ {k : ℕ} (part : k ≡ cond (eqb (here .name) msh) (rule .place .field - 1) (rule .place .field)) where
-    field-is : fieldOf d seg (rule .place .field) ≡ pieceAt (cut (d .bar) seg) k
-    field-is = by (eqb (here .name) msh) refl part
-      where
-        by : (t : Bool) → eqb (here .name) msh ≡ t → k ≡ cond t (rule .place .field - 1) (rule .place .field) → fieldOf d seg (rule .place .field) ≡ pieceAt (cut (d .bar) seg) k
-        by true e p =
-            let third : 3 ≤ rule .place .field = subst (λ (n : ℕ). firstField n ≤ rule .place .field) (segment-is ∙ eqb-true (here .name) msh e) (place-limits (s .«set_count») rule fits .first) in
-            field-msh (d .bar) seg (stands .named ∙ e) (λ z. omega arith) (λ z. omega arith) ∙ ap (pieceAt (cut (d .bar) seg)) (sym p)
-        by false e p = field-other (d .bar) seg (stands .named ∙ e) (λ z. omega (arith, field-some)) ∙ ap (pieceAt (cut (d .bar) seg)) (sym p)
-
-    pub part-few : k + 1 < 101
-    part-few = omega (arith, field-last, by (eqb (here .name) msh) part)
-      where
-        by : (t : Bool) → k ≡ cond t (rule .place .field - 1) (rule .place .field) → k ≤ rule .place .field
-        by true p = omega arith
-        by false p = omega arith
-
-    -- where the field stands in the message
-    pub fielded : {span : Span} (codes : ℕ) → Spans seg (pieceAt (cut (d .bar) seg) k) span → CodesAre b (setsIn b s) (rule .kind) codes
-        → (here .single ≡ true → all (differs (d .tilde)) seg ≡ true) → Fielded d m b s here (spot .rule) (record { codes = codes; start = here .start + span .start; end = here .start + span .end })
-    fielded {span} codes found are untilded =
-        let inner : here .start + span .end ≤ here .end = omega (arith, found .inside, stands .forward, stands .inside, length-take (here .end - here .start) (drop (here .start) m), length-drop (here .start) m) in
-        let same = between-inside m (here .start) (here .end) (span .start) (span .end) inner in
-        record {
-          forward = omega (arith, found .forward);
-          inside = omega (arith, stands .inside);
-          bytes = ap (λ (r : Rule). fieldOf d seg (r .place .field) .bytes) (sym is-it) ∙ ap (λ p. p .bytes) field-is ∙ sym (found .bytes) ∙ same;
-          untilded = λ e. subst (λ (l : List ℕ). all (differs (d .tilde)) l ≡ true) same (all-take _ (span .end - span .start) (drop (span .start) seg) (all-drop _ (span .start) seg (untilded e)));
-          codes = subst (λ (r : Rule). CodesAre b (setsIn b s) (r .kind) codes) is-it are;
-        }
+  -- where the field stands in the message
+  pub fielded : {span : Span} (codes : ℕ) {f : ℕ} → f ≡ rule .place .field → Spans seg (fieldOf d seg f) span → CodesAre b (setsIn b s) (rule .kind) codes
+      → (here .single ≡ true → all (differs (d .tilde)) seg ≡ true) → Fielded d m b s here (spot .rule) (record { codes = codes; start = here .start + span .start; end = here .start + span .end })
+  fielded {span} codes {f} own found are untilded =
+      let inner : here .start + span .end ≤ here .end = omega (arith, found .inside, stands .forward, stands .inside, length-take (here .end - here .start) (drop (here .start) m), length-drop (here .start) m) in
+      let same = between-inside m (here .start) (here .end) (span .start) (span .end) inner in
+      record {
+        forward = omega (arith, found .forward);
+        inside = omega (arith, stands .inside);
+        bytes = ap (λ (n : ℕ). fieldOf d seg n .bytes) (ap (λ (r : Rule). r .place .field) (sym is-it) ∙ sym own) ∙ sym (found .bytes) ∙ same;
+        untilded = λ e. subst (λ (l : List ℕ). all (differs (d .tilde)) l ≡ true) same (all-take _ (span .end - span .start) (drop (span .start) seg) (all-drop _ (span .start) seg (untilded e)));
+        codes = subst (λ (r : Rule). CodesAre b (setsIn b s) (r .kind) codes) is-it are;
+      }
 
   -- what it still gives, by the field's bytes; value is the first of them
   module _ {f : Field} (known : Fielded d m b s here (spot .rule) f) where

@@ -8,7 +8,8 @@ use lib.Dec.{eqb}
 use lib.ListN.{length, getD, drop, set}
 use Rattle.hl7.specs.Cut.{cut, butLast}
 use Rattle.hl7.specs.Walk.{partsFrom}
-use Rattle.hl7.specs.Spans.{between, Noted}
+use Rattle.hl7.specs.Noted.{Noted}
+use Rattle.hl7.specs.Spans.{between}
 use Rattle.hl7.specs.Bytes.{all, differs}
 use Rattle.hl7.specs.Place.{carriageReturn, isMsh, fieldOf}
 use Rattle.hl7.specs.Refusals.{messageLimit}

@@ -3,20 +3,21 @@ use crate::book::Opened;
 use crate::book::open_book;
 use crate::header::Header;
 use crate::header::header_of;
-use crate::header::msh_part;
+use crate::header::msh_value;
 use crate::walk::Section;
 use hl7::place::Delims;
 use hl7::place::MSH_PLACES;
 use hl7::place::delims_of;
 use hl7::place::note_fields;
-use hl7::place::noted_part;
+use hl7::place::noted_field;
 use hl7::place::segment;
 use hl7::refusal::Reading;
 use hl7::refusal::check;
 use hl7::refusal::is_sound_reading;
 ghost use mathlib.Core.Path.{_≡_};
 ghost use mathlib.Core.Bool.{true};
-ghost use Rattle.hl7.specs.Place.{isMsh, MshNoted};
+ghost use Rattle.hl7.specs.Noted.{MshNoted};
+ghost use Rattle.hl7.specs.Place.{isMsh};
 ghost use Rattle.grade.specs.Admission.{hasControlId, mshRows, openedTold, admittedTold};
 ghost use Rattle.grade.specs.Standing.{AdmitsBy, Admits};
 ghost use Rattle.grade.specs.declared.walk.Section.{Section};
@@ -36,8 +37,7 @@ fn has_control_id(d: Delims, msh: &[u8], starts: &[usize], count: usize) -> bool
     requires { ⌜ MshNoted d (now msh) (now starts) count ⌝ }
     ensures { λ r. ⌜ r ≡ hasControlId d (now (msh .entry)) ⌝ }
 {
-    let id = noted_part(d, msh, starts, count, 9);
-    let n = id.end - id.start;
+    let n = noted_field(d, msh, true, starts, count, 10).len();
     (1 <= n) & (n <= 199)
 }
 
@@ -60,10 +60,8 @@ fn admit_msh(d: Delims, msh: &[u8], book: &[u8]) -> Admitted
     let mut starts = [0usize; MSH_PLACES];
     let count = note_fields(d, msh, &mut starts);
     if has_control_id(d, msh, &starts, count) {
-        let key = msh_part(d, msh, &starts, count, 6, 1);
-        let start = key.start;
-        let end = key.end;
-        let opened = open_book(book, &msh[start..end]);
+        let key = msh_value(d, msh, &starts, count, 6, 1);
+        let opened = open_book(book, key);
         by_section(opened, header_of(d, msh, &starts, count))
     } else {
         Admitted::NoControlId
@@ -76,10 +74,7 @@ pub fn admit(m: &[u8], book: &[u8]) -> Admitted
 {
     let reading = check(m);
     if is_sound_reading(reading) {
-        let msh = segment(m, 1);
-        let start = msh.start;
-        let end = msh.end;
-        admit_msh(delims_of(m), &m[start..end], book)
+        admit_msh(delims_of(m), segment(m, 1), book)
     } else {
         Admitted::Unreadable(reading)
     }

@@ -74,8 +74,6 @@ pub(crate) fn breaks_rule(
     ensures { λ r. ⌜ r ≡ breaksBy (now (book .entry)) rule codes passed (valueIn d false rule (now (rep .entry))) ⌝ }
 {
     let kind = rule.kind;
-    let span = component(d, rep, false, wide(rule.place.component));
-    let start = span.start;
-    let end = span.end;
-    is_judged(kind, passed) & is_broken(kind, &rep[start..end], book, codes)
+    let value = component(d, rep, false, wide(rule.place.component));
+    is_judged(kind, passed) & is_broken(kind, value, book, codes)
 }

@@ -1,14 +1,13 @@
 // The header: what MSH-9, MSH-11 and MSH-12 say of the message.
 use hl7::bytes::same_bytes;
-use hl7::cut::Span;
 use hl7::place::Delims;
-use hl7::place::in_field;
-use hl7::place::noted_part;
+use hl7::place::component;
+use hl7::place::noted_field;
+use hl7::place::repetition;
 ghost use mathlib.Core.Path.{_≡_};
 ghost use Prim.Native.Nat.{_<_, _≤_};
 ghost use Rattle.hl7.specs.Bytes.{same};
-ghost use Rattle.hl7.specs.Place.{MshNoted, inSegment};
-ghost use Rattle.hl7.specs.Spans.{Spans};
+ghost use Rattle.hl7.specs.Noted.{MshNoted};
 ghost use Rattle.grade.specs.Header.{mshAt, isProcessingId, headerOf, anyWrong};
 
 // Which of the four header checks fail.
@@ -19,26 +18,21 @@ pub struct Header {
     pub version_wrong: bool,
 }
 
-// Where a component of MSH stands, in the first repetition of its field.
-pub(crate) fn msh_part(
+// A component of MSH, in the first repetition of its field.
+pub(crate) fn msh_value<'a, 'b>(
     d: Delims,
-    msh: &[u8],
-    starts: &[usize],
+    msh: &'a [u8],
+    starts: &'b [usize],
     count: usize,
-    field: usize,
-    component: usize,
-) -> Span
-    requires { ⌜ MshNoted d (now msh) (now starts) count × (2 < field) × (field ≤ 12) ⌝ }
-    ensures { λ r. ⌜ Spans (now (msh .entry)) (inSegment d (now (msh .entry)) field 1 component) r ⌝ }
+    f: usize,
+    c: usize,
+) -> &'a [u8]
+    requires { ⌜ MshNoted d (now msh) (now starts) count × (2 < f) × (f ≤ 12) ⌝ }
+    ensures { λ r. ⌜ now r ≡ mshAt d (now (msh .entry)) f c ⌝ }
 {
-    let fld = noted_part(d, msh, starts, count, field - 1);
-    let start = fld.start;
-    let end = fld.end;
-    let inner = in_field(d, &msh[start..end], false, 1, component);
-    Span {
-        start: start + inner.start,
-        end: start + inner.end,
-    }
+    let fld = noted_field(d, msh, true, starts, count, f);
+    let rep = repetition(d, fld, false, 1);
+    component(d, rep, false, c)
 }
 
 // Whether a component of MSH, in the first repetition of its field, is a text.
@@ -47,17 +41,14 @@ fn msh_is(
     msh: &[u8],
     starts: &[usize],
     count: usize,
-    field: usize,
-    component: usize,
+    f: usize,
+    c: usize,
     text: &[u8],
 ) -> bool
-    requires { ⌜ MshNoted d (now msh) (now starts) count × (2 < field) × (field ≤ 12) ⌝ }
-    ensures { λ r. ⌜ r ≡ same (mshAt d (now (msh .entry)) field component) (now (text .entry)) ⌝ }
+    requires { ⌜ MshNoted d (now msh) (now starts) count × (2 < f) × (f ≤ 12) ⌝ }
+    ensures { λ r. ⌜ r ≡ same (mshAt d (now (msh .entry)) f c) (now (text .entry)) ⌝ }
 {
-    let at = msh_part(d, msh, starts, count, field, component);
-    let start = at.start;
-    let end = at.end;
-    same_bytes(&msh[start..end], text)
+    same_bytes(msh_value(d, msh, starts, count, f, c), text)
 }
 
 fn is_processing_id(v: &[u8]) -> bool
@@ -70,10 +61,7 @@ fn has_processing_id(d: Delims, msh: &[u8], starts: &[usize], count: usize) -> b
     requires { ⌜ MshNoted d (now msh) (now starts) count ⌝ }
     ensures { λ r. ⌜ r ≡ isProcessingId (mshAt d (now (msh .entry)) 11 1) ⌝ }
 {
-    let at = msh_part(d, msh, starts, count, 11, 1);
-    let start = at.start;
-    let end = at.end;
-    is_processing_id(&msh[start..end])
+    is_processing_id(msh_value(d, msh, starts, count, 11, 1))
 }
 
 pub(crate) fn header_of(d: Delims, msh: &[u8], starts: &[usize], count: usize) -> Header

@@ -16,10 +16,10 @@ use crate::walk::Section;
 use hl7::bytes::wide;
 use hl7::cut::find;
 use hl7::place::Delims;
-use hl7::place::noted_part;
+use hl7::place::noted_field_span;
 ghost use mathlib.Core.Path.{_≡_};
-ghost use mathlib.Core.Bool.{true, cond};
-ghost use Prim.Native.Nat.{_-_, _≤_, _<_};
+ghost use mathlib.Core.Bool.{true};
+ghost use Prim.Native.Nat.{_≤_, _<_};
 ghost use lib.ListN.{length, getD};
 ghost use Rattle.hl7.specs.Bytes.{all, differs};
 ghost use Rattle.hl7.specs.Cut.{endFrom};
@@ -159,17 +159,6 @@ fn codes_of(book: &[u8], section: Section, sets: &[usize; SET_PLACES], kind: Kin
     }
 }
 
-// The part of a segment that is a field: of MSH the one before, since the bar itself is MSH-1.
-fn part_of(msh: bool, field: u8) -> usize
-    requires { ⌜ 1 ≤ field ⌝ }
-    ensures { λ r. ⌜ r ≡ cond msh (field - 1) field ⌝ }
-{
-    if msh {
-        return wide(field) - 1;
-    }
-    wide(field)
-}
-
 // Where rule i stands at a segment of its name.
 fn open_field(
     d: Delims,
@@ -189,12 +178,13 @@ fn open_field(
     let codes = codes_of(book, section, sets, kind);
     let start = here.start;
     let end = here.end;
-    let span = noted_part(
+    let span = noted_field_span(
         d,
         &m[start..end],
+        here.name == 1,
         starts,
         here.count,
-        part_of(here.name == 1, rule.place.field),
+        wide(rule.place.field),
     );
     Field {
         codes,

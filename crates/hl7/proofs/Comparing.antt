@@ -10,7 +10,8 @@ use lib.Dec.{eqb}
 use lib.ListN.{length, getD, take, drop, length-drop, drop-of-length-le}
 use lib.Seq.{drop-cons, drop-drop, getD-drop, take-all, drop-length, take-nil, slice}
 use borrow.Author.Tests.{eq-eqb, ne-eqb, eqb-true, eqb-false}
-use Rattle.hl7.specs.Bytes.{all, occurrences, same, among, begins}
+use Rattle.hl7.specs.Bytes.{all, same, among, begins}
+use Rattle.hl7.specs.Spans.{occurrences}
 
 -- ---- lists
 -- what is left at i is the element there and what is left after it

@@ -14,9 +14,9 @@ use lib.Dec.{eqb}
 use borrow.Author.Tests.{eq-eqb, ne-eqb, eqb-true, not-true}
 use Rattle.hl7.specs.Cut.{ahead, cut, partAt, endFrom, startAt, Piece, pieceAt, missing}
 use Rattle.hl7.specs.Place.{inside}
-use Rattle.hl7.specs.Spans.{between, pieceFrom, Spans}
+use Rattle.hl7.specs.Spans.{between, pieceFrom, occurrences, Spans}
 use Rattle.hl7.specs.declared.cut.Span.{Span}
-use Rattle.hl7.specs.Bytes.{all, differs, occurrences, begins}
+use Rattle.hl7.specs.Bytes.{all, differs, begins}
 use Rattle.hl7.proofs.Comparing.{none-of, rest-at, and-both, all-take, all-drop}
 
 -- ---- one byte more
@@ -252,6 +252,23 @@ stands-from d s (suc k) at h = by-end (decLt (endFrom d s at) (length s)) (stand
 
 pub piece-stands : (d : ℕ) (s : List ℕ) (k : ℕ) → Stands s (pieceAt (cut d s) k)
 piece-stands d s k = subst⁻¹ (Stands s) (piece-from-start d s k) (stands-from d s k 0 (omega arith))
+
+-- what stands in s is no longer than s
+pub stands-short : (s : List ℕ) (p : Piece) → Stands s p → length (p .bytes) ≤ length s
+stands-short s p e = omega (arith, ap length e, length-take (length (p .bytes)) (drop (p .start) s), length-drop (p .start) s)
+
+pub part-short : (d : ℕ) (s : List ℕ) (k : ℕ) → length (partAt (cut d s) k) ≤ length s
+part-short d s k = stands-short s (pieceAt (cut d s) k) (piece-stands d s k)
+
+-- there is at most one part more than bytes
+pub cut-few : (d : ℕ) (s : List ℕ) → length (cut d s) ≤ length s + 1
+unfolding cut ahead
+cut-few d [] = omega arith
+cut-few d (x ∷ s) = by (eqb x d) (cut-few d s)
+  where
+    by : (b : Bool) → length (cut d s) ≤ length s + 1 → length (ahead b x (cut d s)) ≤ length (x ∷ s) + 1
+    by true ih = omega arith
+    by false ih = omega (arith, length-drop 1 (cut d s))
 
 -- ---- a part that is found by where it starts and ends
 pub spans-as : {s : List ℕ} {r : Span} {p q : Piece} → p ≡ q → Spans s q r → Spans s p r

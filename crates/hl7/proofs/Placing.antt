@@ -1,21 +1,24 @@
 -- Laws of `specs/Place.antt`, each in the words of the code that cites it: the tests that it made. Assumes nothing.
-use mathlib.Core.Path.{_≡_, sym, ap, _∙_}
+use mathlib.Core.Path.{_≡_, refl, sym, ap, subst, _∙_}
 use mathlib.Core.Bool.{Bool, true, false}
 use mathlib.Core.List.{List, [], _∷_}
-use Prim.Native.Nat.{ℕ, suc, _+_, _-_, _≤_, _<_}
+use Prim.Native.Nat.{ℕ, zero, suc, _+_, _-_, _≤_, _<_}
 use native.Mathlib.Omega.{arith}
 use lib.ListN.{length, take, drop, drop-of-length-le}
 use denote.Ref.{RefT}
 use denote.Slice.{sliceVal, slice-vals}
 use borrow.Author.Tests.{le-leb, lt-leb}
 use Rattle.hl7.specs.declared.place.Delims.{Delims}
+use Rattle.hl7.specs.declared.place.FieldAt.{FieldAt}
+use Rattle.hl7.specs.declared.place.FieldAt.the-variants.{Missing, Bar, Part}
 use Rattle.hl7.specs.declared.cut.Span.{Span}
 use Rattle.hl7.specs.Cut.{cut, startAt, Piece, pieceAt, missing}
-use Rattle.hl7.specs.Place.{nthOf, cutUnless, isMsh, neverCut, partOfField, componentOf, inside, inField, inSegment}
-use Rattle.hl7.specs.Spans.{between, Spans, Lies}
+use Rattle.hl7.specs.Place.{carriageReturn, nthOf, cutUnless, segmentOf, isMsh, neverCut, partOfField, fieldOf, repetitionOf, componentOf, inField, inSegment, Lies}
+use Rattle.hl7.specs.Spans.{between, Spans}
+use Rattle.hl7.specs.Noted.{FieldIs}
 use Rattle.hl7.specs.Text.{bytes}
 use Rattle.hl7.proofs.Comparing.{begins-long}
-use Rattle.hl7.proofs.Cutting.{piece-eq}
+use Rattle.hl7.proofs.Cutting.{Stands, piece-stands, stands-short, part-short, cut-few, spans-as}
 
 -- ---- part k of a list of parts, from 1
 pub nth-zero : (s : List ℕ) (ps : List (List ℕ)) {k : ℕ} → k ≡ 0 → nthOf s ps k ≡ missing s
@@ -46,12 +49,13 @@ pub field-zero : (msh : Bool) (bar : ℕ) (seg : List ℕ) {f : ℕ} → f ≡ 0
 unfolding partOfField
 field-zero msh bar seg e = rw e
 
-pub field-bar : (bar : ℕ) (seg : List ℕ) {msh : Bool} {f : ℕ} → msh ≡ true → f ≡ 1 → partOfField msh bar seg f ≡ record { start = 3; bytes = take 1 (drop 3 seg) }
+pub field-bar : (bar : ℕ) (seg : List ℕ) {msh : Bool} → msh ≡ true → partOfField msh bar seg 1 ≡ record { start = 3; bytes = between seg 3 4 }
 unfolding partOfField
-field-bar bar seg e g = rw (e, g)
+field-bar bar seg e = rw e
 
-pub field-no-bar : (bar : ℕ) (seg : List ℕ) {msh : Bool} {f : ℕ} → msh ≡ true → f ≡ 1 → length seg ≡ 3 → partOfField msh bar seg f ≡ missing seg
-field-no-bar bar seg e g l = field-bar bar seg e g ∙ piece-eq (sym l) (rw (drop-of-length-le seg {i = 3} (omega arith)))
+pub field-no-bar : (bar : ℕ) (seg : List ℕ) {msh : Bool} → msh ≡ true → length seg ≡ 3 → partOfField msh bar seg 1 ≡ record { start = 3; bytes = between seg 3 3 }
+unfolding partOfField
+field-no-bar bar seg e l = rw (e, drop-of-length-le seg {i = 3} (omega arith))
 
 pub field-msh : (bar : ℕ) (seg : List ℕ) {msh : Bool} {f : ℕ} → msh ≡ true → (f ≡ 0 → ⊥) → (f ≡ 1 → ⊥) → partOfField msh bar seg f ≡ pieceAt (cut bar seg) (f - 1)
 unfolding partOfField
@@ -65,6 +69,23 @@ unfolding partOfField
 field-other bar seg {msh} {f} e h =
     let positive : f ≡ suc (f - 1) = omega arith in
     rw e (ap (partOfField false bar seg) positive ∙ ap (pieceAt (cut bar seg)) (sym positive))
+
+-- what `field_at` answered, put to use: where the code found the field that it is
+module _ (bar : ℕ) (seg : List ℕ) (f : ℕ) {msh : Bool} (a : FieldAt) (named : msh ≡ isMsh seg) (is : FieldIs msh f a) where
+  pub at-missing : {r : Span} → a ≡ Missing → Spans seg (missing seg) r → Spans seg (partOfField (isMsh seg) bar seg f) r
+  at-missing e found = spans-as (field-zero (isMsh seg) bar seg (subst (FieldIs msh f) e is)) found
+
+  pub at-bar-named : a ≡ Bar → isMsh seg ≡ true
+  at-bar-named e = sym named ∙ subst (FieldIs msh f) e is .0
+
+  pub at-bar : {r : Span} → a ≡ Bar → Spans seg (partOfField (isMsh seg) bar seg 1) r → Spans seg (partOfField (isMsh seg) bar seg f) r
+  at-bar e found = spans-as (ap (partOfField (isMsh seg) bar seg) (subst (FieldIs msh f) e is .1)) found
+
+  pub at-part : {r : Span} (k : ℕ) → a ≡ Part k → Spans seg (pieceAt (cut bar seg) k) r → Spans seg (partOfField (isMsh seg) bar seg f) r
+  at-part k e found = spans-as (rw (← named) (subst (FieldIs msh f) e is .0 bar seg)) found
+
+  pub at-part-few : (k : ℕ) → a ≡ Part k → k ≤ f
+  at-part-few k e = subst (FieldIs msh f) e is .1
 
 -- ---- components
 pub component-zero : (d : Delims) (b : Bool) (rep : List ℕ) {c : ℕ} → c ≡ 0 → componentOf d b rep c ≡ record { start = 0; bytes = rep }
@@ -86,17 +107,39 @@ pub cut-early : (seg : List ℕ) {f : ℕ} → f ≤ 2 → neverCut seg f ≡ is
 unfolding neverCut
 cut-early seg {f} h = rw (le-leb f 2 h)
 
--- a component of a field of MSH from MSH-3 on
-pub in-msh : (d : Delims) (msh : List ℕ) {f : ℕ} (r c : ℕ) → isMsh msh ≡ true → 2 < f → inSegment d msh f r c ≡ inside (pieceAt (cut (d .bar) msh) (f - 1)) (λ fld. inField d false fld r c)
-unfolding inSegment
-in-msh d msh {f} r c named h = rw (cut-later msh h, field-msh (d .bar) msh {f = f} named (omega arith) (omega arith))
+-- a component of a repetition of a field from the third on, which is cut whatever its segment is
+pub in-cut : (d : Delims) (seg : List ℕ) (f r c : ℕ) {fld rep x : List ℕ} → 2 < f → fld ≡ fieldOf d seg f .bytes → rep ≡ repetitionOf d false fld r .bytes → x ≡ componentOf d false rep c .bytes → x ≡ inSegment d seg f r c .bytes
+unfolding inSegment inField
+in-cut d seg f r c h of-field of-repetition of-component = rw (cut-later seg h, ← of-field, ← of-repetition) of-component
+
+-- ---- how long, how many
+pub segment-short : (m : List ℕ) (n : ℕ) → length (segmentOf m n .bytes) ≤ length m
+unfolding nthOf cutUnless
+segment-short m zero = omega arith
+segment-short m (suc n) = part-short carriageReturn m n
+
+-- a field's bytes stand in its segment where it says
+pub field-stands : (msh : Bool) (bar : ℕ) (seg : List ℕ) (f : ℕ) → Stands seg (partOfField msh bar seg f)
+unfolding partOfField
+field-stands msh bar seg zero = refl
+field-stands true bar seg (suc zero) = front (drop 3 seg)
+  where
+    front : (l : List ℕ) → take (length (take 1 l)) l ≡ take 1 l
+    front [] = refl
+    front (x ∷ l) = refl
+field-stands true bar seg (suc (suc k)) = piece-stands bar seg (suc k)
+field-stands false bar seg (suc k) = piece-stands bar seg (suc k)
+
+pub field-short : (msh : Bool) (bar : ℕ) (seg : List ℕ) (f : ℕ) → length (partOfField msh bar seg f .bytes) ≤ length seg
+field-short msh bar seg f = stands-short seg (partOfField msh bar seg f) (field-stands msh bar seg f)
+
+pub whole-few : (b : Bool) (d : ℕ) (s : List ℕ) → length (cutUnless b d s) ≤ length s + 1
+unfolding cutUnless
+whole-few true d s = omega arith
+whole-few false d s = cut-few d s
 
 -- ---- a part of the lent slice itself
-pub lies-spanned : (s : RefT (List ℕ)) {r : RefT (List ℕ)} {p : Piece} {x : Span} → Spans (s .now) p x → r .now ≡ between (s .now) (x .start) (x .end) → r .ptr .0 ≡ s .ptr .0 → r .ptr .1 ≡ s .ptr .1 + x .start → Lies s r p
-lies-spanned s a bytes block offset =
-    record { bytes = bytes ∙ a .bytes; block = block; offset = offset ∙ ap (λ (n : ℕ). s .ptr .1 + n) (a .start) }
-
--- what the contract of `locate` allows is one machine value: the same pointer and the same count, also of an empty part
+-- what the contract of `locate` allows, as every one by `Lies`, is one machine value: the same pointer and the same count, also of an empty part
 pub locate-once : {s r q : RefT (List ℕ)} {p : Piece} → Lies s r p → Lies s q p → slice-vals r ≡ slice-vals q
 locate-once {s} {r} {q} a b =
     let same-bytes : r .now ≡ q .now = a .bytes ∙ sym (b .bytes) in

@@ -54,3 +54,17 @@ ended-same (p ∷ []) zero e = sym e
 ended-same (p ∷ []) (suc k) e = refl
 ended-same (p ∷ (q ∷ ps)) zero e = refl
 ended-same (p ∷ (q ∷ ps)) (suc k) e = ended-same (q ∷ ps) k e
+
+-- they are fewer than all parts, and each is one of those
+pub ended-few : (ps : List (List ℕ)) → length (butLast ps) ≤ length ps - 1
+unfolding butLast
+ended-few [] = omega arith
+ended-few (p ∷ []) = omega arith
+ended-few (p ∷ (q ∷ ps)) = omega (arith, ended-few (q ∷ ps))
+
+pub ended-short : (ps : List (List ℕ)) (k : ℕ) → length (partAt (butLast ps) k) ≤ length (partAt ps k)
+unfolding butLast
+ended-short [] k = omega arith
+ended-short (p ∷ []) k = omega arith
+ended-short (p ∷ (q ∷ ps)) zero = omega arith
+ended-short (p ∷ (q ∷ ps)) (suc k) = ended-short (q ∷ ps) k

@@ -1,6 +1,6 @@
--- Comparing bytes. Bytes are a list of numbers. Assumes nothing.
-use Prim.Native.Nat.{ℕ, _+_}
-use mathlib.Core.Bool.{Bool, true, false, cond, not, _&&_, _||_}
+-- To be believed. Comparing bytes. Bytes are a list of numbers. Assumes nothing.
+use Prim.Native.Nat.{ℕ}
+use mathlib.Core.Bool.{Bool, true, false, not, _&&_, _||_}
 use mathlib.Core.List.{List, [], _∷_}
 use lib.Dec.{eqb, leb}
 
@@ -20,11 +20,6 @@ all test (x ∷ s) = test x && all test s
 
 abbrev pub differs : ℕ → ℕ → Bool
 differs d x = not (eqb x d)
-
--- how many bytes of s are d
-unfoldable pub occurrences : ℕ → List ℕ → ℕ
-occurrences d [] = 0
-occurrences d (x ∷ s) = cond (eqb x d) 1 0 + occurrences d s
 
 -- v and w are the same bytes
 unfoldable pub same : List ℕ → List ℕ → Bool

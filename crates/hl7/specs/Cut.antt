@@ -1,4 +1,4 @@
--- Cutting bytes at a delimiter, and where each part stands. Assumes nothing.
+-- To be believed. Cutting bytes at a delimiter, and where each part stands. Assumes nothing.
 use Prim.Native.Nat.{ℕ, zero, suc, _+_}
 use mathlib.Core.Bool.{Bool, true, false}
 use mathlib.Core.List.{List, [], _∷_}

@@ -1,15 +1,15 @@
--- Segments, fields, repetitions and components of a message (HL7 2.5.1 chapter 2): what each holds, and where it stands. Assumes nothing.
-use Prim.Native.Nat.{ℕ, zero, suc, _+_, _<_}
+-- To be believed. Segments, fields, repetitions and components of a message (HL7 2.5.1 chapter 2): what each holds, and where it stands. Assumes nothing.
+use Prim.Native.Nat.{ℕ, zero, suc, _+_}
 use Prim.Native.Char.{code}
 use mathlib.Core.Path.{_≡_}
 use mathlib.Core.Bool.{Bool, true, false, _&&_}
 use mathlib.Core.List.{List, [], _∷_}
-use lib.ListN.{length, take, drop}
+use lib.ListN.{take, drop}
 use lib.Dec.{leb}
+use denote.Ref.{RefT}
 use Rattle.hl7.specs.declared.place.Delims.{Delims}
 use Rattle.hl7.specs.Bytes.{begins}
 use Rattle.hl7.specs.Cut.{cut, Piece, pieceAt, missing, butLast}
-use Rattle.hl7.specs.Spans.{Noted}
 use Rattle.hl7.specs.Text.{bytes}
 
 -- ---- the delimiters
@@ -62,16 +62,13 @@ fieldOf d seg f = partOfField (isMsh seg) (d .bar) seg f
 unfoldable pub neverCut : List ℕ → ℕ → Bool
 neverCut seg f = leb f 2 && isMsh seg
 
--- the fields of MSH up to MSH-12 are noted
-pub record MshNoted (d : Delims) (msh starts : List ℕ) (count : ℕ) : Type 0 where
-  pub named : isMsh msh ≡ true
-  pub noted : Noted (d .bar) msh starts count
-  pub room : 12 < length starts
-
 -- ---- repetitions and components
 -- tildes cut a field into repetitions
 abbrev pub repetitionsIn : Delims → Bool → List ℕ → List (List ℕ)
 repetitionsIn d whole fld = cutUnless whole (d .tilde) fld
+
+abbrev pub repetitionOf : Delims → Bool → List ℕ → ℕ → Piece
+repetitionOf d whole fld r = nthOf fld (repetitionsIn d whole fld) r
 
 -- carets cut a repetition into components; component 0 is the repetition
 unfoldable pub componentOf : Delims → Bool → List ℕ → ℕ → Piece
@@ -85,7 +82,7 @@ inside p f = record { start = p .start + f (p .bytes) .start; bytes = f (p .byte
 
 -- repetition r, component c of a field
 unfoldable pub inField : Delims → Bool → List ℕ → ℕ → ℕ → Piece
-inField d whole fld r c = inside (nthOf fld (repetitionsIn d whole fld) r) (λ rep. componentOf d whole rep c)
+inField d whole fld r c = inside (repetitionOf d whole fld r) (λ rep. componentOf d whole rep c)
 
 -- field f, repetition r, component c of a segment
 unfoldable pub inSegment : Delims → List ℕ → ℕ → ℕ → ℕ → Piece
@@ -98,3 +95,10 @@ place d m n f r c = inside (segmentOf m n) (λ seg. inSegment d seg f r c)
 -- all repetitions of a field of a segment
 unfoldable pub repetitionsOf : Delims → List ℕ → ℕ → List (List ℕ)
 repetitionsOf d seg f = repetitionsIn d (neverCut seg f) (fieldOf d seg f .bytes)
+
+-- ---- handing a part back
+-- r is the piece p of the lent bytes s themselves: the same memory, and not a copy
+pub record Lies (s r : RefT (List ℕ)) (p : Piece) : Type 0 where
+  pub bytes : r .now ≡ p .bytes
+  pub block : r .ptr .0 ≡ s .ptr .0
+  pub offset : r .ptr .1 ≡ s .ptr .1 + p .start

@@ -1,3 +1,4 @@
+-- Inner: only contracts inside the crates use these names; nothing here has to be believed.
 -- The parts of a cut from a position on: what a loop over them has still before it. Assumes nothing.
 use Prim.Native.Nat.{ℕ}
 use mathlib.Core.Bool.{cond}

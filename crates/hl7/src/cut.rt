@@ -4,9 +4,9 @@ ghost use mathlib.Core.Path.{_≡_};
 ghost use mathlib.Core.Bool.{cond};
 ghost use Prim.Native.Nat.{_≤_};
 ghost use lib.ListN.{length};
-ghost use Rattle.hl7.specs.Bytes.{all, differs, occurrences};
+ghost use Rattle.hl7.specs.Bytes.{all, differs};
 ghost use Rattle.hl7.specs.Cut.{cut, endFrom, pieceAt};
-ghost use Rattle.hl7.specs.Spans.{Spans, pieceFrom};
+ghost use Rattle.hl7.specs.Spans.{Spans, pieceFrom, occurrences};
 
 // Bytes that are looked at together.
 const BLOCK: usize = 16;
@@ -123,7 +123,7 @@ fn pass_parts(s: &[u8], d: u8, k: usize) -> Left
 }
 
 // Part k of s cut at d, counted from 0; what is missing stands at the end of s.
-pub fn part(s: &[u8], d: u8, k: usize) -> Span
+pub(crate) fn part(s: &[u8], d: u8, k: usize) -> Span
     ensures { λ r. ⌜ Spans (now (s .entry)) (pieceAt (cut d (now (s .entry))) k) r ⌝ }
 {
     let n = s.len();

@@ -4,7 +4,8 @@ use crate::place::delims_of;
 use crate::place::in_message;
 use crate::refusal::is_sound;
 ghost use Rattle.hl7.specs.Refusals.{located};
-ghost use Rattle.hl7.specs.Spans.{Spans, Lies};
+ghost use Rattle.hl7.specs.Place.{Lies};
+ghost use Rattle.hl7.specs.Spans.{Spans};
 
 // Where a place stands in a message: nowhere, at its start, where refusals 1 to 5 apply.
 pub fn locate_span(

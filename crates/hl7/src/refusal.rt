@@ -157,7 +157,7 @@ pub fn is_sound_reading(reading: Reading) -> bool
 }
 
 // Whether none of refusals 1 to 5 applies.
-pub fn is_sound(m: &[u8]) -> bool
+pub(crate) fn is_sound(m: &[u8]) -> bool
     ensures { λ r. ⌜ r ≡ isSound (now (m .entry)) ⌝ }
 {
     is_sound_reading(check(m))

@@ -1,24 +1,25 @@
 -- `ack::answer::answer_admitted` meets its contract. Assumes nothing.
-use mathlib.Core.Path.{sym, _∙_}
-use Prim.Native.Nat.{_-_}
+use mathlib.Core.Path.{sym, ap, _∙_}
 use native.Mathlib.Omega.{arith}
 use borrow.Author.Needs.{needs}
-use Rattle.ack.proofs.Admitting.{admitted-short, admitted-msh, admitted-holds, admitted-few, stamp-length, part-within, answer-stamp, answer-by-header, answer-by-grading}
+use lib.ListN.{length}
+use Rattle.hl7.proofs.Placing.{segment-short}
+use Rattle.ack.proofs.Admitting.{admitted-short, admitted-msh, admitted-holds, admitted-few, stamp-length, answer-stamp, answer-by-header, answer-by-grading}
 use Rattle.ack.proofs.answer.answer_admitted.Statement.{statement}
 use Rattle.ack.proofs.answer.answer_admitted.Tie as tie
 
 answer-header-requires : tie.Need-answer-header-requires
 answer-header-requires c κs =
-    let at-wrong = c .before .before .before in
+    let at-wrong = c .before .before in
     let at-segment = at-wrong .before in
     let at-then = at-segment .before .before in
     let begin = at-then .before .before .before .before .before .before in
     let stamp = stamp-length (begin .args .stamp .now) (sym (at-then .before .is-stamp .ensures) ∙ at-then .if1 .taken) in
-    (part-within (begin .args .m .now) (at-segment .segment .result .end - at-segment .segment .result .start) (at-segment .segment .result .start) (admitted-short (begin .args .m .now) (begin .args .book .now) (begin .pre)), omega arith, sym (at-wrong .any-wrong .ensures) ∙ c .before .before .if2 .taken, admitted-msh (begin .args .m .now) (begin .args .book .now) (begin .pre) (at-segment .segment .ensures .bytes))
+    (omega (arith, ap length (at-segment .segment .ensures .bytes), segment-short (begin .args .m .now) 1, admitted-short (begin .args .m .now) (begin .args .book .now) (begin .pre)), omega arith, sym (at-wrong .any-wrong .ensures) ∙ c .before .if2 .taken, admitted-msh (begin .args .m .now) (begin .args .book .now) (begin .pre) (at-segment .segment .ensures .bytes))
 
 answer-graded-requires : tie.Need-answer-graded-requires
 answer-graded-requires c κs =
-    let at-wrong = c .before .before .before in
+    let at-wrong = c .before .before in
     let at-segment = at-wrong .before in
     let at-then = at-segment .before .before in
     let begin = at-then .before .before .before .before .before .before in
@@ -26,7 +27,7 @@ answer-graded-requires c κs =
     let short = admitted-short (begin .args .m .now) (begin .args .book .now) (begin .pre) in (
       short,
       admitted-holds (begin .args .m .now) (begin .args .book .now) (begin .pre),
-      part-within (begin .args .m .now) (at-segment .segment .result .end - at-segment .segment .result .start) (at-segment .segment .result .start) short,
+      omega (arith, ap length (at-segment .segment .ensures .bytes), segment-short (begin .args .m .now) 1, short),
       omega arith,
       admitted-few (begin .args .m .now) (begin .args .book .now) (begin .pre),
       at-segment .before .delims-of .ensures,
@@ -36,7 +37,7 @@ answer-graded-requires c κs =
 returns : tie.Need-returns
 returns c =
     let at-answer = c .before .before in
-    let at-if = at-answer .before .before .before in
+    let at-if = at-answer .before .before in
     let at-wrong = at-if .before in
     let at-segment = at-wrong .before in
     let at-then = at-segment .before .before in
@@ -47,7 +48,7 @@ returns c =
 returns-2 : tie.Need-returns-2
 returns-2 c =
     let at-answer = c .before .before in
-    let at-if = at-answer .before .before .before in
+    let at-if = at-answer .before .before in
     let at-wrong = at-if .before in
     let at-segment = at-wrong .before in
     let at-then = at-segment .before .before in
@@ -69,15 +70,9 @@ answer-admitted-spec =
     (λ c κs. tt)
     (λ c κs. tt)
     (λ c κs. tt)
-    (λ c. search needs)
-    (λ c. search needs)
-    (λ c. search needs)
     answer-header-requires
     (λ c. search needs)
     returns
-    (λ c. search needs)
-    (λ c. search needs)
-    (λ c. search needs)
     answer-graded-requires
     (λ c. search needs)
     returns-2

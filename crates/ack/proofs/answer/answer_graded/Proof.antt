@@ -15,7 +15,7 @@ heading-length-requires c κs =
     let begin = at-errs .before .before .before .before .before .before .before .before .before .before .before .before in (
       record {
         named = begin .pre .6;
-        noted = at-note .note-fields .ensures;
+        noted = at-note .note-fields .ensures .noted;
         room = omega (arith, at-note .note-fields .kept .1 .1 .0, at-errs .put-errs .kept .1 .1 .1 .1 .1 .1 .1 .1 .0);
       },
       begin .pre .2,
@@ -39,7 +39,7 @@ put-heading-requires : tie.Need-put-heading-requires
 put-heading-requires c κs =
     let at-note = c .before .before .before .before .before .before .before in
     let at-errs = at-note .before .before .before .before in
-    record { named = at-errs .before .before .before .before .before .before .before .before .before .before .before .before .pre .6; noted = at-note .note-fields .ensures; room = omega (arith, at-note .note-fields .kept .1 .1 .0, at-errs .put-errs .kept .1 .1 .1 .1 .1 .1 .1 .1 .0) }
+    record { named = at-errs .before .before .before .before .before .before .before .before .before .before .before .before .pre .6; noted = at-note .note-fields .ensures .noted; room = omega (arith, at-note .note-fields .kept .1 .1 .0, at-errs .put-errs .kept .1 .1 .1 .1 .1 .1 .1 .1 .0) }
 
 put-graded-requires : tie.Need-put-graded-requires
 put-graded-requires c κs =

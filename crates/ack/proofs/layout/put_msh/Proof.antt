@@ -14,7 +14,7 @@ put-copy-requires-5 c κs =
     let at-put-copy4 = at-put-field .before .before .before .before in
     let at-put-copy = at-put-copy4 .before .before .before .before .before .before .before .before .before .before .before .before in
     let begin = at-put-copy .before .before .before .before .before .before .before .before .before .before .before in
-    (begin .pre, omega arith, omega arith)
+    (begin .pre, omega arith)
 
 returns : tie.Need-returns
 returns c =

@@ -13,32 +13,24 @@ check-requires c κs = search needs
 is-sound-reading-requires : tie.Need-is-sound-reading-requires
 is-sound-reading-requires c κs = search needs
 
-segment-requires : tie.Need-segment-requires
-segment-requires c κs = search needs
-
 delims-of-requires : tie.Need-delims-of-requires
 delims-of-requires c κs = search needs
 
-sub-admit-msh : tie.Need-sub-admit-msh
-sub-admit-msh c = search needs
-
-part-admit-msh-start : tie.Need-part-admit-msh-start
-part-admit-msh-start c = search needs
-
-part-admit-msh-end : tie.Need-part-admit-msh-end
-part-admit-msh-end c = search needs
+segment-requires : tie.Need-segment-requires
+segment-requires c κs = search needs
 
 admit-msh-requires : tie.Need-admit-msh-requires
 admit-msh-requires c κs =
-    let cut = c .before .before in
-    let checked = cut .before .before .before in
-    ap isMsh (cut .segment .ensures .bytes) ∙ sound-msh _ (sym (sound-is _ (checked .check .result) (checked .check .ensures)) ∙ sym (cut .before .before .is-sound-reading .ensures) ∙ cut .before .if1 .taken)
+    let sound = c .before .before in
+    let checked = sound .before .before in
+    ap isMsh (c .segment .ensures .bytes) ∙ sound-msh _ (sym (sound-is _ (checked .check .result) (checked .check .ensures)) ∙ sym (sound .before .is-sound-reading .ensures) ∙ sound .if1 .taken)
 
 returns : tie.Need-returns
 returns c =
-    let cut = c .before .before .before in
-    let checked = cut .before .before .before in
-    admit-sound _ _ (sym (sound-is _ (checked .check .result) (checked .check .ensures)) ∙ sym (cut .before .before .is-sound-reading .ensures) ∙ cut .before .if1 .taken) (c .before .before .delims-of .ensures) (cut .segment .ensures .bytes) (c .admit-msh .ensures)
+    let cut = c .before in
+    let sound = cut .before .before in
+    let checked = sound .before .before in
+    admit-sound _ _ (sym (sound-is _ (checked .check .result) (checked .check .ensures)) ∙ sym (sound .before .is-sound-reading .ensures) ∙ sound .if1 .taken) (cut .before .delims-of .ensures) (cut .segment .ensures .bytes) (c .admit-msh .ensures)
 
 returns-2 : tie.Need-returns-2
 returns-2 c =
@@ -51,11 +43,8 @@ admit-spec =
     (tie.spec
     check-requires
     is-sound-reading-requires
-    segment-requires
     delims-of-requires
-    sub-admit-msh
-    part-admit-msh-start
-    part-admit-msh-end
+    segment-requires
     admit-msh-requires
     returns
     returns-2)

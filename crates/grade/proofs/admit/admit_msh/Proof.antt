@@ -1,6 +1,5 @@
 -- `grade::admit::admit_msh` meets its contract: rows 6 to 9. Assumes nothing.
 use mathlib.Core.Path.{sym, _∙_}
-use Rattle.grade.specs.Header.{mshAt}
 use Rattle.grade.proofs.Admitting.{admit-none, admit-some}
 use borrow.Author.Needs.{needs}
 use Rattle.grade.proofs.admit.admit_msh.Statement.{statement}
@@ -18,20 +17,11 @@ slice-aggregate-has-control-id c = search needs
 has-control-id-requires : tie.Need-has-control-id-requires
 has-control-id-requires c κs = search needs
 
-slice-aggregate-msh-part : tie.Need-slice-aggregate-msh-part
-slice-aggregate-msh-part c = search needs
+slice-aggregate-msh-value : tie.Need-slice-aggregate-msh-value
+slice-aggregate-msh-value c = search needs
 
-msh-part-requires : tie.Need-msh-part-requires
-msh-part-requires c κs = search needs
-
-sub-open-book : tie.Need-sub-open-book
-sub-open-book c = search needs
-
-part-open-book-start : tie.Need-part-open-book-start
-part-open-book-start c = search needs
-
-part-open-book-end : tie.Need-part-open-book-end
-part-open-book-end c = search needs
+msh-value-requires : tie.Need-msh-value-requires
+msh-value-requires c κs = search needs
 
 open-book-requires : tie.Need-open-book-requires
 open-book-requires c κs = search needs
@@ -46,12 +36,11 @@ by-section-requires : tie.Need-by-section-requires
 by-section-requires c κs = search needs
 
 returns : tie.Need-returns
-unfolding mshAt
 returns c =
     let opened = c .before .before .before in
-    let key = opened .before .before in
+    let key = opened .before in
     let chosen = key .before .before in
-    admit-some _ _ _ (sym (chosen .before .has-control-id .ensures) ∙ chosen .if1 .taken) (key .msh-part .ensures .bytes) (opened .open-book .ensures) (c .before .header-of .ensures) (c .by-section .ensures)
+    admit-some _ _ _ (sym (chosen .before .has-control-id .ensures) ∙ chosen .if1 .taken) (key .msh-value .ensures) (opened .open-book .ensures) (c .before .header-of .ensures) (c .by-section .ensures)
 
 returns-2 : tie.Need-returns-2
 returns-2 c = admit-none _ _ _ (sym (c .before .has-control-id .ensures) ∙ c .if1 .left)
@@ -64,11 +53,8 @@ admit-msh-spec =
     note-fields-requires
     slice-aggregate-has-control-id
     has-control-id-requires
-    slice-aggregate-msh-part
-    msh-part-requires
-    sub-open-book
-    part-open-book-start
-    part-open-book-end
+    slice-aggregate-msh-value
+    msh-value-requires
     open-book-requires
     slice-aggregate-header-of
     header-of-requires

@@ -12,15 +12,6 @@ component-requires c κs = search needs
 is-judged-requires : tie.Need-is-judged-requires
 is-judged-requires c κs = search needs
 
-sub-is-broken : tie.Need-sub-is-broken
-sub-is-broken c = search needs
-
-part-is-broken-start : tie.Need-part-is-broken-start
-part-is-broken-start c = search needs
-
-part-is-broken-end : tie.Need-part-is-broken-end
-part-is-broken-end c = search needs
-
 is-broken-requires : tie.Need-is-broken-requires
 is-broken-requires c κs = search needs
 
@@ -34,8 +25,5 @@ breaks-rule-spec =
     wide-requires
     component-requires
     is-judged-requires
-    sub-is-broken
-    part-is-broken-start
-    part-is-broken-end
     is-broken-requires
     returns)

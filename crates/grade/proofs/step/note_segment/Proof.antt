@@ -15,7 +15,7 @@ same-length : tie.Need-same-length
 same-length c = search needs
 
 returns : tie.Need-returns
-returns c = λ e. record { noted = c .before .before .before .note-fields .ensures; untilded = λ t. sym (c .none-is .ensures) ∙ t }
+returns c = λ e. record { noted = c .before .before .before .note-fields .ensures .noted; untilded = λ t. sym (c .none-is .ensures) ∙ t }
 
 returns-2 : tie.Need-returns-2
 returns-2 c = λ e. absurd (true≢false (sym e ∙ c .if1 .left))

@@ -1,6 +1,6 @@
 -- `hl7::cut::part` meets its contract. The invariant of its loop: the piece asked for is piece `left` of what begins at `start`.
 -- Assumes nothing.
-use mathlib.Core.Path.{_≡_, refl, _∙_}
+use mathlib.Core.Path.{_≡_, _∙_}
 use Prim.Native.Nat.{_≤_}
 use borrow.Author.Needs.{needs}
 use native.Mathlib.Omega.{arith}

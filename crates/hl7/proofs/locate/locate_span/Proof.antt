@@ -1,5 +1,4 @@
 -- `hl7::locate::locate_span` meets its contract: the place, or the message's start where it is refused. Assumes nothing.
-use mathlib.Core.Path.{sym, _∙_}
 use native.Mathlib.Omega.{arith}
 use Rattle.hl7.proofs.Cutting.{spans-as, spans-between}
 use Rattle.hl7.proofs.Refusing.{located-sound, located-refused}

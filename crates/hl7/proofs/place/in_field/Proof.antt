@@ -5,20 +5,20 @@ use borrow.Author.Needs.{needs}
 use Rattle.hl7.proofs.place.in_field.Statement.{statement}
 use Rattle.hl7.proofs.place.in_field.Tie as tie
 
-nth-requires : tie.Need-nth-requires
-nth-requires c κs = search needs
+repetition-span-requires : tie.Need-repetition-span-requires
+repetition-span-requires c κs = search needs
 
-sub-component : tie.Need-sub-component
-sub-component c = search needs
+sub-component-span : tie.Need-sub-component-span
+sub-component-span c = search needs
 
-part-component-start : tie.Need-part-component-start
-part-component-start c = search needs
+part-component-span-start : tie.Need-part-component-span-start
+part-component-span-start c = search needs
 
-part-component-end : tie.Need-part-component-end
-part-component-end c = search needs
+part-component-span-end : tie.Need-part-component-span-end
+part-component-span-end c = search needs
 
-component-requires : tie.Need-component-requires
-component-requires c κs = search needs
+component-span-requires : tie.Need-component-span-requires
+component-span-requires c κs = search needs
 
 add-t11 : tie.Need-add-t11
 add-t11 c = search needs
@@ -30,17 +30,17 @@ returns : tie.Need-returns
 unfolding inField
 returns c =
     let a = c .before .before .before .before .before .before .args in
-    spans-inside (λ rep. componentOf (a .d) (a .whole) rep (a .c)) (c .before .before .before .before .nth .ensures) (c .before .before .component .ensures)
+    spans-inside (λ rep. componentOf (a .d) (a .whole) rep (a .c)) (c .before .before .before .before .repetition-span .ensures) (c .before .before .component-span .ensures)
 
 pub in-field-spec : {M : Type 1} → statement M
 in-field-spec =
     tie.close
     (tie.spec
-    nth-requires
-    sub-component
-    part-component-start
-    part-component-end
-    component-requires
+    repetition-span-requires
+    sub-component-span
+    part-component-span-start
+    part-component-span-end
+    component-span-requires
     add-t11
     add-t14
     returns)

@@ -5,8 +5,8 @@ use borrow.Author.Needs.{needs}
 use Rattle.hl7.proofs.place.in_message.Statement.{statement}
 use Rattle.hl7.proofs.place.in_message.Tie as tie
 
-segment-requires : tie.Need-segment-requires
-segment-requires c κs = search needs
+segment-span-requires : tie.Need-segment-span-requires
+segment-span-requires c κs = search needs
 
 sub-in-segment : tie.Need-sub-in-segment
 sub-in-segment c = search needs
@@ -30,13 +30,13 @@ returns : tie.Need-returns
 unfolding place
 returns c =
     let a = c .before .before .before .before .before .before .args in
-    spans-inside (λ seg. inSegment (a .d) seg (a .f) (a .r) (a .c)) (c .before .before .before .before .segment .ensures) (c .before .before .in-segment .ensures)
+    spans-inside (λ seg. inSegment (a .d) seg (a .f) (a .r) (a .c)) (c .before .before .before .before .segment-span .ensures) (c .before .before .in-segment .ensures)
 
 pub in-message-spec : {M : Type 1} → statement M
 in-message-spec =
     tie.close
     (tie.spec
-    segment-requires
+    segment-span-requires
     sub-in-segment
     part-in-segment-start
     part-in-segment-end

@@ -8,8 +8,8 @@ use Rattle.hl7.proofs.place.in_segment.Tie as tie
 never-cut-requires : tie.Need-never-cut-requires
 never-cut-requires c κs = search needs
 
-field-requires : tie.Need-field-requires
-field-requires c κs = search needs
+field-span-requires : tie.Need-field-span-requires
+field-span-requires c κs = search needs
 
 sub-in-field : tie.Need-sub-in-field
 sub-in-field c = search needs
@@ -33,14 +33,14 @@ returns : tie.Need-returns
 unfolding inSegment
 returns c =
     let a = c .before .before .before .before .before .before .before .args in
-    spans-inside (λ fld. inField (a .d) (neverCut (a .seg .now) (a .f)) fld (a .r) (a .c)) (c .before .before .before .before .field .ensures) (rw (c .before .before .before .before .before .never-cut .ensures) at (c .before .before .in-field .ensures))
+    spans-inside (λ fld. inField (a .d) (neverCut (a .seg .now) (a .f)) fld (a .r) (a .c)) (c .before .before .before .before .field-span .ensures) (rw (c .before .before .before .before .before .never-cut .ensures) at (c .before .before .in-field .ensures))
 
 pub in-segment-spec : {M : Type 1} → statement M
 in-segment-spec =
     tie.close
     (tie.spec
     never-cut-requires
-    field-requires
+    field-span-requires
     sub-in-field
     part-in-field-start
     part-in-field-end

@@ -1,20 +1,26 @@
 -- `hl7::place::nth` meets its contract: each `return` is a case of `nthOf`. Assumes nothing.
 use mathlib.Core.Path.{_∙_}
 use native.Mathlib.Omega.{arith}
-use Rattle.hl7.proofs.Cutting.{piece-from-start, piece-here, end-within, spans-as, spans-missing, spans-whole, spans-between}
+use Rattle.hl7.proofs.Cutting.{piece-from-start, piece-here, end-within, spans-as, spans-whole, spans-between}
 use Rattle.hl7.proofs.Placing.{nth-zero, nth-whole, nth-past-whole, nth-cut}
 use borrow.Author.Needs.{needs}
 use Rattle.hl7.proofs.place.nth.Statement.{statement}
 use Rattle.hl7.proofs.place.nth.Tie as tie
 
+missing-span-requires : tie.Need-missing-span-requires
+missing-span-requires c κs = search needs
+
 returns : tie.Need-returns
-returns c = spans-as (nth-zero _ _ (omega arith)) (spans-missing _)
+returns c = spans-as (nth-zero _ _ (omega arith)) (c .missing-span .ensures)
 
 returns-2 : tie.Need-returns-2
 returns-2 c = spans-as (nth-whole _ _ (cc) (omega arith)) (spans-whole _)
 
+missing-span-requires-2 : tie.Need-missing-span-requires-2
+missing-span-requires-2 c κs = search needs
+
 returns-3 : tie.Need-returns-3
-returns-3 c = spans-as (nth-past-whole _ _ (cc) (omega arith) (omega arith)) (spans-missing _)
+returns-3 c = spans-as (nth-past-whole _ _ (cc) (omega arith) (omega arith)) (c .missing-span2 .ensures)
 
 find-far-requires : tie.Need-find-far-requires
 find-far-requires c κs = search needs
@@ -35,4 +41,16 @@ returns-5 : tie.Need-returns-5
 returns-5 c = spans-as (nth-cut _ _ (cc) (omega arith)) (c .part .ensures)
 
 pub nth-spec : {M : Type 1} → statement M
-nth-spec = tie.close (tie.spec returns returns-2 returns-3 find-far-requires returns-4 sub-part part-requires returns-5)
+nth-spec =
+    tie.close
+    (tie.spec
+    missing-span-requires
+    returns
+    returns-2
+    missing-span-requires-2
+    returns-3
+    find-far-requires
+    returns-4
+    sub-part
+    part-requires
+    returns-5)
