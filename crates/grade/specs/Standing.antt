@@ -9,8 +9,6 @@ use Rattle.hl7.specs.Bytes.{all, same}
 use Rattle.grade.specs.Limits.{ruleLimit, setLimit}
 use Rattle.grade.specs.Reader.{Parsed, fault, found, isFound, itemsOf, times}
 use Rattle.grade.specs.Book.{plain, ruleIn, codeSet, Sited, section}
-use Rattle.grade.specs.declared.rule.Severity.{Severity}
-use Rattle.grade.specs.declared.rule.Kind.{Kind}
 use Rattle.grade.specs.declared.rule.Rule.{Rule}
 use Rattle.grade.specs.declared.walk.Next.{Next}
 use Rattle.grade.specs.declared.walk.Section.{Section}
@@ -71,15 +69,6 @@ chosen key fault = Opened.Malformed
 chosen key (found all after) = withKey key all
 
 -- ---- what a section holds
-
--- stands for a rule where there is none
-abbrev pub noRule : Rule
-noRule =
-    record {
-      place = record { segment = 0; field = 0; component = 0 };
-      severity = Severity.Error;
-      kind = Kind.Required;
-    }
 
 -- the rules of the section that stands there
 unfoldable pub rulesIn : List ℕ → Section → List Rule
