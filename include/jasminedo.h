@@ -1,8 +1,8 @@
 /* Jasminedo from C and every language that calls C: numbers and byte slices only.
  *
- * Link with target/staticlib/liback.a (made by `rt staticlib ack`). Nothing is kept between calls, nothing is
- * allocated, and every input has an answer. A slice is a pointer and a length; the pointer may be dangling but not
- * null where the length is 0. The output may not overlap an input. */
+ * Link with target/staticlib/libjasminedo.a (made by `rt staticlib jasminedo`). Nothing is kept between calls,
+ * nothing is allocated, and every input has an answer. A slice is a pointer and a length; the pointer may be dangling
+ * but not null where the length is 0. The output may not overlap an input. */
 #ifndef JASMINEDO_H
 #define JASMINEDO_H
 

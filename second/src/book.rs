@@ -229,6 +229,7 @@ const WORD_BYTES: [bool; 256] = {
 #[cfg(test)]
 mod tests {
     use super::*;
+    use crate::cases::FAULTY_RULES;
 
     fn number(book: &[u8]) -> u8 {
         Book::read(book).err().map_or(0, |refusal| refusal.0)
@@ -236,32 +237,32 @@ mod tests {
 
     #[test]
     fn seven_then_eight_then_seven() {
-        assert_eq!(number(b""), 7);
-        assert_eq!(number(b"VXB\0"), 7);
-        assert_eq!(number(b"VXB\0\x07"), 8);
-        assert_eq!(number(b"VXB\x01\0"), 8);
-        assert_eq!(number(b"VXC\0\x07"), 7);
-        assert_eq!(number(b"VXB\0\x01"), 7);
-        let mut long = b"VXB\0\x07".to_vec();
-        long.resize(BOOK_LIMIT, 0);
-        assert_eq!(number(&long), 8);
-        long.push(0);
-        assert_eq!(number(&long), 7);
-    }
-
-    #[test]
-    fn counts_and_ends() {
-        assert_eq!(number(b"VXB\0\x01\0"), 7);
-        assert_eq!(number(b"VXB\0\x01\x01\x01A\0\0\0"), 0);
-        assert_eq!(number(b"VXB\0\x01\x01\x01A\0\0\0x"), 7);
-        assert_eq!(number(b"VXB\0\x01\x01\x01A\0\0"), 7);
-        assert_eq!(number(b"VXB\0\x01\x02\x01A\0\0\0\x01A\0\0\0"), 7);
-        assert_eq!(number(b"VXB\0\x01\x02\x01A\0\0\0\x01a\0\0\0"), 0);
-        assert_eq!(number(b"VXB\0\x01\x01\0\0\0\0"), 7);
-        assert_eq!(number(b"VXB\0\x01\x01\x01A\0\0\x01\0\0"), 7);
-        assert_eq!(number(b"VXB\0\x01\x01\x01A\0\0\x01\0\x01\x01x"), 0);
-        assert_eq!(number(b"VXB\0\x01\x01\x01A\0\0\x01\0\x02\x01x\x01x"), 0);
-        assert_eq!(number(b"VXB\0\x01\x01\x01A\0\0\x01\0\x01\0"), 7);
+        let long = |length: usize| [b"VXB\0\x07".as_slice(), &vec![0; length - 5]].concat();
+        let (longest, longer) = (long(BOOK_LIMIT), long(BOOK_LIMIT + 1));
+        let rows: [(&[u8], u8); 19] = [
+            (b"", 7),
+            (b"VXB\0", 7),
+            (b"VXB\0\x07", 8),
+            (b"VXB\x01\0", 8),
+            (b"VXC\0\x07", 7),
+            (b"VXB\0\x01", 7),
+            (&longest, 8),
+            (&longer, 7),
+            (b"VXB\0\x01\0", 7),
+            (b"VXB\0\x01\x01\x01A\0\0\0", 0),
+            (b"VXB\0\x01\x01\x01A\0\0\0x", 7),
+            (b"VXB\0\x01\x01\x01A\0\0", 7),
+            (b"VXB\0\x01\x02\x01A\0\0\0\x01A\0\0\0", 7),
+            (b"VXB\0\x01\x02\x01A\0\0\0\x01a\0\0\0", 0),
+            (b"VXB\0\x01\x01\0\0\0\0", 7),
+            (b"VXB\0\x01\x01\x01A\0\0\x01\0\0", 7),
+            (b"VXB\0\x01\x01\x01A\0\0\x01\0\x01\x01x", 0),
+            (b"VXB\0\x01\x01\x01A\0\0\x01\0\x02\x01x\x01x", 0),
+            (b"VXB\0\x01\x01\x01A\0\0\x01\0\x01\0", 7),
+        ];
+        for (book, expected) in rows {
+            assert_eq!(number(book), expected, "{}", book[..book.len().min(20)].escape_ascii());
+        }
     }
 
     #[test]
@@ -275,40 +276,21 @@ mod tests {
 
     #[test]
     fn rules() {
-        let good = |bytes: &[u8; 10]| Rule::read(bytes, 2).is_some();
-        assert!(good(b"PID\x01\0\x01E\0\0\0"));
-        assert!(good(b"PID\x63\x14\x01I\0\0\0"));
-        assert!(good(b"MSH\x03\0\x01W\0\0\0"));
-        assert!(good(b"PID\x01\0\x02E\0\x01\xff"));
-        assert!(good(b"PID\x01\0\x02E\0\x05\x05"));
-        assert!(good(b"PID\x01\0\x05E\0\x0e\0"));
-        assert!(good(b"PID\x01\0\x06E\x02\0\0"));
-        for bad in [
-            b"MSH\x02\0\x01W\0\0\0",
-            b"PID\0\0\x01E\0\0\0",
-            b"PID\x64\0\x01E\0\0\0",
-            b"PID\x01\x15\x01E\0\0\0",
-            b"IN1\x01\0\x01E\0\0\0",
-            b"PID\x01\0\0E\0\0\0",
-            b"PID\x01\0\x07E\0\0\0",
-            b"PID\x01\0\x01e\0\0\0",
-            b"PID\x01\0\x01E\x01\0\0",
-            b"PID\x01\0\x03E\0\x01\0",
-            b"PID\x01\0\x04E\0\0\x01",
-            b"PID\x01\0\x02E\x01\x01\x02",
-            b"PID\x01\0\x02E\0\0\x02",
-            b"PID\x01\0\x02E\0\x03\x02",
-            b"PID\x01\0\x05E\0\x02\0",
-            b"PID\x01\0\x05E\0\x05\0",
-            b"PID\x01\0\x05E\0\x10\0",
-            b"PID\x01\0\x05E\0\x08\x01",
-            b"PID\x01\0\x05E\x01\x08\0",
-            b"PID\x01\0\x06E\0\0\0",
-            b"PID\x01\0\x06E\x03\0\0",
-            b"PID\x01\0\x06E\x01\x01\0",
-            b"PID\x01\0\x06E\x01\0\x01",
+        for good in [
+            b"PID\x01\0\x01E\0\0\0",
+            b"PID\x63\x14\x01I\0\0\0",
+            b"MSH\x03\0\x01W\0\0\0",
+            b"PID\x01\0\x02E\0\x01\xff",
+            b"PID\x01\0\x02E\0\x05\x05",
+            b"PID\x01\0\x05E\0\x0e\0",
+            b"PID\x01\0\x06E\x02\0\0",
         ] {
-            assert!(!good(bad), "{bad:?}");
+            assert!(Rule::read(good, 2).is_some(), "{}", good.escape_ascii());
+        }
+        for bad in FAULTY_RULES {
+            // Set 1 is there where there are two.
+            let fine = bad == b"PID\x01\0\x06E\x01\0\0";
+            assert_eq!((Rule::read(bad, 0), Rule::read(bad, 2).is_some()), (None, fine), "{}", bad.escape_ascii());
         }
     }
 }

@@ -2,7 +2,8 @@
 
 use crate::books::{self, rule, RuleBytes, SectionPlan};
 
-const HEADER: &[u8] = b"MSH|^~\\&|CAB|C1|REG|AX|||VXU^V04|M1|P|2.5.1\r";
+/// A sound header for a section AX.
+pub const HEADER: &[u8] = b"MSH|^~\\&|CAB|C1|REG|AX|||VXU^V04|M1|P|2.5.1\r";
 
 fn book(rules: Vec<RuleBytes>) -> Vec<u8> {
     books::encode(&[SectionPlan { rules, ..SectionPlan::new("AX") }])

@@ -2,19 +2,19 @@
 
 use crate::cutting::{Message, Part};
 
-/// Start and length of a place. A missing place is empty at the end of what it would be in;
-/// every place is `(0, 0)` where refusals 1 to 5 apply.
-pub fn locate(m: &[u8], segment: usize, field: usize, repetition: usize, component: usize) -> (usize, usize) {
+/// Start and length of a place: segment, field, repetition, component. A missing place is empty at
+/// the end of what it would be in; every place is `(0, 0)` where refusals 1 to 5 apply.
+pub fn locate(m: &[u8], place: [usize; 4]) -> (usize, usize) {
     match Message::read(m) {
         Ok(message) => {
-            let part = place(message, segment, field, repetition, component);
+            let part = find(message, place);
             (part.start, part.end - part.start)
         }
         Err(_) => (0, 0),
     }
 }
 
-fn place(message: Message, segment: usize, field: usize, repetition: usize, component: usize) -> Part {
+fn find(message: Message, [segment, field, repetition, component]: [usize; 4]) -> Part {
     let whole = Part { start: 0, end: message.length() };
     let Some(found) = nth(message.segments(), segment) else {
         return whole.missing();
@@ -57,62 +57,60 @@ mod tests {
     fn places_and_missing_places() {
         // Segments start at 0, 13, 29 and 33; their CRs stand at 12, 28, 32 and 44.
         let m = b"MSH|^~\\&|A|B\rPID|1||x^y~^z~|\rMSH\rMSH|x~y^z|q\r";
-        type Place = (usize, usize, usize, usize);
-        let rows: [(Place, (usize, usize)); 41] = [
-            ((1, 1, 1, 0), (3, 1)),
-            ((1, 1, 1, 1), (3, 1)),
-            ((1, 1, 2, 1), (4, 0)),
-            ((1, 1, 1, 2), (4, 0)),
-            ((1, 2, 1, 0), (4, 4)),
-            ((1, 2, 1, 1), (4, 4)),
-            ((1, 2, 1, 2), (8, 0)),
-            ((1, 2, 0, 0), (8, 0)),
-            ((1, 2, 2, 0), (8, 0)),
-            ((1, 3, 1, 0), (9, 1)),
-            ((1, 4, 1, 0), (11, 1)),
-            ((1, 5, 1, 0), (12, 0)),
-            ((1, 0, 1, 0), (12, 0)),
-            ((2, 1, 1, 0), (17, 1)),
-            ((2, 1, 1, 1), (17, 1)),
-            ((2, 1, 1, 2), (18, 0)),
-            ((2, 2, 1, 1), (19, 0)),
-            ((2, 2, 2, 0), (19, 0)),
-            ((2, 3, 1, 0), (20, 3)),
-            ((2, 3, 1, 1), (20, 1)),
-            ((2, 3, 1, 2), (22, 1)),
-            ((2, 3, 1, 3), (23, 0)),
-            ((2, 3, 2, 0), (24, 2)),
-            ((2, 3, 2, 1), (24, 0)),
-            ((2, 3, 2, 2), (25, 1)),
-            ((2, 3, 3, 0), (27, 0)),
-            ((2, 3, 4, 0), (27, 0)),
-            ((2, 3, 0, 1), (27, 0)),
-            ((2, 4, 1, 0), (28, 0)),
-            ((2, 5, 1, 0), (28, 0)),
-            ((2, 0, 1, 0), (28, 0)),
-            ((3, 1, 1, 0), (32, 0)),
-            ((3, 2, 1, 0), (32, 0)),
-            ((3, 7, 2, 3), (32, 0)),
-            ((4, 1, 1, 0), (36, 1)),
-            ((4, 2, 1, 0), (37, 5)),
-            ((4, 2, 2, 0), (42, 0)),
-            ((4, 3, 1, 0), (43, 1)),
-            ((5, 1, 1, 0), (45, 0)),
-            ((0, 1, 1, 0), (45, 0)),
-            ((usize::MAX, usize::MAX, usize::MAX, usize::MAX), (45, 0)),
+        let rows: [([usize; 4], (usize, usize)); 41] = [
+            ([1, 1, 1, 0], (3, 1)),
+            ([1, 1, 1, 1], (3, 1)),
+            ([1, 1, 2, 1], (4, 0)),
+            ([1, 1, 1, 2], (4, 0)),
+            ([1, 2, 1, 0], (4, 4)),
+            ([1, 2, 1, 1], (4, 4)),
+            ([1, 2, 1, 2], (8, 0)),
+            ([1, 2, 0, 0], (8, 0)),
+            ([1, 2, 2, 0], (8, 0)),
+            ([1, 3, 1, 0], (9, 1)),
+            ([1, 4, 1, 0], (11, 1)),
+            ([1, 5, 1, 0], (12, 0)),
+            ([1, 0, 1, 0], (12, 0)),
+            ([2, 1, 1, 0], (17, 1)),
+            ([2, 1, 1, 1], (17, 1)),
+            ([2, 1, 1, 2], (18, 0)),
+            ([2, 2, 1, 1], (19, 0)),
+            ([2, 2, 2, 0], (19, 0)),
+            ([2, 3, 1, 0], (20, 3)),
+            ([2, 3, 1, 1], (20, 1)),
+            ([2, 3, 1, 2], (22, 1)),
+            ([2, 3, 1, 3], (23, 0)),
+            ([2, 3, 2, 0], (24, 2)),
+            ([2, 3, 2, 1], (24, 0)),
+            ([2, 3, 2, 2], (25, 1)),
+            ([2, 3, 3, 0], (27, 0)),
+            ([2, 3, 4, 0], (27, 0)),
+            ([2, 3, 0, 1], (27, 0)),
+            ([2, 4, 1, 0], (28, 0)),
+            ([2, 5, 1, 0], (28, 0)),
+            ([2, 0, 1, 0], (28, 0)),
+            ([3, 1, 1, 0], (32, 0)),
+            ([3, 2, 1, 0], (32, 0)),
+            ([3, 7, 2, 3], (32, 0)),
+            ([4, 1, 1, 0], (36, 1)),
+            ([4, 2, 1, 0], (37, 5)),
+            ([4, 2, 2, 0], (42, 0)),
+            ([4, 3, 1, 0], (43, 1)),
+            ([5, 1, 1, 0], (45, 0)),
+            ([0, 1, 1, 0], (45, 0)),
+            ([usize::MAX; 4], (45, 0)),
         ];
-        for ((segment, field, repetition, component), expected) in rows {
-            let found = locate(m, segment, field, repetition, component);
-            assert_eq!(found, expected, "{segment} {field} {repetition} {component}");
+        for (place, expected) in rows {
+            assert_eq!(locate(m, place), expected, "{place:?}");
         }
     }
 
     #[test]
     fn refused_messages_have_no_places() {
         for m in [b"".as_slice(), b"MSH|^~\\&|A|B", b"MSH|^~\\&|A\r\r", b"MSH|^~\\&|A\n\r"] {
-            assert_eq!(locate(m, 1, 1, 1, 0), (0, 0));
+            assert_eq!(locate(m, [1, 1, 1, 0]), (0, 0));
         }
         // Refusal 6 does not matter to the locator.
-        assert_eq!(locate(b"MSH|^~\\&|\r", 1, 1, 1, 0), (3, 1));
+        assert_eq!(locate(b"MSH|^~\\&|\r", [1, 1, 1, 0]), (3, 1));
     }
 }

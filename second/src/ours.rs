@@ -1,6 +1,8 @@
 //! The main code's static library, by its three C functions.
 
-#[link(name = "ack", kind = "static")]
+use second::packing::{number_and_detail, start_and_length};
+
+#[link(name = "jasminedo", kind = "static")]
 extern "C" {
     fn jasminedo_answer(
         message: *const u8,
@@ -47,12 +49,8 @@ pub fn check(m: &[u8]) -> (u8, u64) {
     number_and_detail(unsafe { jasminedo_check(m.as_ptr(), m.len()) })
 }
 
-pub fn locate(m: &[u8], segment: usize, field: usize, repetition: usize, component: usize) -> (usize, usize) {
+pub fn locate(m: &[u8], [segment, field, repetition, component]: [usize; 4]) -> (usize, usize) {
     // SAFETY: the pointer comes with the length of its slice.
     let result = unsafe { jasminedo_locate(m.as_ptr(), m.len(), segment, field, repetition, component) };
-    ((result / 65_536) as usize, (result % 65_536) as usize)
-}
-
-fn number_and_detail(result: u64) -> (u8, u64) {
-    ((result % 256) as u8, result / 256)
+    start_and_length(result)
 }

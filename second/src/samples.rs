@@ -11,12 +11,28 @@ pub struct Sample {
     pub case: Case,
     /// What 01 wants printed.
     pub expected: String,
+    /// What stands at the case's place, where that is written by hand too.
+    pub located: Option<String>,
 }
 
 pub const STAMP: &[u8] = b"20250113120000+0000";
 const HEADER: &str = "MSH|^~\\&|CAB|C1|REG|AX|20250113115900+0000||VXU^V04^VXU_V04|M1|P|2.5.1\n";
 const ACK_HEADER: &str =
     "MSH|^~\\&|REG|AX|CAB|C1|20250113120000+0000||ACK^V04^ACK|7|P|2.5.1|||NE|NE|||||Z23^CDCPHINVS\n";
+/// Places that tell something of most messages: MSH-1, MSH-2, whole and cut fields, later repetitions, missing places.
+pub const PLACES: [[u32; 4]; 11] = [
+    [1, 1, 1, 0],
+    [2, 3, 1, 1],
+    [1, 2, 1, 1],
+    [2, 3, 2, 0],
+    [1, 10, 1, 0],
+    [2, 3, 4, 1],
+    [1, 9, 1, 2],
+    [2, 0, 1, 1],
+    [3, 1, 1, 0],
+    [2, 5, 1, 2],
+    [1, 12, 2, 1],
+];
 const END_FINDING: &str = "ERR|||100^Segment sequence error^HL70357|E|0^^L\n";
 
 /// A message or an answer as printed here, with a line feed for each CR.
@@ -29,13 +45,13 @@ fn book_ax(rules: &[RuleBytes]) -> Vec<u8> {
     books::encode(&[section])
 }
 
-/// Control number 7, the stamp of the worked example and 65,536 bytes of output.
+/// Control number 7, the stamp of the worked example, 65,536 bytes of output, and MSH-1.
 pub fn case(message: Vec<u8>, book: Vec<u8>) -> Case {
-    Case { message, book, stamp: STAMP.to_vec(), control: 7, output_length: 65_536 }
+    Case { message, book, stamp: STAMP.to_vec(), control: 7, output_length: 65_536, place: PLACES[0] }
 }
 
 fn sample(name: &str, case: Case, expected: &str) -> Sample {
-    Sample { name: name.into(), case, expected: expected.into() }
+    Sample { name: name.into(), case, expected: expected.into(), located: None }
 }
 
 /// The worked example's header, further segments, and what the ACK says after its own header.
@@ -50,12 +66,17 @@ pub fn samples() -> Vec<Sample> {
     all.extend(values());
     all.extend(orders());
     all.extend(headers());
+    all.extend(verdicts());
     all.extend(slips());
     all.extend(places());
     all.extend(message_refusals());
     all.extend(book_refusals());
     all.extend(stamps());
     all.extend(outputs());
+    for (sample, place) in all.iter_mut().zip(PLACES.into_iter().cycle()) {
+        sample.case.place = place;
+    }
+    all.extend(located());
     all
 }
 
@@ -162,35 +183,50 @@ fn headers() -> Vec<Sample> {
     let e201 = "ERR||MSH^1^9^1^2|201^Unsupported event code^HL70357|E|0^^L\n";
     let e202 = "ERR||MSH^1^11^1^1|202^Unsupported processing id^HL70357|E|0^^L\n";
     let e203 = "ERR||MSH^1^12^1^1|203^Unsupported version id^HL70357|E|0^^L\n";
-    // Under AR no rule and no order finding is listed.
-    let book = book_ax(&[rule("MSH", 99, 0, 1, b'E', [0, 0, 0])]);
-    let rows: [(&str, &str, &str, String); 8] = [
-        ("ADT^A01", "P", "2.5.1", [e200, e201].concat()),
-        ("", "P", "2.5.1", [e200, e201].concat()),
-        ("VXU^V03^VXU_V04", "P", "2.5.1", e201.into()),
-        ("ACK^V04", "P", "2.5.1", e200.into()),
-        ("VXU&x^V04", "P", "2.5.1", e200.into()),
-        ("VXU^V04", "X", "2.5.1", e202.into()),
-        ("VXU^V04", "t", "2.5", [e202, e203].concat()),
-        ("QBP^Q11", "", "", [e200, e201, e202, e203].concat()),
+    // The rule and the order are broken, and under AR neither is listed.
+    let broken = ("", book_ax(&[rule("MSH", 99, 0, 1, b'E', [0, 0, 0])]));
+    let good = ("PID\n", book_ax(&[]));
+    let rows: [(&str, &str, &str, &[&str]); 12] = [
+        ("ADT^A01", "P", "2.5.1", &[e200, e201]),
+        ("", "P", "2.5.1", &[e200, e201]),
+        ("VXU^V03^VXU_V04", "P", "2.5.1", &[e201]),
+        ("ACK^V04", "P", "2.5.1", &[e200]),
+        ("VXU&x^V04", "P", "2.5.1", &[e200]),
+        ("VXU^V04", "X", "2.5.1", &[e202]),
+        ("VXU^V04", "t", "2.5", &[e202, e203]),
+        ("QBP^Q11", "", "", &[e200, e201, e202, e203]),
+        // Each of P, T and D is supported, and later components and repetitions are not looked at.
+        ("VXU^V04~ADT", "T", "2.5.1^x", &[]),
+        ("VXU^V04~ADT", "D", "2.5.1^x", &[]),
+        ("VXU^V04~ADT", "P^T", "2.5.1^x", &[]),
+        ("VXU^V04~ADT", "P~X", "2.5.1^x", &[]),
     ];
     let mut all = Vec::new();
     for (kind, processing, version, findings) in rows {
-        let message = format!("MSH|^~\\&|CAB|C1|REG|AX|||{kind}|M1|{processing}|{version}\n");
+        let (verdict, (segments, book)) = if findings.is_empty() { ("AA", &good) } else { ("AR", &broken) };
+        let message = format!("MSH|^~\\&|CAB|C1|REG|AX|||{kind}|M1|{processing}|{version}\n{segments}");
         let ack = format!(
             "MSH|^~\\&|REG|AX|CAB|C1|20250113120000+0000||ACK^V04^ACK|7|{processing}|2.5.1|||NE|NE|||||Z23^CDCPHINVS\n\
-             MSA|AR|M1\n{findings}"
+             MSA|{verdict}|M1\n{}",
+            findings.concat()
         );
         all.push(sample(&format!("header: {message:?}"), case(lines(&message), book.clone()), &ack));
     }
-    // Each of P, T and D is supported, and later components and repetitions are not looked at.
-    for processing in ["T", "D", "P^T", "P~X"] {
-        let message = format!("MSH|^~\\&|CAB|C1|REG|AX|||VXU^V04~ADT|M1|{processing}|2.5.1^x\nPID\n");
-        let ack = format!(
-            "MSH|^~\\&|REG|AX|CAB|C1|20250113120000+0000||ACK^V04^ACK|7|{processing}|2.5.1|||NE|NE|||||Z23^CDCPHINVS\n\
-             MSA|AA|M1\n"
-        );
-        all.push(sample(&format!("processing id {processing}"), case(lines(&message), book_ax(&[])), &ack));
+    all
+}
+
+/// MSA-1 for the severities that are found.
+fn verdicts() -> Vec<Sample> {
+    let rows =
+        [("", "AA"), ("I", "AA"), ("W", "AE"), ("E", "AE"), ("WI", "AE"), ("IE", "AE"), ("WE", "AE"), ("IWE", "AE")];
+    let mut all = Vec::new();
+    for (severities, verdict) in rows {
+        let rules: Vec<RuleBytes> = severities.bytes().map(|s| rule("PID", 3, 0, 1, s, [0, 0, 0])).collect();
+        let mut expected = format!("MSA|{verdict}|M1\n");
+        for (number, severity) in (1..).zip(severities.chars()) {
+            expected += &format!("ERR||PID^1^3^1|101^Required field missing^HL70357|{severity}|{number}^^L\n");
+        }
+        all.push(graded(&format!("severities {severities:?}"), "PID\n", book_ax(&rules), &expected));
     }
     all
 }
@@ -486,20 +522,102 @@ fn outputs() -> Vec<Sample> {
     ]
 }
 
+/// Every kind of place in one message, and MSH-1 of messages that are refused.
+fn located() -> Vec<Sample> {
+    let segments = "PID|1||77^A~88^B&C~^D|\nMSH\nMSH|x~y^z|q\n";
+    let expected = format!(
+        "MSA|AE|M1\n\
+         ERR||MSH^2|100^Segment sequence error^HL70357|E|0^^L\n\
+         ERR||MSH^3|100^Segment sequence error^HL70357|E|0^^L\n{END_FINDING}"
+    );
+    let rows: [([u32; 4], &str); 39] = [
+        ([1, 1, 1, 0], "|"),
+        ([1, 1, 1, 1], "|"),
+        ([1, 1, 1, 2], ""),
+        ([1, 1, 2, 0], ""),
+        ([1, 2, 1, 0], "^~\\&"),
+        ([1, 2, 1, 1], "^~\\&"),
+        ([1, 2, 1, 2], ""),
+        ([1, 2, 2, 0], ""),
+        ([1, 3, 1, 1], "CAB"),
+        ([1, 8, 1, 0], ""),
+        ([1, 9, 1, 0], "VXU^V04^VXU_V04"),
+        ([1, 10, 1, 1], "M1"),
+        ([1, 12, 1, 0], "2.5.1"),
+        ([1, 13, 1, 0], ""),
+        ([2, 1, 1, 1], "1"),
+        ([2, 3, 1, 0], "77^A"),
+        ([2, 3, 2, 1], "88"),
+        ([2, 3, 2, 2], "B&C"),
+        ([2, 3, 3, 1], ""),
+        ([2, 3, 3, 2], "D"),
+        ([2, 3, 4, 0], ""),
+        ([2, 4, 1, 0], ""),
+        ([3, 1, 1, 0], ""),
+        ([4, 1, 1, 0], "|"),
+        ([4, 2, 1, 1], "x~y^z"),
+        ([4, 3, 1, 1], "q"),
+        ([5, 1, 1, 0], ""),
+        // A 0 that is not the component's is a missing place.
+        ([0, 3, 1, 0], ""),
+        ([2, 0, 1, 0], ""),
+        ([2, 3, 0, 0], ""),
+        // Numbers that a narrower type would take for 1 or for component 0.
+        ([257, 1, 1, 0], ""),
+        ([65_537, 1, 1, 0], ""),
+        ([1, 257, 1, 0], ""),
+        ([1, 65_537, 1, 0], ""),
+        ([2, 3, 257, 1], ""),
+        ([2, 3, 65_537, 1], ""),
+        ([2, 3, 1, 256], ""),
+        ([2, 3, 1, 65_536], ""),
+        ([u32::MAX; 4], ""),
+    ];
+    let at = |place: [u32; 4], text: &str, sample: Sample| Sample {
+        case: Case { place, ..sample.case },
+        located: Some(text.into()),
+        ..sample
+    };
+    let mut all = Vec::new();
+    for (place, text) in rows {
+        all.push(at(place, text, graded(&format!("place {place:?}"), segments, book_ax(&[]), &expected)));
+    }
+    // Refusal 6 is not about reading.
+    for (message, refusal, text) in [
+        ("", "1 0", ""),
+        ("MSH|^~\\&|\t\n", "3 9", ""),
+        ("MSH|^~/&|CAB\n", "4 0", ""),
+        ("MSH|^~\\&|CAB", "5 0", ""),
+        ("MSH|^~\\&|CAB\n", "6 0", "|"),
+    ] {
+        let case = case(lines(message), book_ax(&[]));
+        let name = format!("MSH-1 under refusal {refusal}");
+        all.push(at([1, 1, 1, 0], text, sample(&name, case, &format!("refused {refusal}\n"))));
+    }
+    // Nearly the whole of the longest message: 71 bytes of header, 8 before the place and a CR after it.
+    let long = "x".repeat(MESSAGE_LIMIT - 80);
+    let segments = format!("PID\nZZZ|{long}\n");
+    all.push(at([3, 1, 1, 0], &long, graded("a long place", &segments, book_ax(&[]), "MSA|AA|M1\n")));
+    all
+}
+
 #[cfg(test)]
 mod tests {
     use super::*;
 
     #[test]
-    fn every_sample_is_printed_as_01_says() {
-        for Sample { name, case, expected } in samples() {
+    fn every_sample_is_printed_and_located_as_01_says() {
+        for Sample { name, case, expected, located } in samples() {
             assert_eq!(String::from_utf8_lossy(&case.printed()), expected, "{name}");
+            if let Some(text) = located {
+                assert_eq!(String::from_utf8_lossy(case.located()), text, "{name}");
+            }
         }
     }
 
     #[test]
     fn refusals_leave_the_output_alone_and_answers_what_is_after_the_ack() {
-        for Sample { name, case, expected } in samples() {
+        for Sample { name, case, expected, .. } in samples() {
             let mut out = vec![0xA5; 1000];
             let length = case.output_length.min(out.len());
             let (number, _) = crate::answer(&case.message, &case.book, &case.stamp, case.control, &mut out[..length]);

@@ -1,84 +1,36 @@
--- What is known of a message that was admitted, and of one that was not, in the words of the code. Assumes nothing.
-use mathlib.Core.Path.{_≡_, refl, sym, ap, _∙_}
-use mathlib.Core.Bool.{Bool, true, false, cond, not}
+-- What is known of a message that was admitted, and the ways out of the call, in the words of the code. Assumes nothing.
+use mathlib.Core.Path.{_≡_, sym, ap, _∙_}
+use mathlib.Core.Bool.{true, false, not}
 use mathlib.Core.List.{List, []}
 use Prim.Native.Nat.{ℕ, _≤_}
 use native.Mathlib.Omega.{arith}
-use lib.Dec.{eqb}
 use lib.ListN.{length, take, drop, length-take, length-drop}
-use borrow.Author.Tests.{eqb-true, eqb-false}
+use borrow.Author.Tests.{eqb-true}
 use Rattle.hl7.specs.Place.{delimsOf, isMsh}
-use Rattle.hl7.specs.Refusals.{messageLimit, Told, told, firstRow, messageRows, readingOf, isSound}
-use Rattle.hl7.specs.Refusals as refusals
-use Rattle.hl7.specs.declared.refusal.Reading.{Reading}
+use Rattle.hl7.specs.Refusals.{messageLimit, Told, told, firstRow}
 use Rattle.hl7.proofs.Comparing.{and-both}
 use Rattle.hl7.specs.declared.place.Delims.{Delims}
-use Rattle.hl7.proofs.Refusing.{paper-reading, sound-short, sound-msh}
-use Rattle.grade.specs.Book.{opened}
+use Rattle.hl7.proofs.Refusing.{sound-short, sound-msh}
 use Rattle.grade.specs.Values.{isStamp}
-use Rattle.grade.specs.Header.{mshOf, headerOf, anyWrong, headerFindings}
-use Rattle.grade.specs.Admission.{hasControlId, keyOf, bySection, admitRows, admittedBy, admitted, admittedTold}
+use Rattle.grade.specs.Header.{mshOf, anyWrong, headerFindings}
+use Rattle.grade.specs.Admission.{admitRows, admittedTold}
 use Rattle.grade.specs.Order.{mayFollow}
 use Rattle.grade.specs.Findings.{findings}
 use Rattle.grade.specs.Grading.{findingsFor}
-use Rattle.grade.specs.Standing.{Holds, rulesIn, setsIn}
+use Rattle.grade.specs.Standing.{Admits, Holds, rulesIn, setsIn}
 use Rattle.grade.specs.declared.finding.Finding.{Finding}
-use Rattle.grade.proofs.Admitting.{admit-paper}
+use Rattle.grade.proofs.Admitting.{admitted-none, admitted-by}
 use Rattle.grade.proofs.Grading.{listed-header, listed-graded}
-use Rattle.grade.proofs.Opening.{opened-under}
 use Rattle.grade.proofs.Stepping.{all-few}
-use Rattle.grade.specs.declared.book.Opened.{Opened}
 use Rattle.grade.specs.declared.header.Header.{Header}
 use Rattle.grade.specs.declared.walk.Section.{Section}
 use Rattle.grade.specs.declared.admit.Admitted.{Admitted}
-use Rattle.grade.specs.declared.admit.Admitted.the-variants.{Unreadable, NoControlId, OtherVersion, NoSection, By}
+use Rattle.grade.specs.declared.admit.Admitted.the-variants.{By}
 use Rattle.ack.specs.Layout.{ackBytes}
 use Rattle.ack.specs.Pieces.{findingLimit, shortOr}
 use Rattle.ack.specs.Answers.{outcome, answerOf, paper, Gives}
 use Rattle.ack.specs.declared.refusal.Answer.{Answer}
 use Rattle.ack.proofs.Answering.{write-stamp, write-right, answer-admitted, answer-stopped}
-
--- two different variants are not equal
-apart : {A : Type 0} → _≡_ {A = ℕ} 0 1 → A
-apart z = absurd (omega (arith, z))
-
--- ---- admitted
-pub record IsBy (m b : List ℕ) (s : Section) (h : Header) : Type 0 where
-  pub sound : isSound m ≡ true
-  pub reads : h ≡ headerOf (delimsOf m) (mshOf m)
-  pub opens : opened b (keyOf (delimsOf m) (mshOf m)) ≡ Opened.At s
-
-pub admitted-by : (m b : List ℕ) {s : Section} {h : Header} → By s h ≡ admitted m b → IsBy m b s h
-unfolding admitted admittedBy
-admitted-by m b {s} {h} e = by (isSound m) refl (hasControlId (delimsOf m) (mshOf m)) (opened b (keyOf (delimsOf m) (mshOf m))) refl e
-  where
-    by : (sound : Bool) → isSound m ≡ sound → (id : Bool) (o : Opened) → opened b (keyOf (delimsOf m) (mshOf m)) ≡ o
-        → By s h ≡ cond sound (cond id (bySection o (headerOf (delimsOf m) (mshOf m))) NoControlId) (Unreadable (readingOf (firstRow (messageRows m)))) → IsBy m b s h
-    by false t id o f e = apart (cc)
-    by true t false o f e = apart (cc)
-    by true t true Opened.Malformed f e = apart (cc)
-    by true t true Opened.OtherVersion f e = apart (cc)
-    by true t true Opened.NoSection f e = apart (cc)
-    by true t true (Opened.At x) f e =
-        let same : s ≡ x = cc in
-        let read : h ≡ headerOf (delimsOf m) (mshOf m) = cc in
-        record { sound = t; reads = read; opens = f ∙ ap Opened.At (sym same) }
-
--- ---- not readable
-pub unreadable-some : (m b : List ℕ) {r : Reading} → Unreadable r ≡ admitted m b → refusals.readingTold r .number ≡ 0 → ⊥
-unfolding admitted admittedBy isSound
-unreadable-some m b {r} e = by (eqb (firstRow (messageRows m) .number) 0) refl (hasControlId (delimsOf m) (mshOf m)) (opened b (keyOf (delimsOf m) (mshOf m))) e
-  where
-    by : (sound : Bool) → eqb (firstRow (messageRows m) .number) 0 ≡ sound → (id : Bool) (o : Opened)
-        → Unreadable r ≡ cond sound (cond id (bySection o (headerOf (delimsOf m) (mshOf m))) NoControlId) (Unreadable (readingOf (firstRow (messageRows m)))) → refusals.readingTold r .number ≡ 0 → ⊥
-    by true t false o e none = apart (cc)
-    by true t true Opened.Malformed e none = apart (cc)
-    by true t true Opened.OtherVersion e none = apart (cc)
-    by true t true Opened.NoSection e none = apart (cc)
-    by true t true (Opened.At x) e none = apart (cc)
-    by false t id o e none =
-        let same : r ≡ readingOf (firstRow (messageRows m)) = cc in
-        eqb-false (firstRow (messageRows m) .number) 0 t (sym (ap (λ (a : Told). a .number) (ap refusals.readingTold same ∙ paper-reading m)) ∙ none)
 
 -- ---- the stamp
 pub stamp-length : (v : List ℕ) → isStamp v ≡ true → length v ≡ 19
@@ -92,10 +44,7 @@ pub part-within : (m : List ℕ) (n from : ℕ) → length m ≤ messageLimit �
 part-within m n from h = simp (length-take, length-drop) (omega arith)
 
 -- ---- what the code asks of itself
-module _ (m b : List ℕ) {s : Section} {h : Header} (is : By s h ≡ admitted m b) where
-  passed : firstRow (admitRows m b) .number ≡ 0
-  passed = ap (λ (x : Told). x .number) (sym (ap admittedTold is ∙ admit-paper m b))
-
+module _ (m b : List ℕ) {s : Section} {h : Header} (is : Admits m b (By s h)) where
   pub admitted-short : length m ≤ messageLimit
   admitted-short = sound-short m (admitted-by m b is .sound)
 
@@ -103,7 +52,7 @@ module _ (m b : List ℕ) {s : Section} {h : Header} (is : By s h ≡ admitted m
   admitted-msh first = ap isMsh first ∙ sound-msh m (admitted-by m b is .sound)
 
   pub admitted-holds : Holds b s
-  admitted-holds = opened-under b (keyOf (delimsOf m) (mshOf m)) s (admitted-by m b is .opens) .holds
+  admitted-holds = admitted-by m b is .opens .holds
 
   pub admitted-few : length (findings mayFollow (rulesIn b s) (setsIn b s) m) ≤ findingLimit
   admitted-few = omega (arith, all-few m b s admitted-short admitted-holds)
@@ -111,23 +60,23 @@ module _ (m b : List ℕ) {s : Section} {h : Header} (is : By s h ≡ admitted m
 -- ---- the ways out of the call
 module _ (m b stamp : List ℕ) (control : ℕ) (out : List ℕ) where
   -- refusals 1 to 9
-  pub answer-refused : {r : Admitted} (a : Answer) → r ≡ admitted m b → paper a ≡ admittedTold r → (admittedTold r .number ≡ 0 → ⊥) → Gives a out (answerOf m b stamp control out)
+  pub answer-refused : {r : Admitted} (a : Answer) → Admits m b r → paper a ≡ admittedTold r → (admittedTold r .number ≡ 0 → ⊥) → Gives a out (answerOf m b stamp control out)
   answer-refused a is e some =
-      let first : paper a ≡ firstRow (admitRows m b) = e ∙ ap admittedTold is ∙ admit-paper m b in
+      let first : paper a ≡ firstRow (admitRows m b) = e ∙ is .toldIs in
       ap (λ (t : Told). outcome t out) first
       ∙ sym (answer-stopped m b stamp control out (λ z. some (sym (ap (λ (x : Told). x .number) e) ∙ ap (λ (x : Told). x .number) first ∙ z)))
 
-  module _ {s : Section} {h : Header} (is : By s h ≡ admitted m b) where
+  module _ {s : Section} {h : Header} (is : Admits m b (By s h)) where
     -- refusal 10
     pub answer-stamp : {a : Answer} → isStamp stamp ≡ false → paper a ≡ told 10 0 → Gives a out (answerOf m b stamp control out)
     answer-stamp e p =
-        ap (λ (t : Told). outcome t out) p ∙ sym (answer-admitted m b stamp control out (passed m b is) ∙ write-stamp m (findingsFor m b) stamp control out e)
+        ap (λ (t : Told). outcome t out) p ∙ sym (answer-admitted m b stamp control out (admitted-none m b is) ∙ write-stamp m (findingsFor m b) stamp control out e)
 
     -- refusal 11, or the ACK
     last : {d : Delims} {msh after : List ℕ} {listed : List Finding} {a : Answer} → isStamp stamp ≡ true → d ≡ delimsOf m → msh ≡ mshOf m → listed ≡ findingsFor m b
         → Gives a after (shortOr (ackBytes d msh stamp control listed) out) → Gives a after (answerOf m b stamp control out)
     last e own first all w =
-        (rw (own, first, all) at w) ∙ sym (answer-admitted m b stamp control out (passed m b is) ∙ write-right m (findingsFor m b) stamp control out e)
+        (rw (own, first, all) at w) ∙ sym (answer-admitted m b stamp control out (admitted-none m b is) ∙ write-right m (findingsFor m b) stamp control out e)
 
     module _ {d : Delims} {msh after : List ℕ} {a : Answer} (right : isStamp stamp ≡ true) (own : d ≡ delimsOf m) (first : msh ≡ mshOf m) where
       pub answer-by-header : anyWrong h ≡ true → Gives a after (shortOr (ackBytes d msh stamp control (headerFindings h)) out) → Gives a after (answerOf m b stamp control out)

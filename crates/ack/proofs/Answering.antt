@@ -92,6 +92,10 @@ module _ (m b stamp : List ℕ) (control : ℕ) (out : List ℕ) where
   pub answer-stopped : (firstRow (admitRows m b) .number ≡ 0 → ⊥) → answerOf m b stamp control out ≡ outcome (firstRow (admitRows m b)) out
   answer-stopped some = by-admission ∙ rw (ne-eqb (firstRow (admitRows m b) .number) 0 some)
 
+  -- without a right stamp nothing of it shows
+  pub answer-unstamped : isStamp stamp ≡ false → answerOf m b stamp control out ≡ cond (passes (admitRows m b)) (outcome (told 10 0) out) (outcome (firstRow (admitRows m b)) out)
+  answer-unstamped e = by-admission ∙ rw (write-stamp m (findingsFor m b) stamp control out e)
+
   pub grade-then-write : answerOf m b stamp control out ≡ thenWrite (gradeOf m b) m stamp control out
   unfolding gradeOf
   grade-then-write = by-admission ∙ by (passes (admitRows m b))

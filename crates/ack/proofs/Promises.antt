@@ -7,11 +7,12 @@ use mathlib.Core.List.{List, [], _∷_, _++_, map}
 use Prim.Native.Nat.{ℕ, zero, suc, _+_, _<_}
 use Prim.Native.Char.{code}
 use native.Mathlib.Omega.{arith}
+use native.Mathlib.Decide.{ℕ-discrete}
 use native.Mathlib.Numerals.{one-add}
 use lib.Dec.{eqb}
-use lib.ListN.{length, getD, take, drop, length-drop}
+use lib.ListN.{length, getD, take, drop, length-append, length-drop}
 use lib.Seq.{split-at, take-at, drop-at, take-all}
-use borrow.Author.Tests.{ne-eqb, eqb-true, leb-true, not-false}
+use borrow.Author.Tests.{ne-eqb, eqb-true, leb-true, ltb-false, not-false}
 use Rattle.hl7.specs.Text.{bytes}
 use Rattle.hl7.specs.Bytes.{all, isIn}
 use Rattle.hl7.specs.Place.{carriageReturn, delimsOf, nthOf, cutUnless, segmentsOf, place}
@@ -204,6 +205,12 @@ module _ (m b stamp : List ℕ) (control : ℕ) (out : List ℕ) (answered : ans
   pub written-is : (writtenOf (answerOf m b stamp control out) ≡ ackFor m b stamp control) × (drop (answerOf m b stamp control out .told .detail) (answerOf m b stamp control out .output) ≡ drop (length (ackFor m b stamp control)) out)
   written-is = (rw whole (take-at (ackFor m b stamp control) _ _ refl), rw whole (drop-at (ackFor m b stamp control) _ _ refl))
 
+  written-length : length (answerOf m b stamp control out .output) ≡ length out
+  unfolding admitRows messageRows formRows bookRows
+  written-length =
+      let fits = ltb-false (length out) (length (ackFor m b stamp control)) (answered-exactly m b stamp control out .0 answered 10) in
+      rw whole (simp (length-append, length-drop) (omega arith))
+
   -- its segments are MSH, MSA and one ERR for each finding, in order
   pub written-segments : segmentsOf (writtenOf (answerOf m b stamp control out)) ≡ ackLines (delimsOf m) (mshOf m) stamp control (findingsFor m b)
   written-segments =
@@ -234,6 +241,14 @@ module _ (m b stamp : List ℕ) (control : ℕ) (out : List ℕ) (answered : ans
   refused-header wrong =
       let all : findingsFor m b ≡ headerFindings (headerOf (delimsOf m) (mshOf m)) = rw wrong in
       written-segments ∙ rw (all, header-verdict (headerOf (delimsOf m) (mshOf m)) wrong)
+
+-- the output is as long as it was
+pub output-length : (m b stamp : List ℕ) (control : ℕ) (out : List ℕ) → length (answerOf m b stamp control out .output) ≡ length out
+output-length m b stamp control out = by (ℕ-discrete (answerOf m b stamp control out .told .number) 0)
+  where
+    by : Dec (answerOf m b stamp control out .told .number ≡ 0) → length (answerOf m b stamp control out .output) ≡ length out
+    by (yes e) = written-length m b stamp control out e
+    by (no some) = ap length (refusal-alters-nothing m b stamp control out some)
 
 -- ---- demand 3
 -- where the header is accepted, the ACK's segments after MSH and MSA are one ERR for each event that breaks the order or a rule of the section that the

@@ -112,5 +112,8 @@ _then_ {o} {p} {q} {xs} {ys} {a} {b} {c} f g = record {
 
 -- ---- a write from the start
 -- where it fits, it stands at the start, and the rest is as it was
+pub splice-at-start : (o xs : List ℕ) → length xs ≤ length o → splice o 0 xs ≡ xs ++ drop (length xs) o
+splice-at-start o xs h = splice-fits o 0 xs (omega arith) ∙ rw zero-add
+
 pub wrote-at-start : {o p xs : List ℕ} {n : ℕ} → Wrote o 0 xs p n → length xs ≤ length o → p ≡ xs ++ drop (length xs) o
-wrote-at-start {o} {xs = xs} w h = w .holds ∙ splice-fits o 0 xs (omega arith) ∙ rw zero-add
+wrote-at-start {o} {xs = xs} w h = w .holds ∙ splice-at-start o xs h

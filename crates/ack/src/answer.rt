@@ -33,9 +33,8 @@ ghost use lib.ListN.{length, take};
 ghost use Rattle.hl7.specs.Place.{delimsOf, isMsh};
 ghost use Rattle.hl7.specs.Refusals.{messageLimit};
 ghost use Rattle.grade.specs.Header.{headerFindings, anyWrong};
-ghost use Rattle.grade.specs.Admission.{admitted};
-ghost use Rattle.grade.specs.declared.admit.Admitted.the-variants as Admitted;
-ghost use Rattle.grade.specs.Standing.{Holds, Placed, rulesIn, setsIn};
+ghost use Rattle.grade.specs.declared.admit.Admitted.the-variants.{By};
+ghost use Rattle.grade.specs.Standing.{Admits, Holds, Placed, rulesIn, setsIn};
 ghost use Rattle.grade.specs.Limits.{fieldPlaces};
 ghost use Rattle.grade.specs.Linked.{Linked};
 ghost use Rattle.grade.specs.Order.{mayFollow};
@@ -171,7 +170,7 @@ fn answer_admitted(
     stamp: &[u8],
     control: u32,
 ) -> Answer
-    requires { ⌜ Admitted.By section header ≡ admitted (now m) (now book) ⌝ }
+    requires { ⌜ Admits (now m) (now book) (By section header) ⌝ }
     ensures { λ r. ⌜ Gives r (now (out .exit)) (answerOf (now (m .entry)) (now (book .entry)) (now (stamp .entry)) control (now (out .entry))) ⌝ }
 {
     if is_stamp(stamp) {

@@ -2,9 +2,9 @@
 use Prim.Native.Nat.{ℕ, suc, _+_, _-_, _*_, _/_, _%_, _<_, _≤_}
 use native.Mathlib.Nat.{add-zero}
 use native.Mathlib.Omega.{arith}
-use mathlib.Core.Path.{_≡_, refl, sym, ap, ap₂, _∙_}
+use mathlib.Core.Path.{_≡_, refl, sym, ap, _∙_}
 use mathlib.Core.Bool.{Bool, true, false, _&&_}
-use mathlib.Core.List.{List, [], _∷_, _++_, map, append-assoc}
+use mathlib.Core.List.{List, [], _∷_, _++_, append-assoc, append-nil}
 use lib.Dec.{eqb, leb, lit≤}
 use borrow.Author.Tests.{le-leb, eq-eqb, leb-true}
 use lib.ListN.{length, getD, drop, length-drop, length-append}
@@ -18,14 +18,12 @@ use Rattle.grade.specs.declared.rule.SeverityRead.{SeverityRead}
 use Rattle.grade.specs.declared.rule.KindRead.{KindRead}
 use Rattle.grade.specs.declared.rule.RuleRead.{RuleRead}
 use Rattle.grade.specs.Limits.{headSize, bookLimit, bookVersion, sectionLimit, keyLimit, ruleLimit, ruleSize, setLimit, codeLimit, codeCountLimit}
-use Rattle.grade.specs.Reader.{found, Reader, run, twoBytes, byte, times}
+use Rattle.grade.specs.Reader.{found, itemsOf, Reader, run, twoBytes, byte, times}
 use Rattle.grade.specs.Rule.{counted, segmentNames, nameBytes, nameOfLetters, severityOf, severityLetter, kindOf, unusedZero, ruleSaid, ruleOf, ruleFits}
-use Rattle.grade.specs.Book.{plain, text, codeSet, ruleIn, Contents, Sited, section, sections, distinct, keys, headRight, version, malformed, otherVersion, decoded}
+use Rattle.grade.specs.Book.{plain, text, codeSet, ruleIn, Contents, section, sections, distinct, keys, headRight, version, malformed, otherVersion, decoded}
 use Rattle.grade.specs.Encoding.{twoBytesOf, spellAll, textBytes, setBytes, kindByte, lastBytes, ruleBytes, sectionBytes, bookBytes, each, textFits, setFits, sectionFits, wellFormed}
 use Rattle.grade.proofs.Naming.{at-counted, letters-name}
-use Rattle.grade.proofs.Parts.{made}
 use Rattle.grade.proofs.Holding.{place-limits}
-use Rattle.grade.proofs.Encoded.{map-keys}
 
 module _ (b : List ℕ) where
   -- ---- a byte, two bytes, a run
@@ -154,9 +152,7 @@ read-rule b sets at r rest h e =
 -- ---- a section, and the book
 
 module _ (b : List ℕ) where
-  -- the section, and where its parts stand in the book
-  read-section : (at : ℕ) (c : Contents) (rest : List ℕ) → sectionFits c ≡ true → drop at b ≡ sectionBytes c ++ rest →
-      (s : Sited) × (s .contents ≡ c) × (section b at ≡ found s (at + length (sectionBytes c)))
+  read-section : Reads b section sectionBytes sectionFits
   unfolding section
   read-section at c rest h e =
       let n = length (c .rules) in
@@ -175,51 +171,31 @@ module _ (b : List ℕ) where
       let e5 = past b (k + 2 + 1) rs (ss ++ rest) e4 in
       let rules = read-row b (ruleIn m) ruleBytes (ruleFits m) (read-rule b m) (c .rules) (k + 2 + 1) (ss ++ rest) (u .1) e4 in
       let sets = read-row b codeSet setBytes setFits (read-set b) (c .sets) (k + 2 + 1 + length rs) rest (t .1) e5 in
-      let l : k + 2 + 1 + length rs + length ss ≡ at + length (sectionBytes c) = omega (arith, length-append (c .key) body, length-append rs ss) in (
-        made (c .key) n m (k + 2 + 1) (c .rules) (k + 2 + 1 + length rs) (c .sets),
-        refl,
-        rw (read-text b keyLimit at (c .key) (body ++ rest) (v .0) e1, read-two b k n _ e2, read-byte b (k + 2) m _ e3, v .1, rules, sets, l),
-      )
-
-  read-sections : (cs : List Contents) (at : ℕ) → each sectionFits cs ≡ true → drop at b ≡ spellAll sectionBytes cs →
-      (all : List Sited) × (map (λ (s : Sited). s .contents) all ≡ cs) × (times (length cs) section b at ≡ found all (at + length (spellAll sectionBytes cs)))
-  unfolding times
-  read-sections [] at h e = ([], refl, rw add-zero)
-  read-sections (c ∷ cs) at h e =
-      let t = and-both (sectionFits c) (each sectionFits cs) h in
-      let f = read-section at c (spellAll sectionBytes cs) (t .0) e in
-      let m = at + length (sectionBytes c) in
-      let i = read-sections cs m (t .1) (past b at (sectionBytes c) (spellAll sectionBytes cs) e) in
-      let l : m + length (spellAll sectionBytes cs) ≡ at + length (sectionBytes c ++ spellAll sectionBytes cs) =
-      omega (arith, length-append (sectionBytes c) (spellAll sectionBytes cs)) in
-      (f .0 ∷ i .0, ap₂ _∷_ (f .1) (i .1), rw (f .2, i .2, l))
+      let l : k + 2 + 1 + length rs + length ss ≡ at + length (sectionBytes c) = omega (arith, length-append (c .key) body, length-append rs ss) in
+      rw (read-text b keyLimit at (c .key) (body ++ rest) (v .0) e1, read-two b k n _ e2, read-byte b (k + 2) m _ e3, v .1, rules, sets, l)
 
 -- what a well-formed list of sections asks
 pub record Formed (cs : List Contents) : Type 0 where
   pub few : within 1 sectionLimit (length cs) ≡ true
   pub fit : each sectionFits cs ≡ true
-  pub differ : distinct (map (λ (c : Contents). c .key) cs) ≡ true
+  pub differ : distinct (keys cs) ≡ true
   pub short : leb (length (bookBytes cs)) bookLimit ≡ true
 
 formed : (cs : List Contents) → wellFormed cs ≡ true → Formed cs
 unfolding wellFormed
 formed cs h =
     let t = and-both _ (leb (length (bookBytes cs)) bookLimit) h in
-    let u = and-both _ (distinct (map (λ (c : Contents). c .key) cs)) (t .0) in
+    let u = and-both _ (distinct (keys cs)) (t .0) in
     let v = and-both (within 1 sectionLimit (length cs)) (each sectionFits cs) (u .0) in
     record { few = v .0; fit = v .1; differ = u .1; short = t .1 }
 
-read-book : (cs : List Contents) → Formed cs → (all : List Sited) × (map (λ (s : Sited). s .contents) all ≡ cs) × (sections (bookBytes cs) headSize ≡ found all (length (bookBytes cs)))
+read-book : (cs : List Contents) → Formed cs → sections (bookBytes cs) headSize ≡ found cs (length (bookBytes cs))
 unfolding bookBytes sections
 read-book cs f =
     let b = bookBytes cs in
-    let i = read-sections b cs (headSize + 1) (f .fit) refl in
+    let i = read-row b section sectionBytes sectionFits (read-section b) cs (headSize + 1) [] (f .fit) (sym (append-nil (spellAll sectionBytes cs))) in
     let l : headSize + 1 + length (spellAll sectionBytes cs) ≡ length b = omega arith in
-    let d : distinct (keys (i .0)) ≡ true = rw (map-keys (i .0), i .1) (f .differ) in (
-      i .0,
-      i .1,
-      rw (read-byte b headSize (length cs) (spellAll sectionBytes cs) refl, f .few, i .2, l, eq-eqb (length b) (length b) refl, d),
-    )
+    rw (read-byte b headSize (length cs) (spellAll sectionBytes cs) refl, f .few, i, l, eq-eqb (length b) (length b) refl, f .differ)
 
 head-back : (cs : List Contents) → Formed cs → (headRight (bookBytes cs) ≡ true) × (eqb (version (bookBytes cs)) bookVersion ≡ true)
 unfolding headRight bookBytes begins
@@ -233,7 +209,7 @@ decodes cs h =
     let f = formed cs h in
     let i = read-book cs f in
     let g = head-back cs f in
-    (rw (g .0, g .1, i .2), rw (g .1), rw (i .2) (i .1))
+    (rw (g .0, g .1, i), rw (g .1), ap itemsOf i)
 
 -- so an encoding has one reading
 pub one-reading : (cs cs′ : List Contents) → wellFormed cs ≡ true → wellFormed cs′ ≡ true → bookBytes cs ≡ bookBytes cs′ → cs ≡ cs′

@@ -3,7 +3,7 @@ use Prim.Native.Nat.{ℕ, zero, suc, _+_, _-_, _*_, _/_, _%_, _<_, _≤_}
 use native.Mathlib.Omega.{arith}
 use mathlib.Core.Path.{_≡_, refl, sym, ap, ap₂, _∙_}
 use mathlib.Core.Bool.{Bool, true, false, cond, not, _&&_, _||_, false≢true}
-use mathlib.Core.List.{List, [], _∷_, _++_, map, append-assoc, append-nil}
+use mathlib.Core.List.{List, [], _∷_, _++_, append-assoc, append-nil}
 use lib.Dec.{eqb, leb}
 use borrow.Author.Tests.{eqb-true, leb-true, not-false}
 use lib.ListN.{length, getD, drop, take-append-drop}
@@ -21,7 +21,8 @@ use Rattle.grade.specs.declared.rule.RuleRead.{RuleRead}
 use Rattle.grade.specs.Limits.{headSize, bookLimit, bookVersion, keyLimit, codeLimit, ruleSize}
 use Rattle.grade.specs.Reader.{Parsed, fault, found, isFound, itemsOf, Reader, pair, times}
 use Rattle.grade.specs.Rule.{severityOf, severityLetter, kindOf, unusedZero, ruleOf, ruleFits}
-use Rattle.grade.specs.Book.{text, codeSet, ruleIn, Contents, Sited, section, sections, keys, headRight, version, malformed, otherVersion, decoded}
+use Rattle.grade.specs.Book.{text, codeSet, ruleIn, Contents, section, sections, headRight, version, malformed, otherVersion, decoded}
+use Rattle.grade.specs.Standing.{textEnd, siteAt}
 use Rattle.grade.specs.Encoding.{twoBytesOf, spellAll, textBytes, setBytes, kindByte, lastBytes, ruleBytes, sectionBytes, bookBytes, each, textFits, setFits, sectionFits, wellFormed}
 use Rattle.grade.proofs.Readings.{found-same, row-found, row-length, cond-gave}
 use Rattle.grade.proofs.Naming.{name-letters}
@@ -175,44 +176,29 @@ spells-rule sets b at r end q =
 -- ---- a section, and the book
 
 module _ (b : List ℕ) (small : Bytes b) where
-  pub spells-section : Spells b section (λ (c : Sited). sectionBytes (c .contents))
+  spells-section : Spells b section sectionBytes
   spells-section at c end q =
       let p = section-parts b at c end q in
-      let s = c .place in
-      let k = p .counts in
-      let rl = row-length (ruleIn (s .«set_count»)) b (s .«rule_count») (s .«rules_at») (c .contents .rules) (s .«sets_at») (p .rulesRead) in
-      let sl = row-length codeSet b (s .«set_count») (s .«sets_at») (c .contents .sets) end (p .setsRead) in
-      let e : k + 2 + 1 ≡ s .«rules_at» = omega (arith, p .rulesAt) in
-      let two : Spelt b k (twoBytesOf (length (c .contents .rules))) (k + 2) = rw (rl ∙ p .ruleCount) (two-spelt b small k (omega (arith, p .inside))) in
-      let one : Spelt b (k + 2) (length (c .contents .sets) ∷ []) (s .«rules_at») =
-      record { left = rest-at b (k + 2) (omega (arith, p .inside)) ∙ ap₂ _∷_ (sym (sl ∙ p .setCount)) (ap (λ (x : ℕ). drop x b) e) } in
-      let rules = spells-row b (ruleIn (s .«set_count»)) ruleBytes (spells-rule (s .«set_count») b) (s .«rule_count») (s .«rules_at») (c .contents .rules) (s .«sets_at») (p .rulesRead) in
-      let sets = spells-row b codeSet setBytes (spells-set b small) (s .«set_count») (s .«sets_at») (c .contents .sets) end (p .setsRead) in
-      spelt-join (spells-text keyLimit b at (c .contents .key) k (p .keyRead)) (spelt-join two (spelt-join one (spelt-join rules sets)))
+      let s = siteAt b at in
+      let k = textEnd b at in
+      let rl = row-length (ruleIn (s .«set_count»)) b (s .«rule_count») (s .«rules_at») (c .rules) (s .«sets_at») (p .rulesRead) in
+      let sl = row-length codeSet b (s .«set_count») (s .«sets_at») (c .sets) end (p .setsRead) in
+      let e : k + 2 + 1 ≡ s .«rules_at» = omega arith in
+      let two : Spelt b k (twoBytesOf (length (c .rules))) (k + 2) = rw rl (two-spelt b small k (omega (arith, p .inside))) in
+      let one : Spelt b (k + 2) (length (c .sets) ∷ []) (s .«rules_at») =
+      record { left = rest-at b (k + 2) (omega (arith, p .inside)) ∙ ap₂ _∷_ (sym sl) (ap (λ (x : ℕ). drop x b) e) } in
+      let rules = spells-row b (ruleIn (s .«set_count»)) ruleBytes (spells-rule (s .«set_count») b) (s .«rule_count») (s .«rules_at») (c .rules) (s .«sets_at») (p .rulesRead) in
+      let sets = spells-row b codeSet setBytes (spells-set b small) (s .«set_count») (s .«sets_at») (c .sets) end (p .setsRead) in
+      spelt-join (spells-text keyLimit b at (c .key) k (p .keyRead)) (spelt-join two (spelt-join one (spelt-join rules sets)))
 
-pub map-keys : (all : List Sited) → keys all ≡ map (λ (c : Contents). c .key) (map (λ (s : Sited). s .contents) all)
-map-keys [] = refl
-map-keys (s ∷ rest) = ap (λ (ks : List (List ℕ)). s .contents .key ∷ ks) (map-keys rest)
+all-length : (b : List ℕ) (all : List Contents) → BookParts b all → length all ≡ getD b headSize 0
+all-length b all p = row-length section b (getD b headSize 0) (headSize + 1) all (length b) (p .read)
 
-spell-map : (all : List Sited) → spellAll (λ (c : Sited). sectionBytes (c .contents)) all ≡ spellAll sectionBytes (map (λ (c : Sited). c .contents) all)
-spell-map [] = refl
-spell-map (c ∷ rest) = ap (λ (xs : List ℕ). sectionBytes (c .contents) ++ xs) (spell-map rest)
-
-length-map : {A B : Type 0} (f : A → B) (xs : List A) → length (map f xs) ≡ length xs
-length-map f [] = refl
-length-map f (x ∷ xs) = ap suc (length-map f xs)
-
-abbrev said : List Sited → List Contents
-said = map (λ (c : Sited). c .contents)
-
-said-length : (b : List ℕ) (all : List Sited) → BookParts b all → length (said all) ≡ getD b headSize 0
-said-length b all p = length-map (λ (c : Sited). c .contents) all ∙ row-length section b (getD b headSize 0) (headSize + 1) all (length b) (p .read)
-
-sections-spelt : (b : List ℕ) → Bytes b → (all : List Sited) → BookParts b all → drop headSize b ≡ length (said all) ∷ spellAll sectionBytes (said all)
+sections-spelt : (b : List ℕ) → Bytes b → (all : List Contents) → BookParts b all → drop headSize b ≡ length all ∷ spellAll sectionBytes all
 sections-spelt b small all p =
-    let x = spells-row b section (λ (c : Sited). sectionBytes (c .contents)) (spells-section b small) (getD b headSize 0) (headSize + 1) all (length b) (p .read) in
+    let x = spells-row b section sectionBytes (spells-section b small) (getD b headSize 0) (headSize + 1) all (length b) (p .read) in
     rest-at b headSize (p .room)
-    ∙ ap₂ _∷_ (sym (said-length b all p)) (x .left ∙ ap₂ _++_ (spell-map all) (drop-length b) ∙ append-nil (spellAll sectionBytes (said all)))
+    ∙ ap₂ _∷_ (sym (all-length b all p)) (x .left ∙ ap (λ (xs : List ℕ). spellAll sectionBytes all ++ xs) (drop-length b) ∙ append-nil (spellAll sectionBytes all))
 
 -- mark and version
 head-spelt : (b : List ℕ) → headRight b ≡ true → eqb (version b) bookVersion ≡ true → b ≡ bytes "VXB" ++ (twoBytesOf bookVersion ++ drop headSize b)
@@ -259,31 +245,27 @@ set-fits b at codes end q =
     rw (row-length (text codeLimit) b (pair b at) (at + 2) codes end r, set-count b at codes end q)
     (each-row b (text codeLimit) (textFits codeLimit) (text-fits codeLimit b) (pair b at) (at + 2) codes end r)
 
-section-fits : (b : List ℕ) (at : ℕ) (c : Sited) (end : ℕ) → section b at ≡ found c end → sectionFits (c .contents) ≡ true
+section-fits : (b : List ℕ) (at : ℕ) (c : Contents) (end : ℕ) → section b at ≡ found c end → sectionFits c ≡ true
 section-fits b at c end q =
     let p = section-parts b at c end q in
-    let s = c .place in
-    let rl = row-length (ruleIn (s .«set_count»)) b (s .«rule_count») (s .«rules_at») (c .contents .rules) (s .«sets_at») (p .rulesRead) in
-    let sl = row-length codeSet b (s .«set_count») (s .«sets_at») (c .contents .sets) end (p .setsRead) in
-    let rules = each-row b (ruleIn (s .«set_count»)) (ruleFits (s .«set_count»)) (rule-fits b (s .«set_count»)) (s .«rule_count») (s .«rules_at») (c .contents .rules) (s .«sets_at») (p .rulesRead) in
-    let sets = each-row b codeSet setFits (set-fits b) (s .«set_count») (s .«sets_at») (c .contents .sets) end (p .setsRead) in
-    rw (text-fits keyLimit b at (c .contents .key) (p .counts) (p .keyRead), rl, sl, p .few, rules) sets
+    let s = siteAt b at in
+    let rl = row-length (ruleIn (s .«set_count»)) b (s .«rule_count») (s .«rules_at») (c .rules) (s .«sets_at») (p .rulesRead) in
+    let sl = row-length codeSet b (s .«set_count») (s .«sets_at») (c .sets) end (p .setsRead) in
+    let rules = each-row b (ruleIn (s .«set_count»)) (ruleFits (s .«set_count»)) (rule-fits b (s .«set_count»)) (s .«rule_count») (s .«rules_at») (c .rules) (s .«sets_at») (p .rulesRead) in
+    let sets = each-row b codeSet setFits (set-fits b) (s .«set_count») (s .«sets_at») (c .sets) end (p .setsRead) in
+    rw (text-fits keyLimit b at (c .key) (textEnd b at) (p .keyRead), rl, sl, p .few, rules) sets
   where
     rule-fits : (b : List ℕ) (sets at : ℕ) (r : Rule) (end : ℕ) → ruleIn sets b at ≡ found r end → ruleFits sets r ≡ true
     rule-fits b sets at r end q = read-fits sets _ r (rule-found sets b at r end q .1)
 
 -- ---- the book
 
-each-map : (all : List Sited) → each (λ (c : Sited). sectionFits (c .contents)) all ≡ each sectionFits (said all)
-each-map [] = refl
-each-map (c ∷ rest) = ap (λ (t : Bool). sectionFits (c .contents) && t) (each-map rest)
-
-all-fit : (b : List ℕ) (all : List Sited) → BookParts b all → headRight b ≡ true → b ≡ bookBytes (said all) → wellFormed (said all) ≡ true
+all-fit : (b : List ℕ) (all : List Contents) → BookParts b all → headRight b ≡ true → b ≡ bookBytes all → wellFormed all ≡ true
 unfolding wellFormed headRight
 all-fit b all p h e =
     let l = and-both (leb headSize (length b)) (leb (length b) bookLimit) (and-both (within headSize bookLimit (length b)) (begins (bytes "VXB") b) h .0) .1 in
-    let s = each-row b section (λ (c : Sited). sectionFits (c .contents)) (section-fits b) (getD b headSize 0) (headSize + 1) all (length b) (p .read) in
-    rw (said-length b all p, p .few, ← each-map all, s, ← map-keys all, p .differ, ← e) l
+    let s = each-row b section sectionFits (section-fits b) (getD b headSize 0) (headSize + 1) all (length b) (p .read) in
+    rw (all-length b all p, p .few, s, p .differ, ← e) l
 
 -- a book that is not refused is the encoding of what it decodes to, and that is well-formed
 pub record Encoded (b : List ℕ) : Type 0 where
@@ -294,11 +276,11 @@ pub encoded : (b : List ℕ) → Bytes b → malformed b ≡ false → otherVers
 unfolding malformed otherVersion decoded bookBytes
 encoded b small m v = go (headRight b) (sections b headSize) refl refl (not-false (eqb (version b) bookVersion) v) m
   where
-    go : (t : Bool) (r : Parsed (List Sited)) → headRight b ≡ t → sections b headSize ≡ r → eqb (version b) bookVersion ≡ true →
+    go : (t : Bool) (r : Parsed (List Contents)) → headRight b ≡ t → sections b headSize ≡ r → eqb (version b) bookVersion ≡ true →
         (not t || eqb (version b) bookVersion && not (isFound r)) ≡ false → Encoded b
     go true (found all end) h e v m =
         let p = book-parts b all end e in
-        let d : said all ≡ decoded b = ap (λ (r : Parsed (List Sited)). said (itemsOf r)) (sym e) in
+        let d : all ≡ decoded b = ap itemsOf (sym e) in
         let w = head-spelt b h v ∙ ap (λ (xs : List ℕ). bytes "VXB" ++ (twoBytesOf bookVersion ++ xs)) (sections-spelt b small all p) in
         record { is = w ∙ ap bookBytes d; fits = ap wellFormed (sym d) ∙ all-fit b all p h w }
     go true fault h e v m = absurd (false≢true (sym m ∙ rw v))

@@ -1,21 +1,19 @@
 -- Laws of `specs/Grading.antt`: what is listed depends on the book through the named section alone. Assumes nothing.
 use Prim.Native.Nat.{ℕ}
-use mathlib.Core.Path.{_≡_, refl, sym, ap, _∙_}
-use mathlib.Core.Bool.{Bool, true, false, cond}
-use mathlib.Core.List.{List, [], _∷_}
+use mathlib.Core.Path.{_≡_, ap}
+use mathlib.Core.Bool.{true, false}
+use mathlib.Core.List.{List, []}
 use lib.ListN.{getD}
 use Rattle.hl7.specs.Place.{delimsOf}
-use Rattle.grade.specs.Book.{Contents, decoded, under, opened}
+use Rattle.grade.specs.Book.{Contents, decoded, under}
 use Rattle.grade.specs.Header.{mshOf, headerOf, anyWrong, headerFindings}
 use Rattle.grade.specs.Admission.{keyOf}
 use Rattle.grade.specs.Order.{mayFollow}
 use Rattle.grade.specs.Findings.{findings}
 use Rattle.grade.specs.Grading.{sectionFor, findingsBy, findingsFor}
 use Rattle.grade.specs.Standing.{rulesIn, setsIn}
-use Rattle.grade.specs.declared.book.Opened.{Opened}
 use Rattle.grade.specs.declared.walk.Section.{Section}
-use Rattle.grade.specs.declared.finding.Finding.{Finding}
-use Rattle.grade.proofs.Opening.{Under, opened-under}
+use Rattle.grade.proofs.Opening.{Under}
 
 -- two books whose sections with the message's key hold the same list the same
 pub section-decides : (m b b′ : List ℕ) → under (keyOf (delimsOf m) (mshOf m)) (decoded b) ≡ under (keyOf (delimsOf m) (mshOf m)) (decoded b′) → findingsFor m b ≡ findingsFor m b′
@@ -23,12 +21,12 @@ unfolding sectionFor
 section-decides m b b′ e = ap (λ (cs : List Contents). findingsBy (getD cs 0 (record { key = []; rules = []; sets = [] })) m) e
 
 -- ---- the section that was opened is the one that the message names
-pub section-opened : (m b : List ℕ) (s : Section) → opened b (keyOf (delimsOf m) (mshOf m)) ≡ Opened.At s → sectionFor m b ≡ record { key = keyOf (delimsOf m) (mshOf m); rules = rulesIn b s; sets = setsIn b s }
+pub section-opened : (m b : List ℕ) (s : Section) → Under b (keyOf (delimsOf m) (mshOf m)) s → sectionFor m b ≡ record { key = keyOf (delimsOf m) (mshOf m); rules = rulesIn b s; sets = setsIn b s }
 unfolding sectionFor
-section-opened m b s e = ap (λ (cs : List Contents). getD cs 0 (record { key = []; rules = []; sets = [] })) (opened-under b (keyOf (delimsOf m) (mshOf m)) s e .only)
+section-opened m b s e = ap (λ (cs : List Contents). getD cs 0 (record { key = []; rules = []; sets = [] })) (e .only)
 
 -- ---- what is listed, by the header
-module _ (m b : List ℕ) (s : Section) (found : opened b (keyOf (delimsOf m) (mshOf m)) ≡ Opened.At s) where
+module _ (m b : List ℕ) (s : Section) (found : Under b (keyOf (delimsOf m) (mshOf m)) s) where
   pub listed-header : anyWrong (headerOf (delimsOf m) (mshOf m)) ≡ true → findingsFor m b ≡ headerFindings (headerOf (delimsOf m) (mshOf m))
   unfolding findingsBy
   listed-header e = rw e

@@ -1,9 +1,9 @@
 -- What a text, a set, a rule and a section that were read are made of. Assumes nothing.
-use Prim.Native.Nat.{ℕ, _+_, _-_, _*_, _<_, _≤_}
+use Prim.Native.Nat.{ℕ, zero, suc, _+_, _-_, _*_, _<_, _≤_}
 use native.Mathlib.Nat.{add-zero}
 use native.Mathlib.Omega.{arith}
 use mathlib.Core.Path.{_≡_, refl, sym, ap, ap₂, subst, subst₂, _∙_}
-use mathlib.Core.Bool.{Bool, true, false, _&&_, false≢true}
+use mathlib.Core.Bool.{Bool, true, false, _&&_}
 use mathlib.Core.List.{List, [], _∷_, map}
 use borrow.Author.Tests.{eqb-true}
 use lib.Dec.{eqb, leb, lit<}
@@ -21,9 +21,9 @@ use Rattle.grade.specs.declared.rule.RuleRead.{RuleRead}
 use Rattle.grade.specs.Limits.{headSize, sectionLimit, keyLimit, ruleLimit, ruleSize, setLimit, codeLimit, codeCountLimit}
 use Rattle.grade.specs.Reader.{Parsed, fault, found, isFound, itemsOf, check, times, byte, run, pair, twoBytes}
 use Rattle.grade.specs.Rule.{nameOfLetters, severityOf, kindOf, unusedZero, placeOf, noRule, ruleWith, ruleSaid, ruleFits, ruleIf, ruleWithin, ruleOf, isRule}
-use Rattle.grade.specs.Book.{plain, keys, text, section, ruleIn, codeSet, Sited, ruleRead, distinct, nothingAfter, sections}
-use Rattle.grade.specs.Standing.{endOf, textAt, TextFits, standsAt, sitedOf, sitedAt, SetStands}
-use Rattle.grade.proofs.Readings.{then-found, found-same, check-found, byte-found, run-found, two-found, ended, is-found, row-end, row-inside, row-found}
+use Rattle.grade.specs.Book.{plain, keys, text, section, ruleIn, codeSet, Contents, ruleRead, distinct, nothingAfter, sections}
+use Rattle.grade.specs.Standing.{endOf, mapped, textEnd, textAt, TextFits, standsAt, contentsOf, contentsAt, siteAt, startOf, SetStands}
+use Rattle.grade.proofs.Readings.{then-found, found-same, check-found, byte-found, run-found, two-found, ended, is-found, row-mapped, row-end, row-inside, row-found}
 
 -- ---- texts
 
@@ -32,7 +32,7 @@ pub record TextRead (limit : ℕ) (b : List ℕ) (at : ℕ) (letters : List ℕ)
   pub sized : within 1 limit (getD b at 0) ≡ true
   pub plainly : all plain letters ≡ true
   pub is : letters ≡ textAt b at
-  pub ends : end ≡ at + 1 + getD b at 0
+  pub ends : end ≡ textEnd b at
 
 text-joined : (limit : ℕ) (b : List ℕ) (at size from from′ after after′ end : ℕ) (letters letters′ : List ℕ) →
     (at + 1 ≤ length b) × (size ≡ getD b at 0) × (from ≡ at + 1) → (within 1 limit size ≡ true) × (from′ ≡ from) →
@@ -212,50 +212,44 @@ rule-found sets b at r e h =
 
 -- ---- sections
 
--- the readings of which a section was made
-pub record SectionParts (b : List ℕ) (at : ℕ) (c : Sited) (end : ℕ) : Type 0 where
-  pub counts : ℕ
-  pub inside : counts + 3 ≤ length b
-  pub keyRead : text keyLimit b at ≡ found (c .contents .key) counts
-  pub ruleCount : c .place .«rule_count» ≡ pair b counts
-  pub setCount : c .place .«set_count» ≡ getD b (counts + 2) 0
-  pub few : (leb (c .place .«rule_count») ruleLimit && leb (c .place .«set_count») setLimit) ≡ true
-  pub rulesAt : c .place .«rules_at» ≡ counts + 3
-  pub rulesRead : times (c .place .«rule_count») (ruleIn (c .place .«set_count»)) b (c .place .«rules_at») ≡ found (c .contents .rules) (c .place .«sets_at»)
-  pub setsRead : times (c .place .«set_count») codeSet b (c .place .«sets_at») ≡ found (c .contents .sets) end
+-- the readings of which a section was made, with its rules and sets where they stand
+pub record SectionParts (b : List ℕ) (at : ℕ) (s : Section) (c : Contents) (end : ℕ) : Type 0 where
+  pub fits : TextFits b at
+  pub keyRead : text keyLimit b at ≡ found (c .key) (textEnd b at)
+  pub few : (leb (s .«rule_count») ruleLimit && leb (s .«set_count») setLimit) ≡ true
+  pub rulesRead : times (s .«rule_count») (ruleIn (s .«set_count»)) b (s .«rules_at») ≡ found (c .rules) (s .«sets_at»)
+  pub setsRead : times (s .«set_count») codeSet b (s .«sets_at») ≡ found (c .sets) end
+  pub inside : s .«sets_at» ≤ length b
 
-abbrev pub made : List ℕ → ℕ → ℕ → ℕ → List Rule → ℕ → List (List (List ℕ)) → Sited
-made key ruleCount setCount rulesAt rules setsAt sets =
-    record {
-      contents = record { key = key; rules = rules; sets = sets };
-      place = record { «rules_at» = rulesAt; «rule_count» = ruleCount; «sets_at» = setsAt; «set_count» = setCount };
-    }
-
-section-joined : (b : List ℕ) (at : ℕ) (c : Sited) (end counts ruleCount m setCount m′ rulesAt setsAt end′ : ℕ)
-    (key : List ℕ) (rules : List Rule) (sets : List (List (List ℕ))) →
+section-joined : (b : List ℕ) (at end counts ruleCount m setCount m′ rulesAt setsAt : ℕ) (key : List ℕ) (rules : List Rule) (sets : List (List (List ℕ))) →
     text keyLimit b at ≡ found key counts →
     (counts + 2 ≤ length b) × (ruleCount ≡ pair b counts) × (m ≡ counts + 2) →
     (m + 1 ≤ length b) × (setCount ≡ getD b m 0) × (m′ ≡ m + 1) →
     ((leb ruleCount ruleLimit && leb setCount setLimit) ≡ true) × (rulesAt ≡ m′) →
     times ruleCount (ruleIn setCount) b rulesAt ≡ found rules setsAt →
-    times setCount codeSet b setsAt ≡ found sets end′ →
-    found (made key ruleCount setCount rulesAt rules setsAt sets) end′ ≡ found c end → SectionParts b at c end
-section-joined b at c end counts ruleCount m setCount m′ rulesAt setsAt end′ key rules sets k h i l r s e =
-    let w = found-same (made key ruleCount setCount rulesAt rules setsAt sets) c end′ end e in
-    subst₂ (λ (x : Sited) (y : ℕ). SectionParts b at x y) (w .0) (w .1)
+    times setCount codeSet b setsAt ≡ found sets end → SectionParts b at (siteAt b at) (record { key = key; rules = rules; sets = sets }) end
+section-joined b at end counts ruleCount m setCount m′ rulesAt setsAt key rules sets k h i l r s =
+    let t = text-read keyLimit b at key counts k in
+    let from : rulesAt ≡ textEnd b at + 3 = omega (arith, t .ends, h .2, i .2, l .1) in
+    let many : ruleCount ≡ pair b (textEnd b at) = h .1 ∙ ap (pair b) (t .ends) in
+    let behind : m ≡ textEnd b at + 2 = omega (arith, t .ends, h .2) in
+    let held : setCount ≡ getD b (textEnd b at + 2) 0 = i .1 ∙ ap (λ (x : ℕ). getD b x 0) behind in
+    let past : setsAt ≡ textEnd b at + 3 + ruleSize * pair b (textEnd b at) =
+    row-end (ruleIn setCount) b ruleSize (λ at r e q. rule-found setCount b at r e q .2) noRule ruleCount rulesAt rules setsAt r ∙ ap₂ (λ (x y : ℕ). x + ruleSize * y) from many in
+    let site : record { «rules_at» = rulesAt; «rule_count» = ruleCount; «sets_at» = setsAt; «set_count» = setCount } ≡ siteAt b at = rw (past, from, many, held) in
+    subst (λ (x : Section). SectionParts b at x (record { key = key; rules = rules; sets = sets }) end) site
     (record {
-      counts = counts;
-      inside = omega (arith, h .2, i .0);
-      keyRead = k;
-      ruleCount = h .1;
-      setCount = i .1 ∙ ap (λ (x : ℕ). getD b x 0) (h .2);
+      fits = t .fits;
+      keyRead = k ∙ ap (found key) (t .ends);
       few = l .0;
-      rulesAt = omega (arith, h .2, i .2, l .1);
       rulesRead = r;
       setsRead = s;
+      inside =
+          row-inside (ruleIn setCount) b (λ at r e q. rw (rule-found setCount b at r e q .2) (rule-found setCount b at r e q .0)) ruleCount rulesAt rules setsAt
+          (omega (arith, i .0, i .2, l .1)) r;
     })
 
-pub section-parts : (b : List ℕ) (at : ℕ) (c : Sited) (end : ℕ) → section b at ≡ found c end → SectionParts b at c end
+pub section-parts : (b : List ℕ) (at : ℕ) (c : Contents) (end : ℕ) → section b at ≡ found c end → SectionParts b at (siteAt b at) c end
 unfolding section
 section-parts b at c end h =
     let k = then-found (text keyLimit b at) _ c end h in
@@ -264,84 +258,68 @@ section-parts b at c end h =
     let l = then-found (check (leb (r .0) ruleLimit && leb (s .0) setLimit) b (s .1)) _ c end (s .3) in
     let rs = then-found (times (r .0) (ruleIn (s .0)) b (l .1)) _ c end (l .3) in
     let ss = then-found (times (s .0) codeSet b (rs .1)) _ c end (rs .3) in
-    section-joined b at c end (k .1) (r .0) (r .1) (s .0) (s .1) (l .1) (rs .1) (ss .1) (k .0) (rs .0) (ss .0) (k .2)
+    let w = found-same (record { key = k .0; rules = rs .0; sets = ss .0 }) c (ss .1) end (ss .3) in
+    subst₂ (λ (x : Contents) (y : ℕ). SectionParts b at (siteAt b at) x y) (w .0) (w .1)
+    (section-joined b at (ss .1) (k .1) (r .0) (r .1) (s .0) (s .1) (l .1) (rs .1) (k .0) (rs .0) (ss .0) (k .2)
     (two-found b (k .1) (r .0) (r .1) (r .2)) (byte-found b (r .1) (s .0) (s .1) (s .2))
-    (check-found (leb (r .0) ruleLimit && leb (s .0) setLimit) b (s .1) (l .0) (l .1) (l .2)) (rs .2) (ss .2) (ss .3)
+    (check-found (leb (r .0) ruleLimit && leb (s .0) setLimit) b (s .1) (l .0) (l .1) (l .2)) (rs .2) (ss .2))
 
--- a section that stands at a position: what it says, and where it ends
-pub stands-found : (b : List ℕ) (at : ℕ) → standsAt b at ≡ true → (end : ℕ) × (section b at ≡ found (sitedAt b at) end)
-stands-found b at h = go (section b at) h
-  where
-    go : (r : Parsed Sited) → isFound r ≡ true → (end : ℕ) × (r ≡ found (sitedOf r) end)
-    go fault h = absurd (false≢true h)
-    go (found c end) h = (end, refl)
+-- a section that stands at a position: the readings of which it is made
+pub stands-parts : (b : List ℕ) (at : ℕ) → standsAt b at ≡ true → (end : ℕ) × SectionParts b at (siteAt b at) (contentsAt b at) end
+stands-parts b at h =
+    let w = is-found (section b at) h in
+    (w .1, section-parts b at (contentsAt b at) (w .1) (w .2 ∙ ap (λ (c : Contents). found c (w .1)) (sym (ap contentsOf (w .2)))))
 
-pub ends-stands : (b : List ℕ) (at end : ℕ) → endOf (section b at) ≡ Next.At end → (standsAt b at ≡ true) × (section b at ≡ found (sitedAt b at) end)
-ends-stands b at end h = go (section b at) h
-  where
-    go : (r : Parsed Sited) → endOf r ≡ Next.At end → (isFound r ≡ true) × (r ≡ found (sitedOf r) end)
-    go fault h = let z : _≡_ {A = ℕ} 0 1 = cc in absurd (omega arith)
-    go (found c e) h = (refl, cc)
-
-pub stands-key : (b : List ℕ) (at : ℕ) → standsAt b at ≡ true → TextFits b at × (sitedAt b at .contents .key ≡ textAt b at)
+pub stands-key : (b : List ℕ) (at : ℕ) → standsAt b at ≡ true → TextFits b at × (contentsAt b at .key ≡ textAt b at)
 stands-key b at h =
-    let w = stands-found b at h in
-    let p = section-parts b at (sitedAt b at) (w .0) (w .1) in
-    let t = text-read keyLimit b at (sitedAt b at .contents .key) (p .counts) (p .keyRead) in
-    (t .fits, t .is)
+    let p = stands-parts b at h .1 in
+    (p .fits, text-read keyLimit b at (contentsAt b at .key) (textEnd b at) (p .keyRead) .is)
+
+-- ---- sections in a row, by where they start
+
+pub start-found : (b : List ℕ) (at end : ℕ) → endOf (section b at) ≡ Next.At end → startOf b at ≡ found at end
+start-found b at end h = ap (mapped (λ _. at)) (ended (section b at) end h .1)
+
+-- what is read at a start is the section that stands there
+start-says : (b : List ℕ) (at : ℕ) → section b at ≡ mapped (contentsAt b) (startOf b at)
+start-says b at = by (section b at) refl
+  where
+    by : (r : Parsed Contents) → section b at ≡ r → r ≡ mapped (contentsAt b) (mapped (λ _. at) r)
+    by fault e = refl
+    by (found c end) e = ap (λ (x : Contents). found x end) (sym (ap contentsOf e))
+
+-- reading where sections start, and then what stands there, is reading the sections
+pub starts-say : (b : List ℕ) (n at : ℕ) → times n section b at ≡ mapped (map (contentsAt b)) (times n startOf b at)
+starts-say b = row-mapped startOf section (contentsAt b) b (start-says b)
+
+pub starts-stand : (b : List ℕ) (n at : ℕ) (starts : List ℕ) (end : ℕ) → times n startOf b at ≡ found starts end → all (standsAt b) starts ≡ true
+unfolding times all
+starts-stand b zero at starts end q = ap (all (standsAt b)) (sym (found-same [] starts at end q .0))
+starts-stand b (suc n) at starts end q =
+    let s = row-found startOf b (suc n) at starts end (omega arith) q in
+    let m : suc n - 1 ≡ n = omega arith in
+    let t = then-found (section b at) _ (s .0) (s .1) (s .3) in
+    let here : standsAt b (s .0) ≡ true = ap (standsAt b) (sym (found-same at (s .0) (t .1) (s .1) (t .3) .0)) ∙ ap isFound (t .2) in
+    ap (all (standsAt b)) (s .5) ∙ rw here (starts-stand b n (s .1) (s .2) end (rw m at (s .4)))
 
 -- the keys of sections are the texts with which they start
-pub keys-texts : (b starts : List ℕ) → all (standsAt b) starts ≡ true → keys (map (sitedAt b) starts) ≡ map (textAt b) starts
+pub keys-texts : (b starts : List ℕ) → all (standsAt b) starts ≡ true → keys (map (contentsAt b) starts) ≡ map (textAt b) starts
 unfolding all
 keys-texts b [] h = refl
 keys-texts b (at ∷ rest) h =
     let w = and-both (standsAt b at) (all (standsAt b) rest) h in
     rw (stands-key b at (w .0) .1, keys-texts b rest (w .1))
 
--- the place of a section that stands at a position, with `counts` after its key: rules are all of one size
-pub record SiteIs (b : List ℕ) (at counts : ℕ) (s : Section) : Type 0 where
-  pub fits : TextFits b at
-  pub inside : counts + 3 + ruleSize * pair b counts ≤ length b
-  pub is :
-      s
-      ≡ record {
-        «rules_at» = counts + 3;
-        «rule_count» = pair b counts;
-        «sets_at» = counts + 3 + ruleSize * pair b counts;
-        «set_count» = getD b (counts + 2) 0;
-      }
-
-site-joined : (b : List ℕ) (at counts n m from to : ℕ) (s : Section) → TextFits b at →
-    s ≡ record { «rules_at» = from; «rule_count» = n; «sets_at» = to; «set_count» = m } →
-    from ≡ counts + 3 → n ≡ pair b counts → m ≡ getD b (counts + 2) 0 → to ≡ from + ruleSize * n → to ≤ length b → SiteIs b at counts s
-site-joined b at counts n m from to s f p h i j k l =
-    let q : to ≡ counts + 3 + ruleSize * pair b counts = k ∙ ap₂ (λ (x y : ℕ). x + ruleSize * y) h i in
-    record { fits = f; inside = rw (← q) l; is = p ∙ rw (h, i, j, q) }
-
-pub site-is : (b : List ℕ) (at counts : ℕ) → standsAt b at ≡ true → counts ≡ at + 1 + getD b at 0 → SiteIs b at counts (sitedAt b at .place)
-site-is b at counts h k =
-    let w = stands-found b at h in
-    let c = sitedAt b at in
-    let p = section-parts b at c (w .0) (w .1) in
-    let t = text-read keyLimit b at (c .contents .key) (p .counts) (p .keyRead) in
-    let sets = c .place .«set_count» in
-    let n = c .place .«rule_count» in
-    let from = c .place .«rules_at» in
-    let to = c .place .«sets_at» in
-    let e = row-end (ruleIn sets) b ruleSize (λ at r e q. rule-found sets b at r e q .2) noRule n from (c .contents .rules) to (p .rulesRead) in
-    let i = row-inside (ruleIn sets) b (λ at r e q. rw (rule-found sets b at r e q .2) (rule-found sets b at r e q .0)) n from (c .contents .rules) to (rw (p .rulesAt) (p .inside)) (p .rulesRead) in
-    rw (k, ← t .ends) (site-joined b at (p .counts) n sets from to (c .place) (t .fits) refl (p .rulesAt) (p .ruleCount) (p .setCount) e i)
-
 -- ---- the book
 
 -- the row of sections of a book, and what was checked besides
-pub record BookParts (b : List ℕ) (all : List Sited) : Type 0 where
+pub record BookParts (b : List ℕ) (all : List Contents) : Type 0 where
   pub room : headSize + 1 ≤ length b
   pub few : within 1 sectionLimit (getD b headSize 0) ≡ true
   pub read : times (getD b headSize 0) section b (headSize + 1) ≡ found all (length b)
   pub differ : distinct (keys all) ≡ true
 
-pub book-parts : (b : List ℕ) (all : List Sited) (end : ℕ) → sections b headSize ≡ found all end → BookParts b all
+pub book-parts : (b : List ℕ) (all : List Contents) (end : ℕ) → sections b headSize ≡ found all end → BookParts b all
 unfolding sections
 book-parts b all end h =
     let s = then-found (byte b headSize) _ all end h in
@@ -353,7 +331,7 @@ book-parts b all end h =
     (eqb-true (u .1) (length b) (check-found (eqb (u .1) (length b)) b (u .1) (v .0) (v .1) (v .2) .0))
     (check-found (distinct (keys (u .0))) b (v .1) (w .0) (w .1) (w .2) .0) (found-same (u .0) all (w .1) end (w .3) .0)
   where
-    put : (count from from′ last : ℕ) (all′ : List Sited) → (headSize + 1 ≤ length b) × (count ≡ getD b headSize 0) × (from ≡ headSize + 1) →
+    put : (count from from′ last : ℕ) (all′ : List Contents) → (headSize + 1 ≤ length b) × (count ≡ getD b headSize 0) × (from ≡ headSize + 1) →
         (within 1 sectionLimit count ≡ true) × (from′ ≡ from) → times count section b from′ ≡ found all′ last → last ≡ length b →
         distinct (keys all′) ≡ true → all′ ≡ all → BookParts b all
     put count from from′ last all′ h k q e d l =
@@ -362,7 +340,7 @@ book-parts b all end h =
           room = h .0;
           few = rw (h .1) at (k .0);
           read = rw (← h .1, ← a) (q ∙ ap₂ found l e);
-          differ = subst (λ (xs : List Sited). distinct (keys xs) ≡ true) l d;
+          differ = subst (λ (xs : List Contents). distinct (keys xs) ≡ true) l d;
         }
 
 -- ---- codes, one after the other
@@ -380,7 +358,7 @@ module _ (b : List ℕ) (left from : ℕ) (h : 0 < left) (f : isFound (times lef
   pub code-fits : TextFits b from
   code-fits = first-code .4 .fits
 
-  pub codes-next : (next : ℕ) → next ≡ from + 1 + getD b from 0 →
+  pub codes-next : (next : ℕ) → next ≡ textEnd b from →
       (isFound (times (left - 1) (text codeLimit) b next) ≡ true)
       × (endOf (times left (text codeLimit) b from) ≡ endOf (times (left - 1) (text codeLimit) b next))
       × (itemsOf (times left (text codeLimit) b from) ≡ textAt b from ∷ itemsOf (times (left - 1) (text codeLimit) b next))

@@ -3,20 +3,37 @@ use Prim.Native.Nat.{ℕ, zero, suc, _+_, _-_, _*_, _<_, _≤_}
 use native.Mathlib.Nat.{not-suc-le-zero, le-of-suc-le-suc, mul-zero, mul-suc, add-zero}
 use native.Mathlib.Omega.{arith}
 use mathlib.Core.Path.{_≡_, refl, sym, ap, _∙_}
-use mathlib.Core.List.{List, [], _∷_, _++_, append-assoc, append-nil}
+use mathlib.Core.List.{List, [], _∷_, _++_, map, append-assoc, append-nil}
 use mathlib.Core.Bool.{Bool, true, false, cond, false≢true}
 use borrow.Author.Tests.{leb-true}
 use lib.Dec.{leb}
 use lib.ListN.{length, getD}
 use lib.Seq.{slice}
-use Rattle.grade.specs.Standing.{endOf}
+use Rattle.grade.specs.Standing.{endOf, mapped}
 use Rattle.grade.specs.declared.walk.Next.{Next}
 use Rattle.grade.specs.Reader.{Parsed, fault, found, isFound, itemsOf, Reader, andThen, check, byte, pair, twoBytes, run, times}
 
 -- what is given after a reading does not move its end
-pub end-given : {A B : Type 0} (r : Parsed A) (f : A → B) → endOf (andThen r (λ a after. found (f a) after)) ≡ endOf r
+pub end-given : {A B : Type 0} (r : Parsed A) (f : A → B) → endOf (mapped f r) ≡ endOf r
 end-given fault f = refl
 end-given (found a after) f = refl
+
+-- where two readers differ in their values alone, rows of them do too
+module _ {A B : Type 0} (p : Reader A) (q : Reader B) (f : A → B) (b : List ℕ) (same : (at : ℕ) → q b at ≡ mapped f (p b at)) where
+  pub row-mapped : (n at : ℕ) → times n q b at ≡ mapped (map f) (times n p b at)
+  unfolding times
+  row-mapped zero at = refl
+  row-mapped (suc n) at = rw (same at) (by (λ end. row-mapped n end) (p b at))
+    where
+      more : (a : A) (r : Parsed (List A)) → andThen (mapped (map f) r) (λ rest end. found (f a ∷ rest) end) ≡ mapped (map f) (mapped (λ rest. a ∷ rest) r)
+      more a fault = refl
+      more a (found rest end) = refl
+
+      by : ((end : ℕ) → times n q b end ≡ mapped (map f) (times n p b end)) → (r : Parsed A) →
+          andThen (mapped f r) (λ x end. mapped (λ rest. x ∷ rest) (times n q b end))
+          ≡ mapped (map f) (andThen r (λ x end. mapped (λ rest. x ∷ rest) (times n p b end)))
+      by ih fault = refl
+      by ih (found a end) = rw (ih end) (more a (times n p b end))
 
 module _ {A : Type 0} where
   -- a reading that ends somewhere has found something there

@@ -1,16 +1,15 @@
--- Rows 1 to 9: whether a message can be graded by a book, and by which section of it. Assumes nothing.
+-- To be believed: rows 1 to 9, which say whether a message can be graded by a book. Assumes nothing.
 use Prim.Native.Nat.{ℕ}
-use mathlib.Core.Bool.{Bool, cond, not}
+use mathlib.Core.Bool.{Bool, not}
 use mathlib.Core.List.{List, [], _∷_, _++_}
 use lib.ListN.{length}
 use Rattle.hl7.specs.Bytes.{within}
 use Rattle.hl7.specs.Place.{delimsOf, fieldOf}
-use Rattle.hl7.specs.Refusals.{Told, told, Row, row, firstRow, messageRows, readingTold, readingOf, isSound}
+use Rattle.hl7.specs.Refusals.{Told, told, Row, row, messageRows, readingTold}
 use Rattle.hl7.specs.declared.place.Delims.{Delims}
-use Rattle.grade.specs.Book.{malformed, otherVersion, noSection, opened}
-use Rattle.grade.specs.Header.{mshOf, mshAt, headerOf}
+use Rattle.grade.specs.Book.{malformed, otherVersion, noSection}
+use Rattle.grade.specs.Header.{mshOf, mshAt}
 use Rattle.grade.specs.declared.book.Opened.{Opened}
-use Rattle.grade.specs.declared.header.Header.{Header}
 use Rattle.grade.specs.declared.admit.Admitted.{Admitted}
 use Rattle.grade.specs.declared.admit.Admitted.the-variants.{Unreadable, NoControlId, MalformedBook, OtherVersion, NoSection, By}
 
@@ -26,27 +25,24 @@ hasControlId d msh = within 1 199 (length (controlId d msh))
 abbrev pub keyOf : Delims → List ℕ → List ℕ
 keyOf d msh = mshAt d msh 6 1
 
+-- rows 7 to 9: a book, opened with a key
+unfoldable pub bookRows : List ℕ → List ℕ → List Row
+bookRows b key = row 7 (malformed b) ∷ row 8 (otherVersion b) ∷ row 9 (noSection b key) ∷ []
+
 -- rows 6 to 9
-unfoldable pub bookRows : Delims → List ℕ → List ℕ → List Row
-bookRows d msh b =
-    row 6 (not (hasControlId d msh)) ∷ row 7 (malformed b) ∷ row 8 (otherVersion b) ∷ row 9 (noSection b (keyOf d msh)) ∷ []
+abbrev pub mshRows : Delims → List ℕ → List ℕ → List Row
+mshRows d msh b = row 6 (not (hasControlId d msh)) ∷ bookRows b (keyOf d msh)
 
 -- rows 1 to 9
 unfoldable pub admitRows : List ℕ → List ℕ → List Row
-admitRows m b = messageRows m ++ bookRows (delimsOf m) (mshOf m) b
+admitRows m b = messageRows m ++ mshRows (delimsOf m) (mshOf m) b
 
--- ---- the code's answer, and what it is on readingTold
-abbrev pub bySection : Opened → Header → Admitted
-bySection (Opened.At section) header = By section header
-bySection Opened.Malformed header = MalformedBook
-bySection Opened.OtherVersion header = OtherVersion
-bySection Opened.NoSection header = NoSection
-
-unfoldable pub admittedBy : Delims → List ℕ → List ℕ → Admitted
-admittedBy d msh b = cond (hasControlId d msh) (bySection (opened b (keyOf d msh)) (headerOf d msh)) NoControlId
-
-unfoldable pub admitted : List ℕ → List ℕ → Admitted
-admitted m b = cond (isSound m) (admittedBy (delimsOf m) (mshOf m) b) (Unreadable (readingOf (firstRow (messageRows m))))
+-- ---- the code's answers on paper
+abbrev pub openedTold : Opened → Told
+openedTold (Opened.At section) = told 0 0
+openedTold Opened.Malformed = told 7 0
+openedTold Opened.OtherVersion = told 8 0
+openedTold Opened.NoSection = told 9 0
 
 abbrev pub admittedTold : Admitted → Told
 admittedTold (Unreadable reading) = readingTold reading

@@ -1,4 +1,4 @@
--- What a rule book is, read from its bytes (01, "The rule book"), and what opening it answers (01, rows 7 to 9).
+-- To be believed: what a rule book is, read from its bytes (01, "The rule book"), and when it is refused (01, rows 7 to 9).
 use Prim.Native.Nat.{ℕ}
 use Prim.Native.Char.{code}
 use mathlib.Core.Bool.{Bool, true, cond, not, _&&_, _||_}
@@ -8,12 +8,10 @@ use lib.ListN.{length}
 use Rattle.hl7.specs.Text.{bytes}
 use Rattle.hl7.specs.Bytes.{within, all, same, among, begins}
 use Rattle.grade.specs.Limits.{bookLimit, headSize, bookVersion, sectionLimit, keyLimit, ruleLimit, ruleSize, setLimit, codeCountLimit, codeLimit}
-use Rattle.grade.specs.Reader.{fault, found, isFound, itemsOf, Reader, _>>=_, _>>_, give, here, check, byte, pair, twoBytes, run, times}
+use Rattle.grade.specs.Reader.{fault, found, isFound, itemsOf, Reader, _>>=_, _>>_, give, check, byte, pair, twoBytes, run, times}
 use Rattle.grade.specs.Rule.{ruleOf}
 use Rattle.grade.specs.declared.rule.Rule.{Rule}
 use Rattle.grade.specs.declared.rule.RuleRead.{RuleRead}
-use Rattle.grade.specs.declared.walk.Section.{Section}
-use Rattle.grade.specs.declared.book.Opened.{Opened}
 
 -- ---- keys, codes and sets
 
@@ -57,27 +55,16 @@ pub record Contents : Type 0 where
   pub rules : List Rule
   pub sets : List (List (List ℕ))
 
--- a section, and where in the book its rules and its sets stand
-pub record Sited : Type 0 where
-  pub contents : Contents
-  pub place : Section
-
 -- key, two bytes of rule count 0 to 256, one byte of set count 0 to 64, the rules, the sets
-unfoldable pub section : Reader Sited
+unfoldable pub section : Reader Contents
 section = do
   key ← text keyLimit
   ruleCount ← twoBytes
   setCount ← byte
   check (leb ruleCount ruleLimit && leb setCount setLimit)
-  rulesAt ← here
   rules ← times ruleCount (ruleIn setCount)
-  setsAt ← here
   sets ← times setCount codeSet
-  give
-      (record {
-        contents = record { key = key; rules = rules; sets = sets };
-        place = record { «rules_at» = rulesAt; «rule_count» = ruleCount; «sets_at» = setsAt; «set_count» = setCount };
-      })
+  give (record { key = key; rules = rules; sets = sets })
 
 -- ---- the book
 
@@ -86,15 +73,15 @@ unfoldable pub distinct : List (List ℕ) → Bool
 distinct [] = true
 distinct (x ∷ xs) = not (among x xs) && distinct xs
 
-abbrev pub keys : List Sited → List (List ℕ)
-keys = map (λ (s : Sited). s .contents .key)
+abbrev pub keys : List Contents → List (List ℕ)
+keys = map (λ (c : Contents). c .key)
 
 -- nothing comes after
 abbrev pub nothingAfter : Reader (Unit {0})
 nothingAfter b at = check (eqb at (length b)) b at
 
 -- what follows the head: one byte of section count, the sections, and nothing after them; keys differ pairwise
-unfoldable pub sections : Reader (List Sited)
+unfoldable pub sections : Reader (List Contents)
 sections = do
   count ← byte
   check (within 1 sectionLimit count)
@@ -112,19 +99,15 @@ abbrev pub version : List ℕ → ℕ
 version b = pair b 3
 
 -- the sections of a book, none where it is at fault
-abbrev pub sitedIn : List ℕ → List Sited
-sitedIn b = itemsOf (sections b headSize)
-
--- what they say
 unfoldable pub decoded : List ℕ → List Contents
-decoded b = map (λ (s : Sited). s .contents) (sitedIn b)
+decoded b = itemsOf (sections b headSize)
 
 -- those with a key
 unfoldable pub under : List ℕ → List Contents → List Contents
 under key [] = []
 under key (c ∷ rest) = cond (same key (c .key)) (c ∷ under key rest) (under key rest)
 
--- ---- opening a book with a key
+-- ---- when a book is refused, given a key
 
 -- refusal 7: over 65,536 bytes, under 5 bytes or a wrong mark; or, in version 1, any other fault
 unfoldable pub malformed : List ℕ → Bool
@@ -136,24 +119,4 @@ otherVersion b = not (eqb (version b) bookVersion)
 
 -- refusal 9: no section has the key
 unfoldable pub noSection : List ℕ → List ℕ → Bool
-noSection b key = not (among key (keys (sitedIn b)))
-
--- where the section with the key stands
-unfoldable pub siteOf : List ℕ → List Sited → Section
-siteOf key [] = record { «rules_at» = 0; «rule_count» = 0; «sets_at» = 0; «set_count» = 0 }
-siteOf key (s ∷ rest) = cond (same key (s .contents .key)) (s .place) (siteOf key rest)
-
--- the first refusal that applies, or else the section with the key
-unfoldable pub opened : List ℕ → List ℕ → Opened
-opened b key =
-    cond (malformed b) Opened.Malformed
-    (cond (otherVersion b) Opened.OtherVersion
-    (cond (noSection b key) Opened.NoSection
-    (Opened.At (siteOf key (sitedIn b)))))
-
--- the paper's number of the refusal, 0 for none
-abbrev pub refusalOf : Opened → ℕ
-refusalOf (Opened.At section) = 0
-refusalOf Opened.Malformed = 7
-refusalOf Opened.OtherVersion = 8
-refusalOf Opened.NoSection = 9
+noSection b key = not (among key (keys (decoded b)))

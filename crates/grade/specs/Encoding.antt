@@ -1,8 +1,8 @@
--- The bytes of a book that says given things: the other way to say what a rule book is.
+-- To be believed, or left aside: the bytes of a book that says given things, the other way to say what a rule book is.
 -- `proofs/Encoded.antt` and `proofs/Decoded.antt` show that it is the inverse of the readers, in both directions.
 use Prim.Native.Nat.{ℕ, _/_, _%_}
 use mathlib.Core.Bool.{Bool, true, _&&_}
-use mathlib.Core.List.{List, [], _∷_, _++_, map}
+use mathlib.Core.List.{List, [], _∷_, _++_}
 use lib.Dec.{leb}
 use lib.ListN.{length}
 use Rattle.hl7.specs.Text.{bytes}
@@ -11,7 +11,7 @@ use Rattle.grade.specs.declared.rule.Kind.{Kind}
 use Rattle.grade.specs.declared.rule.Rule.{Rule}
 use Rattle.grade.specs.Limits.{bookLimit, bookVersion, sectionLimit, keyLimit, ruleLimit, setLimit, codeCountLimit, codeLimit}
 use Rattle.grade.specs.Rule.{nameBytes, severityLetter, ruleFits}
-use Rattle.grade.specs.Book.{plain, Contents, distinct}
+use Rattle.grade.specs.Book.{plain, Contents, distinct, keys}
 
 -- ---- bytes
 
@@ -84,5 +84,5 @@ unfoldable pub wellFormed : List Contents → Bool
 wellFormed contents =
     within 1 sectionLimit (length contents)
     && each sectionFits contents
-    && distinct (map (λ (c : Contents). c .key) contents)
+    && distinct (keys contents)
     && leb (length (bookBytes contents)) bookLimit

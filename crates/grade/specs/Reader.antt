@@ -1,4 +1,4 @@
--- Readers: what stands at a position of a list of bytes, and the position after it. With `do` a format is said line by line.
+-- To be believed: readers tell what stands at a position of a list of bytes, and the position after it. With `do` a format is said line by line.
 use Prim.Native.Nat.{ℕ, zero, suc, _+_, _*_}
 use mathlib.Core.Bool.{Bool, true, false, cond}
 use mathlib.Core.List.{List, [], _∷_}
@@ -37,10 +37,6 @@ _>>_ p q b at = andThen (p b at) (λ _ after. q b after)
 -- the value, with nothing read
 abbrev pub give : {A : Type 0} → A → Reader A
 give a b at = found a at
-
--- the position, with nothing read
-abbrev pub here : Reader ℕ
-here b at = found at at
 
 -- a fault where the test fails
 abbrev pub check : Bool → Reader (Unit {0})

@@ -1,23 +1,39 @@
--- What the code's positions stand for: names that only contracts inside the crate, and those of `lookup`, are stated with.
-use Prim.Native.Nat.{ℕ, _+_, _<_, _≤_}
+-- Inner: only contracts inside the crates use these names; nothing here has to be believed. What the code's positions stand for.
+use Prim.Native.Nat.{ℕ, _+_, _*_, _<_, _≤_}
 use mathlib.Core.Path.{_≡_}
 use mathlib.Core.Bool.{Bool, true, false, cond}
-use mathlib.Core.List.{List, [], _∷_, map}
-use lib.ListN.{length, getD, take}
+use mathlib.Core.List.{List, [], _∷_}
+use lib.ListN.{length, getD}
 use lib.Seq.{slice}
-use Rattle.hl7.specs.Bytes.{all, same}
-use Rattle.grade.specs.Limits.{ruleLimit, setLimit}
-use Rattle.grade.specs.Reader.{Parsed, fault, found, isFound, itemsOf, times}
-use Rattle.grade.specs.Book.{plain, ruleIn, codeSet, Sited, section}
+use Rattle.hl7.specs.Bytes.{same}
+use Rattle.hl7.specs.Place.{delimsOf}
+use Rattle.hl7.specs.Refusals.{Row, firstRow}
+use Rattle.hl7.specs.declared.place.Delims.{Delims}
+use Rattle.grade.specs.Limits.{headSize, ruleLimit, ruleSize, setLimit}
+use Rattle.grade.specs.Reader.{Parsed, fault, found, isFound, itemsOf, Reader, andThen, pair, times}
+use Rattle.grade.specs.Book.{plain, ruleIn, codeSet, Contents, section}
+use Rattle.grade.specs.Header.{mshOf, headerOf}
+use Rattle.grade.specs.Admission.{keyOf, admitRows, openedTold, admittedTold}
 use Rattle.grade.specs.declared.rule.Rule.{Rule}
 use Rattle.grade.specs.declared.walk.Next.{Next}
 use Rattle.grade.specs.declared.walk.Section.{Section}
 use Rattle.grade.specs.declared.book.Opened.{Opened}
+use Rattle.grade.specs.declared.admit.Admitted.{Admitted}
+use Rattle.grade.specs.declared.admit.Admitted.the-variants.{By}
 
 -- where a reading ends
 abbrev pub endOf : {A : Type 0} → Parsed A → Next
 endOf fault = Next.Fault
 endOf (found a after) = Next.At after
+
+-- what was read up to there
+abbrev pub upTo : {A : Type 0} → A → Next → Parsed A
+upTo a Next.Fault = fault
+upTo a (Next.At end) = found a end
+
+-- the same reading, with another value
+abbrev pub mapped : {A B : Type 0} → (A → B) → Parsed A → Parsed B
+mapped f r = andThen r (λ a after. found (f a) after)
 
 -- ---- texts
 
@@ -25,14 +41,18 @@ endOf (found a after) = Next.At after
 abbrev pub TellsPlain : List Bool → Type 0
 TellsPlain table = (x : ℕ) → x < 256 → getD table x false ≡ plain x
 
--- the text whose length byte stands at a position
+-- where a text ends whose length byte stands at a position
+abbrev pub textEnd : List ℕ → ℕ → ℕ
+textEnd b at = at + 1 + getD b at 0
+
+-- that text
 abbrev pub textAt : List ℕ → ℕ → List ℕ
-textAt b at = slice (at + 1) (at + 1 + getD b at 0) b
+textAt b at = slice (at + 1) (textEnd b at) b
 
 -- it ends within the book
 pub record TextFits (b : List ℕ) (at : ℕ) : Type 0 where
   pub starts : at < length b
-  pub ends : at + 1 + getD b at 0 ≤ length b
+  pub ends : textEnd b at ≤ length b
 
 -- ---- sections
 
@@ -40,33 +60,55 @@ pub record TextFits (b : List ℕ) (at : ℕ) : Type 0 where
 abbrev pub standsAt : List ℕ → ℕ → Bool
 standsAt b at = isFound (section b at)
 
-abbrev pub sitedOf : Parsed Sited → Sited
-sitedOf fault =
+abbrev pub contentsOf : Parsed Contents → Contents
+contentsOf fault = record { key = []; rules = []; sets = [] }
+contentsOf (found contents after) = contents
+
+-- what the section says that stands there
+abbrev pub contentsAt : List ℕ → ℕ → Contents
+contentsAt b at = contentsOf (section b at)
+
+-- where its rules and its sets stand: rules are all of one size
+abbrev pub siteAt : List ℕ → ℕ → Section
+siteAt b at =
     record {
-      contents = record { key = []; rules = []; sets = [] };
-      place = record { «rules_at» = 0; «rule_count» = 0; «sets_at» = 0; «set_count» = 0 };
+      «rules_at» = textEnd b at + 3;
+      «rule_count» = pair b (textEnd b at);
+      «sets_at» = textEnd b at + 3 + ruleSize * pair b (textEnd b at);
+      «set_count» = getD b (textEnd b at + 2) 0;
     }
-sitedOf (found sited after) = sited
 
--- the section that stands there
-abbrev pub sitedAt : List ℕ → ℕ → Sited
-sitedAt b at = sitedOf (section b at)
+-- a section is read, and where it starts is kept of it
+abbrev pub startOf : Reader ℕ
+startOf b at = mapped (λ _. at) (section b at)
 
--- count sections were read from a position, and these are the positions where they start
-pub record Walked (b : List ℕ) (at count : ℕ) (starts : List ℕ) (r : Next) : Type 0 where
-  pub ends : r ≡ endOf (times count section b at)
-  pub stands : (end : ℕ) → r ≡ Next.At end → all (standsAt b) (take count starts) ≡ true
-  pub reads : (end : ℕ) → r ≡ Next.At end → times count section b at ≡ found (map (sitedAt b) (take count starts)) end
+-- where the sections of a book start
+abbrev pub startsIn : List ℕ → List ℕ
+startsIn b = itemsOf (times (getD b headSize 0) startOf b (headSize + 1))
 
--- ---- opening, in the order in which the code goes
+-- where the section with the key stands, of those that start at the positions
+unfoldable pub siteOf : List ℕ → List ℕ → List ℕ → Section
+siteOf b key [] = record { «rules_at» = 0; «rule_count» = 0; «sets_at» = 0; «set_count» = 0 }
+siteOf b key (at ∷ rest) = cond (same key (textAt b at)) (siteAt b at) (siteOf b key rest)
 
-unfoldable pub withKey : List ℕ → List Sited → Opened
-withKey key [] = Opened.NoSection
-withKey key (s ∷ rest) = cond (same key (s .contents .key)) (Opened.At (s .place)) (withKey key rest)
+-- where the section of a book with the key stands
+abbrev pub siteIn : List ℕ → List ℕ → Section
+siteIn b key = siteOf b key (startsIn b)
 
-abbrev pub chosen : List ℕ → Parsed (List Sited) → Opened
-chosen key fault = Opened.Malformed
-chosen key (found all after) = withKey key all
+-- ---- what opening and admitting answer
+
+-- the first of the rows that holds, or else where the section stands
+pub record OpensBook (rows : List Row) (site : Section) (r : Opened) : Type 0 where
+  pub toldIs : openedTold r ≡ firstRow rows
+  pub at : firstRow rows .number ≡ 0 → r ≡ Opened.At site
+
+-- the first of the rows that holds, or else where the section stands that MSH names, and what its header says
+pub record AdmitsBy (rows : List Row) (d : Delims) (msh b : List ℕ) (r : Admitted) : Type 0 where
+  pub toldIs : admittedTold r ≡ firstRow rows
+  pub by : firstRow rows .number ≡ 0 → r ≡ By (siteIn b (keyOf d msh)) (headerOf d msh)
+
+abbrev pub Admits : (m b : List ℕ) → Admitted → Type 0
+Admits m b r = AdmitsBy (admitRows m b) (delimsOf m) (mshOf m) b r
 
 -- ---- what a section holds
 

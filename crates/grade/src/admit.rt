@@ -17,7 +17,11 @@ use hl7::refusal::is_sound_reading;
 ghost use mathlib.Core.Path.{_≡_};
 ghost use mathlib.Core.Bool.{true};
 ghost use Rattle.hl7.specs.Place.{isMsh, MshNoted};
-ghost use Rattle.grade.specs.Admission.{hasControlId, bySection, admittedBy, admitted};
+ghost use Rattle.grade.specs.Admission.{hasControlId, mshRows, openedTold, admittedTold};
+ghost use Rattle.grade.specs.Standing.{AdmitsBy, Admits};
+ghost use Rattle.grade.specs.declared.walk.Section.{Section};
+ghost use Rattle.grade.specs.declared.book.Opened.{Opened};
+ghost use Rattle.grade.specs.declared.admit.Admitted.the-variants.{By};
 
 pub enum Admitted {
     Unreadable(Reading),
@@ -38,7 +42,7 @@ fn has_control_id(d: Delims, msh: &[u8], starts: &[usize], count: usize) -> bool
 }
 
 fn by_section(opened: Opened, header: Header) -> Admitted
-    ensures { λ r. ⌜ r ≡ bySection opened header ⌝ }
+    ensures { λ r. ⌜ (admittedTold r ≡ openedTold opened) × ((s : Section) → opened ≡ Opened.At s → r ≡ By s header) ⌝ }
 {
     match opened {
         Opened::At(section) => Admitted::By(section, header),
@@ -51,7 +55,7 @@ fn by_section(opened: Opened, header: Header) -> Admitted
 // Rows 6 to 9, of a message whose first segment is given: it is cut once.
 fn admit_msh(d: Delims, msh: &[u8], book: &[u8]) -> Admitted
     requires { ⌜ isMsh (now msh) ≡ true ⌝ }
-    ensures { λ r. ⌜ r ≡ admittedBy d (now (msh .entry)) (now (book .entry)) ⌝ }
+    ensures { λ r. ⌜ AdmitsBy (mshRows d (now (msh .entry)) (now (book .entry))) d (now (msh .entry)) (now (book .entry)) r ⌝ }
 {
     let mut starts = [0usize; MSH_PLACES];
     let count = note_fields(d, msh, &mut starts);
@@ -68,7 +72,7 @@ fn admit_msh(d: Delims, msh: &[u8], book: &[u8]) -> Admitted
 
 // Whether a message can be graded by a book, and by which section.
 pub fn admit(m: &[u8], book: &[u8]) -> Admitted
-    ensures { λ r. ⌜ r ≡ admitted (now (m .entry)) (now (book .entry)) ⌝ }
+    ensures { λ r. ⌜ Admits (now (m .entry)) (now (book .entry)) r ⌝ }
 {
     let reading = check(m);
     if is_sound_reading(reading) {

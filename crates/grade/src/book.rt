@@ -1,13 +1,16 @@
 // The whole book: its head, its sections, and the section with a key.
 ghost use mathlib.Core.Path.{_≡_};
-ghost use Prim.Native.Nat.{ℕ, _+_, _≤_, _<_};
-ghost use mathlib.Core.Bool.{true};
-ghost use mathlib.Core.List.{map};
-ghost use lib.ListN.{length, getD, drop};
+ghost use Prim.Native.Nat.{ℕ, _≤_, _<_};
+ghost use mathlib.Core.Bool.{true, not};
+ghost use mathlib.Core.List.{[], _∷_, map};
+ghost use lib.ListN.{length, getD, drop, take};
 ghost use Rattle.hl7.specs.Bytes.{all, among};
+ghost use Rattle.hl7.specs.Refusals.{row};
 ghost use Rattle.grade.specs.Limits.{headSize};
-ghost use Rattle.grade.specs.Book.{distinct, headRight, sections, opened};
-ghost use Rattle.grade.specs.Standing.{textAt, TextFits, TellsPlain, standsAt, sitedAt, Walked, withKey, chosen};
+ghost use Rattle.grade.specs.Reader.{isFound, times};
+ghost use Rattle.grade.specs.Book.{distinct, headRight, sections, noSection};
+ghost use Rattle.grade.specs.Admission.{bookRows};
+ghost use Rattle.grade.specs.Standing.{upTo, textAt, TextFits, TellsPlain, standsAt, siteAt, startOf, siteOf, siteIn, OpensBook};
 use crate::limits::BOOK_LIMIT;
 use crate::limits::BOOK_VERSION;
 use crate::limits::HEAD_SIZE;
@@ -39,7 +42,7 @@ fn walk_sections(
     starts: &mut [usize],
 ) -> Next
     requires { ⌜ TellsPlain (now table) × (count ≤ length (now starts)) ⌝ }
-    ensures { λ r. ⌜ Walked (now (book .entry)) at count (now (starts .exit)) r ⌝ }
+    ensures { λ r. ⌜ times count startOf (now (book .entry)) at ≡ upTo (take count (now (starts .exit))) r ⌝ }
 {
     let mut from = at;
     let mut i = 0;
@@ -88,7 +91,7 @@ fn keys_distinct(book: &[u8], starts: &[usize]) -> bool
 // Where the rules and the sets of the section at a position stand. Rules are all of one size, so nothing is read again.
 fn site_at(book: &[u8], at: usize) -> Section
     requires { ⌜ standsAt (now book) at ≡ true ⌝ }
-    ensures { λ r. ⌜ r ≡ sitedAt (now (book .entry)) at .place ⌝ }
+    ensures { λ r. ⌜ r ≡ siteAt (now (book .entry)) at ⌝ }
 {
     let counts = text_after(book, at);
     let rule_count = pair_at(book, counts);
@@ -104,7 +107,7 @@ fn site_at(book: &[u8], at: usize) -> Section
 // The section with a key, of those that start at the positions.
 fn find_section(book: &[u8], starts: &[usize], key: &[u8]) -> Opened
     requires { ⌜ all (standsAt (now book)) (now starts) ≡ true ⌝ }
-    ensures { λ r. ⌜ r ≡ withKey (now (key .entry)) (map (sitedAt (now (book .entry))) (now (starts .entry))) ⌝ }
+    ensures { λ r. ⌜ OpensBook (row 9 (not (among (now (key .entry)) (map (textAt (now (book .entry))) (now (starts .entry))))) ∷ []) (siteOf (now (book .entry)) (now (key .entry)) (now (starts .entry))) r ⌝ }
 {
     let mut i = 0;
     while i < starts.len() {
@@ -125,7 +128,7 @@ fn head_right(book: &[u8]) -> bool
 }
 
 fn open_sections(book: &[u8], key: &[u8]) -> Opened
-    ensures { λ r. ⌜ r ≡ chosen (now (key .entry)) (sections (now (book .entry)) headSize) ⌝ }
+    ensures { λ r. ⌜ OpensBook (row 7 (not (isFound (sections (now (book .entry)) headSize))) ∷ row 9 (noSection (now (book .entry)) (now (key .entry))) ∷ []) (siteIn (now (book .entry)) (now (key .entry))) r ⌝ }
 {
     if book.len() <= HEAD_SIZE {
         return Opened::Malformed;
@@ -153,7 +156,7 @@ fn open_sections(book: &[u8], key: &[u8]) -> Opened
 
 // The book's refusals in their order, or the section with the key. The whole book is checked before any of it is used.
 pub fn open_book(book: &[u8], key: &[u8]) -> Opened
-    ensures { λ r. ⌜ r ≡ opened (now (book .entry)) (now (key .entry)) ⌝ }
+    ensures { λ r. ⌜ OpensBook (bookRows (now (book .entry)) (now (key .entry))) (siteIn (now (book .entry)) (now (key .entry))) r ⌝ }
 {
     if !head_right(book) {
         return Opened::Malformed;

@@ -1,10 +1,10 @@
 // Walks over the bytes of a book: each answers where what stands at a position ends.
 ghost use mathlib.Core.Path.{_≡_};
 ghost use Prim.Native.Nat.{_+_, _*_, _≤_};
-ghost use lib.ListN.{length, getD};
+ghost use lib.ListN.{length};
 ghost use Rattle.hl7.specs.Bytes.{all};
 ghost use Rattle.grade.specs.Reader.{pair, times};
-ghost use Rattle.grade.specs.Standing.{endOf, textAt, TextFits, TellsPlain};
+ghost use Rattle.grade.specs.Standing.{endOf, textEnd, textAt, TextFits, TellsPlain};
 ghost use Rattle.grade.specs.Book.{plain, text, codeSet, ruleIn, section};
 ghost use Rattle.grade.specs.Limits.{codeLimit};
 use crate::limits::CODE_COUNT_LIMIT;
@@ -71,7 +71,7 @@ pub fn text_part(book: &[u8], at: usize) -> &[u8]
 // Where that text ends.
 pub fn text_after(book: &[u8], at: usize) -> usize
     requires { ⌜ TextFits (now book) at ⌝ }
-    ensures { λ r. ⌜ r ≡ at + 1 + getD (now (book .entry)) at 0 ⌝ }
+    ensures { λ r. ⌜ r ≡ textEnd (now (book .entry)) at ⌝ }
 {
     at + 1 + (book[at] as usize)
 }

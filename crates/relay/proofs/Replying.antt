@@ -1,16 +1,20 @@
 -- Laws of `specs/Reply.antt`: what is printed for a bad line, and for any other; and that neither leaves a choice. Assumes nothing.
-use mathlib.Core.Path.{_≡_, refl, sym, ap, ap₂, subst, _∙_}
+use mathlib.Core.Path.{_≡_, refl, sym, ap, _∙_}
 use mathlib.Core.List.{List}
-use Prim.Native.Nat.{ℕ}
+use Prim.Native.Nat.{ℕ, _≤_}
 use native.Mathlib.Omega.{arith}
-use lib.ListN.{take}
-use Rattle.hl7.specs.Text.{bytes}
+use lib.ListN.{length, take, drop}
+use lib.Seq.{take-at}
 use Rattle.ack.specs.declared.refusal.Answer.{Answer}
-use Rattle.ack.specs.Answers.{paper, Answers}
-use Rattle.show.specs.Shown.{shown}
+use Rattle.ack.specs.Answers.{Outcome, answerOf, paper, Gives}
+use Rattle.ack.specs.Splice.{Wrote}
+use Rattle.ack.proofs.Writing.{splice-at-start}
+use Rattle.ack.proofs.Promises.{output-length}
+use Rattle.show.specs.Shown.{refusalRoom, printedIn, printedLength, Printed}
+use Rattle.show.proofs.Showing.{printed-shown}
 use Rattle.relay.specs.Line.{lineOf, Said, said, badLine, goodLine}
 use Rattle.relay.specs.Fed.{headLength, Fed, shortened, heard, Says}
-use Rattle.relay.specs.Reply.{Replies}
+use Rattle.relay.specs.Reply.{badText, printedFor, Replies}
 use Rattle.relay.specs.declared.line.Line.{Line}
 use Rattle.relay.specs.declared.line.State.{State}
 use Rattle.relay.proofs.Stamping.{answers-stamp}
@@ -19,38 +23,30 @@ use Rattle.relay.proofs.Stamping.{answers-stamp}
 pub line-once : {input : List ℕ} {s s′ : State} (r r′ : Line) → Fed input s → Fed input s′ → Says s r → Says s′ r′ → heard (s .head) r ≡ heard (s′ .head) r′
 line-once r r′ f f′ says says′ = says _ f ∙ sym (says′ _ f′)
 
-never : {stamp : List ℕ} {control : ℕ} → badLine ≡ goodLine stamp control → ⊥
-never e = let z : _≡_ {A = ℕ} 0 1 = cc in omega arith
+module _ (message book out : List ℕ) {after : List ℕ} {r : ℕ} where
+  pub replies-bad : (line : Said) → badLine ≡ shortened line → Wrote out 0 badText after r → Replies line message book out after r
+  replies-bad badLine e w = record { holds = w .holds; ends = omega (arith, w .ends) }
+  replies-bad (goodLine stamp control) e w = let z : _≡_ {A = ℕ} 0 1 = cc in absurd (omega arith)
 
-module _ (input message book out : List ℕ) {printed : List ℕ} where
-  pub replies-bad : badLine ≡ shortened (said (lineOf input)) → printed ≡ bytes "bad line\n" → Replies input message book out printed
-  replies-bad e p = record { bad = λ b. p; good = λ stamp control g. absurd (never (e ∙ ap shortened g)) }
+  -- the stamp that was handed over is the head's part of the line's
+  pub replies-good : (line : Said) (answer : Answer) (given : List ℕ) {handed stamp : List ℕ} {control : ℕ} → goodLine stamp control ≡ shortened line → handed ≡ stamp
+      → Gives answer given (answerOf message book handed control out) → Printed (paper answer) given after r → Replies line message book out after r
+  replies-good badLine answer given e h a p = let z : _≡_ {A = ℕ} 0 1 = cc in absurd (omega arith)
+  replies-good (goodLine stamp′ control′) answer given {handed} {stamp} {control} e h a p =
+      let same-stamp : handed ≡ take headLength stamp′ = cc in
+      let same-control : control ≡ control′ = cc in
+      let whole : Gives answer given (answerOf message book stamp′ control′ out) = (rw (same-stamp, same-control) at a) ∙ answers-stamp message book stamp′ control′ out in
+      record {
+        holds = p .holds ∙ ap (λ (o : Outcome). printedIn (o .told) (o .output)) whole;
+        ends = p .ends ∙ ap (λ (o : Outcome). printedLength (o .told) (o .output)) whole;
+      }
 
-  pub replies-good : (answer : Answer) (after : List ℕ) {handed stamp : List ℕ} {control : ℕ} → goodLine stamp control ≡ shortened (said (lineOf input)) → handed ≡ stamp → Answers message book handed control out answer after → printed ≡ shown (paper answer) after → Replies input message book out printed
-  replies-good answer after {handed} {stamp} {control} e h a p =
-      record { bad = λ b. absurd (never (sym (e ∙ ap shortened b))); good = λ stamp′ control′ g. told stamp′ control′ (e ∙ ap shortened g) }
-    where
-      told : (stamp′ : List ℕ) (control′ : ℕ) → goodLine stamp control ≡ goodLine (take headLength stamp′) control′ → (answer : Answer) × (after : List ℕ) × Answers message book stamp′ control′ out answer after × (printed ≡ shown (paper answer) after)
-      told stamp′ control′ g =
-          let same-stamp : handed ≡ take headLength stamp′ = cc in
-          let same-control : control ≡ control′ = cc in
-          let answers = subst (λ (c : ℕ). Answers message book handed c out answer after) same-control a in
-          (answer, after, answers-stamp message book stamp′ control′ out answer after same-stamp answers, p)
+-- ---- the reply is determined: the whole output, and where the text ends
+pub reply-once : {line : Said} {message book out after after′ : List ℕ} {r r′ : ℕ} → Replies line message book out after r → Replies line message book out after′ r′ → (after ≡ after′) × (r ≡ r′)
+reply-once p q = (p .holds ∙ sym (q .holds), p .ends ∙ sym (q .ends))
 
--- ---- what is printed is determined, where the answer is
-pub replies-once : (input message book out : List ℕ) {printed printed′ : List ℕ}
-    → ((stamp : List ℕ) (control : ℕ) (a a′ : Answer) (after after′ : List ℕ) → Answers message book stamp control out a after → Answers message book stamp control out a′ after′ → (paper a ≡ paper a′) × (after ≡ after′))
-    → Replies input message book out printed → Replies input message book out printed′ → printed ≡ printed′
-replies-once input message book out {printed} {printed′} once r r′ = by-line (said (lineOf input)) refl
-  where
-    by-line : (s : Said) → said (lineOf input) ≡ s → printed ≡ printed′
-    by-line badLine e = r .bad e ∙ sym (r′ .bad e)
-    by-line (goodLine stamp control) e =
-        let p = r .good stamp control e in
-        let q = r′ .good stamp control e in
-        let same = once stamp control (p .0) (q .0) (p .1) (q .1) (p .2) (q .2) in
-        p .3 ∙ ap₂ shown (same .0) (same .1) ∙ sym (q .3)
-
-pub printed-once : (input message book out : List ℕ) {printed printed′ : List ℕ} → Replies input message book out printed → Replies input message book out printed′ → printed ≡ printed′
-printed-once input message book out r r′ =
-    replies-once input message book out (λ stamp control a a′ after after′ p q. (p .toldIs ∙ sym (q .toldIs), p .outputIs ∙ sym (q .outputIs))) r r′
+-- with room for a refusal, the text is what is to be printed
+pub reply-printed : (line : Said) {message book out after : List ℕ} {r : ℕ} → Replies line message book out after r → refusalRoom ≤ length out → take r after ≡ printedFor line message book out
+reply-printed badLine {message} {book} {out} w room = rw (w .holds, w .ends) (ap (take (length badText)) (splice-at-start out badText (omega arith)) ∙ take-at badText (drop (length badText) out) (length badText) refl)
+reply-printed (goodLine stamp control) {message} {book} {out} w room =
+    printed-shown (record { holds = w .holds; ends = w .ends }) (omega (arith, output-length message book stamp control out))

@@ -7,15 +7,14 @@ use ack::output::put;
 use hl7::bytes::front;
 use show::text::put_answer;
 ghost use mathlib.Core.List.{List};
-ghost use Prim.Native.Nat.{ℕ, _≤_};
-ghost use lib.ListN.{length, take};
-ghost use Rattle.show.specs.Shown.{refusalRoom};
+ghost use Prim.Native.Nat.{ℕ};
+ghost use Rattle.relay.specs.Line.{lineOf, said};
 ghost use Rattle.relay.specs.Fed.{Fed};
 ghost use Rattle.relay.specs.Reply.{Replies};
 
 // The text that is printed, put into the output that was lent for the ACK. A bad line is told before anything else.
 pub fn reply(state: State, message: &[u8], book: &[u8], out: &mut [u8]) -> usize
-    ensures { λ r. ⌜ ((input : List ℕ) → Fed input state → refusalRoom ≤ length (now (out .entry)) → Replies input (now (message .entry)) (now (book .entry)) (now (out .entry)) (take r (now (out .exit)))) ⌝ }
+    ensures { λ r. ⌜ ((input : List ℕ) → Fed input state → Replies (said (lineOf input)) (now (message .entry)) (now (book .entry)) (now (out .entry)) (now (out .exit)) r) ⌝ }
 {
     match line_says(state) {
         Line::Bad => put(out, 0, b"bad line\n"),

@@ -1,11 +1,12 @@
-// Runs the packed cases of a file, one after the other, and prints each answer.
+// Runs the packed cases of a file, one after the other, and prints the place that each asks for and its answer.
 //
-// A case is message length, message, book length, book, stamp length, stamp, control number, output length. A number has
-// four bytes, the high byte first.
+// A case is message length, message, book length, book, stamp length, stamp, control number, output length, and a place:
+// segment, field, repetition, component. A number has four bytes, the high byte first.
 use ack::answer::answer;
 use hl7::bytes::front;
 use hl7::bytes::pick;
 use hl7::bytes::wide;
+use hl7::locate::locate;
 use libc::STDOUT_FILENO;
 use show::text::put_answer;
 ghost use mathlib.Core.Path.{_≡_};
@@ -44,6 +45,36 @@ fn read_bytes(fd: i32, number: Number, into: &mut [u8]) -> bool {
     (number.count == 4) & (count == length)
 }
 
+// A place that is asked for.
+struct Asked {
+    segment: Number,
+    field: Number,
+    repetition: Number,
+    component: Number,
+}
+
+fn read_place(fd: i32) -> Asked {
+    Asked {
+        segment: read_number(fd),
+        field: read_number(fd),
+        repetition: read_number(fd),
+        component: read_number(fd),
+    }
+}
+
+// Prints the place, a part of the message, and a line feed.
+fn print_place(message: &[u8], asked: Asked) {
+    let part = locate(
+        message,
+        asked.segment.value as usize,
+        asked.field.value as usize,
+        asked.repetition.value as usize,
+        asked.component.value as usize,
+    );
+    io::write_all(STDOUT_FILENO, part);
+    io::write_all(STDOUT_FILENO, b"\n");
+}
+
 // Answers a case with the first so many bytes of out lent, and prints the answer. Answers whether there are so many.
 fn print_case(
     message: &[u8],
@@ -62,10 +93,8 @@ fn print_case(
     true
 }
 
-// The case of a message of so many bytes, which come next. Answers whether the case is whole.
-fn run_case(fd: i32, message_length: Number) -> bool {
-    let mut message = [0u8; 32769];
-    let has_message = read_bytes(fd, message_length, &mut message);
+// The rest of a message's case. Answers whether the case is whole.
+fn run_message(fd: i32, message: &[u8]) -> bool {
     let mut book = [0u8; 65537];
     let book_length = read_number(fd);
     let has_book = read_bytes(fd, book_length, &mut book);
@@ -74,15 +103,27 @@ fn run_case(fd: i32, message_length: Number) -> bool {
     let has_stamp = read_bytes(fd, stamp_length, &mut stamp);
     let control = read_number(fd);
     let out_length = read_number(fd);
-    if has_message & has_book & has_stamp & (control.count == 4) & (out_length.count == 4) {
+    let asked = read_place(fd);
+    // the last number is there only where the ones before it are
+    if has_book & has_stamp & (asked.component.count == 4) {
+        print_place(message, asked);
         return print_case(
-            front(&message, message_length.value as usize),
+            message,
             front(&book, book_length.value as usize),
             front(&stamp, stamp_length.value as usize),
             control.value,
             &mut [0u8; 131072],
             out_length.value as usize,
         );
+    }
+    false
+}
+
+// The case of a message of so many bytes, which come next. Answers whether the case is whole.
+fn run_case(fd: i32, message_length: Number) -> bool {
+    let mut message = [0u8; 32769];
+    if read_bytes(fd, message_length, &mut message) {
+        return run_message(fd, front(&message, message_length.value as usize));
     }
     false
 }

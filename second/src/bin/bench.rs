@@ -105,8 +105,8 @@ fn reading() {
         let mut runs: [Box<dyn FnMut() -> usize>; 4] = [
             Box::new(|| ours::check(black_box(m)).0.into()),
             Box::new(|| second::check(black_box(m)).0.into()),
-            Box::new(|| ours::locate(black_box(m), last, 5, 1, 0).0),
-            Box::new(|| second::locate(black_box(m), last, 5, 1, 0).0),
+            Box::new(|| ours::locate(black_box(m), [last, 5, 1, 0]).0),
+            Box::new(|| second::locate(black_box(m), [last, 5, 1, 0]).0),
         ];
         let times = runs.each_mut().map(|run| {
             let count = repeats(run);

@@ -131,7 +131,7 @@ fn malformed(random: &mut Random, book: &mut Vec<u8>) {
         8 => drop(book.pop()),
         9 => book.push(random.letter(b"\0\x01A")),
         10 => append_key_twice(book),
-        11 => add_section(book, &[b"\0\x01\0".as_slice(), &faulty_rule(random)].concat()),
+        11 => add_section(book, &[b"\0\x01\0".as_slice(), random.pick(&FAULTY_RULES).as_slice()].concat()),
         12 => {
             let set: [&[u8]; 7] = [
                 b"\0\0",
@@ -162,30 +162,35 @@ fn append_key_twice(book: &mut Vec<u8>) {
     book.extend(b"\0\0\0");
 }
 
-fn faulty_rule(random: &mut Random) -> [u8; 10] {
-    let rules: [&[u8; 10]; 22] = [
-        b"MSH\x02\0\x01W\0\0\0",
-        b"MSH\x01\0\x01W\0\0\0",
-        b"PID\0\0\x01E\0\0\0",
-        b"PID\x64\0\x01E\0\0\0",
-        b"PID\x01\x15\x01E\0\0\0",
-        b"IN1\x01\0\x01E\0\0\0",
-        b"pid\x01\0\x01E\0\0\0",
-        b"PID\x01\0\0E\0\0\0",
-        b"PID\x01\0\x07E\0\0\0",
-        b"PID\x01\0\x08E\0\0\0",
-        b"PID\x01\0\x01e\0\0\0",
-        b"PID\x01\0\x01A\0\0\0",
-        b"PID\x01\0\x01E\x01\0\0",
-        b"PID\x01\0\x03E\0\x01\0",
-        b"PID\x01\0\x04E\0\0\x01",
-        b"PID\x01\0\x02E\x01\x01\x02",
-        b"PID\x01\0\x02E\0\0\x02",
-        b"PID\x01\0\x02E\0\x03\x02",
-        b"PID\x01\0\x05E\0\x07\0",
-        b"PID\x01\0\x05E\0\x10\0",
-        b"PID\x01\0\x05E\0\x08\x01",
-        b"PID\x01\0\x06E\x01\0\0",
-    ];
-    *random.pick(&rules)
-}
+/// Rules that a section without sets may not hold.
+pub const FAULTY_RULES: [&[u8; 10]; 29] = [
+    b"MSH\x02\0\x01W\0\0\0",
+    b"MSH\x01\0\x01W\0\0\0",
+    b"PID\0\0\x01E\0\0\0",
+    b"PID\x64\0\x01E\0\0\0",
+    b"PID\x01\x15\x01E\0\0\0",
+    b"IN1\x01\0\x01E\0\0\0",
+    b"pid\x01\0\x01E\0\0\0",
+    b"PID\x01\0\0E\0\0\0",
+    b"PID\x01\0\x07E\0\0\0",
+    b"PID\x01\0\x08E\0\0\0",
+    b"PID\x01\0\x01e\0\0\0",
+    b"PID\x01\0\x01A\0\0\0",
+    b"PID\x01\0\x01E\x01\0\0",
+    b"PID\x01\0\x03E\0\x01\0",
+    b"PID\x01\0\x04E\0\0\x01",
+    b"PID\x01\0\x02E\x01\x01\x02",
+    b"PID\x01\0\x02E\0\0\x02",
+    b"PID\x01\0\x02E\0\x03\x02",
+    b"PID\x01\0\x05E\0\x02\0",
+    b"PID\x01\0\x05E\0\x05\0",
+    b"PID\x01\0\x05E\0\x07\0",
+    b"PID\x01\0\x05E\0\x10\0",
+    b"PID\x01\0\x05E\0\x08\x01",
+    b"PID\x01\0\x05E\x01\x08\0",
+    b"PID\x01\0\x06E\0\0\0",
+    b"PID\x01\0\x06E\x01\0\0",
+    b"PID\x01\0\x06E\x03\0\0",
+    b"PID\x01\0\x06E\x01\x01\0",
+    b"PID\x01\0\x06E\x01\0\x01",
+];

@@ -6,9 +6,8 @@ use super::random::Random;
 use crate::book::BOOK_LIMIT;
 use crate::books::{self, RuleBytes, SectionPlan};
 use crate::cutting::MESSAGE_LIMIT;
+use crate::limits::HEADER;
 use crate::order::NAMES;
-
-const HEADER: &[u8] = b"MSH|^~\\&|CAB|C1|REG|AX|||VXU^V04|M1|P|2.5.1\r";
 
 /// A message near 32,768 bytes and the book for it; `heavy` ones have many rules too.
 pub fn message(random: &mut Random, heavy: bool) -> (Vec<u8>, Vec<u8>) {

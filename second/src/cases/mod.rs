@@ -4,15 +4,19 @@ mod drafts;
 mod faults;
 mod large;
 mod near;
+mod places;
 mod plans;
 mod random;
 
+#[cfg(test)]
+pub(crate) use faults::FAULTY_RULES;
+pub use places::place;
 pub use random::Random;
 
 use crate::books::{self, SectionPlan};
 use crate::samples;
 
-/// What one answer takes; the output is lent as so many bytes.
+/// What one answer takes, and a place to locate in the message; the output is lent as so many bytes.
 #[derive(Clone, Debug, PartialEq, Eq)]
 pub struct Case {
     pub message: Vec<u8>,
@@ -20,6 +24,8 @@ pub struct Case {
     pub stamp: Vec<u8>,
     pub control: u32,
     pub output_length: usize,
+    /// Segment, field, repetition, component.
+    pub place: [u32; 4],
 }
 
 impl Case {
@@ -28,6 +34,12 @@ impl Case {
         let mut out = vec![0; self.output_length];
         let (number, detail) = crate::answer(&self.message, &self.book, &self.stamp, self.control, &mut out);
         crate::line::printed_answer(number, detail, out)
+    }
+
+    /// The bytes at the case's place.
+    pub fn located(&self) -> &[u8] {
+        let (start, length) = crate::locate(&self.message, self.place.map(|number| number as usize));
+        &self.message[start..start + length]
     }
 
     /// The length of the ACK, if there would be one.
@@ -59,7 +71,15 @@ impl Generator {
 
     /// The case of an index and the pair that it aims at.
     pub fn case(&self, index: u64) -> (Case, Option<Pair>) {
-        let (mut case, pair) = self.make(index);
+        let random = &mut Random::new(self.seed, index);
+        let at = index as usize;
+        let (mut case, pair) = match self.samples.get(at) {
+            Some(sample) => (sample.clone(), None),
+            None => {
+                let (case, pair) = self.make(random, at - self.samples.len());
+                (Case { place: place(random, &case.message), ..case }, pair)
+            }
+        };
         // No room after the last byte, so that a reader that goes past it can be noticed.
         for bytes in [&mut case.message, &mut case.book, &mut case.stamp] {
             bytes.shrink_to_fit();
@@ -67,20 +87,15 @@ impl Generator {
         (case, pair)
     }
 
-    fn make(&self, index: u64) -> (Case, Option<Pair>) {
-        let random = &mut Random::new(self.seed, index);
-        let mut at = index as usize;
-        if let Some(case) = self.samples.get(at) {
-            return (case.clone(), None);
-        }
-        at -= self.samples.len();
+    /// What comes after the samples.
+    fn make(&self, random: &mut Random, mut at: usize) -> (Case, Option<Pair>) {
         if let Some(pair) = self.pairs.get(at) {
             return (paired(random, *pair), Some(*pair));
         }
         at -= self.pairs.len();
         let case = match at {
             0..18 => broken_rule(random, at as u8 % 6 + 1, b"EWI"[at / 6]),
-            18..34 => wrong_header(random, at - 18),
+            18..34 => headed(random, SectionPlan::new("AX"), at - 18),
             _ => return self.random_case(random),
         };
         (lend(random, case), None)
@@ -134,7 +149,7 @@ fn pairs() -> Vec<Pair> {
 fn with_stamp(random: &mut Random, message: Vec<u8>, book: Vec<u8>) -> Case {
     let stamp = if random.one_in(40) { near::bad_stamp(random) } else { near::stamp(random) };
     let control = random.pick(&[0, 7, 9, 10, 99, 100, 65_536, 999_999_999, 1_000_000_000, u32::MAX]);
-    Case { message, book, stamp, control, output_length: 0 }
+    Case { message, book, stamp, control, output_length: 0, place: [0; 4] }
 }
 
 /// A sound message and a good book for it.
@@ -169,11 +184,7 @@ fn broken_rule(random: &mut Random, kind: u8, severity: u8) -> Case {
         let mut rule = plans::rule_of_kind(random, kind, 1);
         rule[..4].copy_from_slice(b"PID\x03");
         rule[6] = severity;
-        let section = SectionPlan { rules: vec![rule], sets, ..SectionPlan::new("AX") };
-        let mut draft = drafts::draft(random, &section);
-        drafts::set_header(random, &mut draft, 0);
-        let case =
-            Case { stamp: near::stamp(random), ..with_stamp(random, draft.message(), books::encode(&[section])) };
+        let case = headed(random, SectionPlan { rules: vec![rule], sets, ..SectionPlan::new("AX") }, 0);
         let finding = [b"|".as_slice(), &[severity], b"|1^^L\n"].concat();
         let printed = Case { output_length: 65_536, ..case.clone() }.printed();
         if printed.windows(finding.len()).any(|window| window == finding) {
@@ -182,9 +193,8 @@ fn broken_rule(random: &mut Random, kind: u8, severity: u8) -> Case {
     }
 }
 
-/// Findings 200 to 203 where their bit is set.
-fn wrong_header(random: &mut Random, wrong: usize) -> Case {
-    let section = SectionPlan::new("AX");
+/// A message with findings 200 to 203 where their bit is set.
+fn headed(random: &mut Random, section: SectionPlan, wrong: usize) -> Case {
     let mut draft = drafts::draft(random, &section);
     drafts::set_header(random, &mut draft, wrong);
     Case { stamp: near::stamp(random), ..with_stamp(random, draft.message(), books::encode(&[section])) }

@@ -1,4 +1,4 @@
-//! What the cases hit: refusals and their pairs, findings, combinations of header findings.
+//! What the cases hit: refusals and their pairs, findings, combinations of header findings and of severities.
 
 use second::book::{Book, Kind, Rule};
 use second::cases::{Case, Pair};
@@ -18,11 +18,13 @@ pub struct Coverage {
     /// By kind, then by severity E, W, I.
     rules: [[u64; 3]; 6],
     headers: [u64; 16],
+    /// ACKs without header findings, by the severities that were found.
+    severities: [u64; 8],
 }
 
 impl Coverage {
     /// Counts a case once for everything that it hits.
-    pub fn count(&mut self, case: &Case, pair: Option<Pair>, number: u8, detail: u64) {
+    pub fn count(&mut self, case: &Case, pair: Option<Pair>, (number, detail): (u8, u64)) {
         self.numbers[usize::from(number)] += 1;
         if let Some((earlier, later)) = pair {
             // A book's late faults are tried after the version.
@@ -35,6 +37,9 @@ impl Coverage {
             self.order += u64::from(hits.order);
             self.end += u64::from(hits.end);
             self.headers[hits.header] += 1;
+            if number == 0 && hits.header == 0 {
+                self.severities[hits.severities] += 1;
+            }
             for (kind, severity) in (0..6).flat_map(|kind| (0..3).map(move |severity| (kind, severity))) {
                 self.rules[kind][severity] += u64::from(hits.rules[kind][severity]);
             }
@@ -59,10 +64,12 @@ impl Coverage {
             let count = (1..16).filter(|mask| mask & (1 << code) != 0).map(|mask| self.headers[mask]).sum();
             rows.push((format!("finding {} E header", 200 + code), count));
         }
-        for (mask, count) in self.headers.iter().enumerate().skip(1) {
-            let codes: Vec<String> =
-                (0..4).filter(|code| mask & (1 << code) != 0).map(|code| (200 + code).to_string()).collect();
-            rows.push((format!("header findings {} alone", codes.join(" ")), *count));
+        for (mask, count) in self.headers.iter().enumerate() {
+            rows.push((format!("header findings {}", chosen(mask, &["200", "201", "202", "203"])), *count));
+        }
+        for (mask, count) in self.severities.iter().enumerate() {
+            let verdict = if mask & 0b011 == 0 { "AA" } else { "AE" };
+            rows.push((format!("{verdict} with findings {}", chosen(mask, &["E", "W", "I"])), *count));
         }
         for (label, count) in &rows {
             println!("{label}: {count}");
@@ -82,6 +89,16 @@ impl Coverage {
     }
 }
 
+/// The names whose bits are set.
+fn chosen(mask: usize, names: &[&str]) -> String {
+    let chosen: Vec<&str> = (0..).zip(names).filter(|(bit, _)| mask & (1 << bit) != 0).map(|(_, name)| *name).collect();
+    if chosen.is_empty() {
+        "none".into()
+    } else {
+        chosen.join(" ")
+    }
+}
+
 #[derive(Default)]
 struct Hits {
     order: bool,
@@ -89,6 +106,8 @@ struct Hits {
     rules: [[bool; 3]; 6],
     /// One bit for each of 200 to 203.
     header: usize,
+    /// One bit for each of E, W, I.
+    severities: usize,
 }
 
 impl Hits {
@@ -105,6 +124,7 @@ impl Hits {
     }
 
     fn add(&mut self, rules: &[Rule], finding: Finding) {
+        self.severities |= 1 << finding.severity as usize;
         match (finding.code, finding.place) {
             (100, Place::End) => self.end = true,
             (100, _) => self.order = true,

@@ -1,104 +1,117 @@
-//! Case by case through the static library: answer, check and locate.
+//! Case by case through the library, linked or in a program of its own: answer, whole output, check and locate.
 
 use crate::coverage::Coverage;
-use crate::ours;
-use second::cases::{Case, Generator, Random};
+use second::cases::{Case, Generator, Pair};
 use second::packing;
 use std::fmt::Debug;
 use std::path::{Path, PathBuf};
 use std::time::{Duration, Instant};
 use std::{env, fs};
 
-/// Bytes after the output that nobody may write.
-const GUARD: usize = 64;
+/// So many cases are given to the library at once.
+const BATCH: usize = 64;
 /// After so many differing cases nothing new is learned.
 const ENOUGH: usize = 10;
 
-pub fn compare(seed: u64, cases: u64, limit: Duration) -> Result<bool, String> {
-    let generator = Generator::new(seed);
-    let start = Instant::now();
-    let mut comparer = Comparer::default();
-    let mut coverage = Coverage::default();
-    let mut failed = Vec::new();
-    let mut index = 0;
-    while index < cases && start.elapsed() < limit && failed.len() < ENOUGH {
-        let (case, pair) = generator.case(index);
-        let (number, detail) = match comparer.compare(&case) {
-            Ok(answer) => answer,
-            Err((answer, difference)) => {
-                println!("case {index} of seed {seed}: {difference}");
-                failed.push(case.clone());
-                answer
-            }
-        };
-        coverage.count(&case, pair, number, detail);
-        index += 1;
-    }
-    let covered = coverage.print();
-    if !failed.is_empty() {
-        println!("differing cases are in {}", keep(&failed)?.display());
-    }
-    println!("{index} cases, {} differences", failed.len());
-    Ok(covered && failed.is_empty())
+pub type Answer = (u8, u64);
+
+/// What the main code made of a case.
+pub struct Made {
+    pub answer: Answer,
+    /// The lent output, and what stands after it where that can be seen.
+    pub output: Vec<u8>,
+    pub check: Answer,
+    /// Places with their start and length.
+    pub places: Vec<([usize; 4], (usize, usize))>,
 }
 
-pub fn replay(file: &Path) -> Result<bool, String> {
+pub trait Library {
+    fn make(&mut self, cases: &[Case]) -> Result<Vec<Made>, String>;
+}
+
+pub fn compare(ours: &mut dyn Library, seed: u64, cases: u64, limit: Duration) -> Result<bool, String> {
+    let generator = Generator::new(seed);
+    let start = Instant::now();
+    let in_time = (0..cases).take_while(|_| start.elapsed() < limit);
+    let run = Run::of(ours, in_time.map(|index| generator.case(index)), &format!("seed {seed}"))?;
+    let covered = run.coverage.print();
+    if !run.failed.is_empty() {
+        println!("differing cases are in {}", keep(&run.failed)?.display());
+    }
+    Ok(run.end() && covered)
+}
+
+pub fn replay(ours: &mut dyn Library, file: &Path) -> Result<bool, String> {
     let packed = fs::read(file).map_err(|e| format!("{}: {e}", file.display()))?;
     let cases = packing::unpack(&packed).ok_or(format!("{}: ends inside a case", file.display()))?;
-    let mut comparer = Comparer::default();
-    let mut differences = 0;
-    for (index, case) in cases.iter().enumerate() {
-        if let Err((_, difference)) = comparer.compare(case) {
-            println!("case {index} of the file: {difference}");
-            differences += 1;
-        }
-    }
-    println!("{} cases, {differences} differences", cases.len());
-    Ok(differences == 0)
+    Ok(Run::of(ours, cases.into_iter().map(|case| (case, None)), "the file")?.end())
 }
 
 /// Packs the cases beside the program.
 fn keep(cases: &[Case]) -> Result<PathBuf, String> {
-    let mut packed = Vec::new();
-    for case in cases {
-        packing::pack(case, &mut packed);
-    }
     let file = env::current_exe().map_err(|e| e.to_string())?.with_file_name("failed.pack");
-    fs::write(&file, packed).map_err(|e| format!("{}: {e}", file.display()))?;
+    fs::write(&file, packing::pack_all(cases)).map_err(|e| format!("{}: {e}", file.display()))?;
     Ok(file)
 }
 
-type Answer = (u8, u64);
-
-/// Two outputs that are used for one case after the other.
 #[derive(Default)]
-struct Comparer {
-    ours: Vec<u8>,
-    second: Vec<u8>,
+struct Run {
+    count: usize,
+    failed: Vec<Case>,
+    coverage: Coverage,
 }
 
-impl Comparer {
-    /// The second program's answer, with the first difference if there is one.
-    fn compare(&mut self, case: &Case) -> Result<Answer, (Answer, String)> {
-        let Case { message, book, stamp, control, output_length } = case;
-        let random = &mut Random::new(message.len() as u64, u64::from(*control));
-        fill(random, &mut self.second, output_length + GUARD);
-        self.ours.clone_from(&self.second);
-        let second = second::answer(message, book, stamp, *control, &mut self.second[..*output_length]);
-        let ours = ours::answer(message, book, stamp, *control, &mut self.ours[..*output_length]);
-        let checked = same("answer", ours, second)
-            .and_then(|()| self.same_output())
-            .and_then(|()| same("check", ours::check(message), second::check(message)))
-            .and_then(|()| same_places(random, message));
-        checked.map(|()| second).map_err(|difference| (second, difference))
+impl Run {
+    fn of(
+        ours: &mut dyn Library,
+        mut cases: impl Iterator<Item = (Case, Option<Pair>)>,
+        source: &str,
+    ) -> Result<Run, String> {
+        let mut run = Run::default();
+        while run.failed.len() < ENOUGH {
+            let (batch, pairs): (Vec<Case>, Vec<Option<Pair>>) = cases.by_ref().take(BATCH).unzip();
+            if batch.is_empty() {
+                break;
+            }
+            let made = match ours.make(&batch) {
+                Ok(made) => made,
+                Err(problem) => return Err(format!("{problem}; the cases are in {}", keep(&batch)?.display())),
+            };
+            for ((case, pair), made) in batch.into_iter().zip(pairs).zip(made) {
+                let (answer, compared) = compare_one(&case, &made);
+                run.coverage.count(&case, pair, answer);
+                if let Err(difference) = compared {
+                    println!("case {} of {source}: {difference}", run.count);
+                    run.failed.push(case);
+                }
+                run.count += 1;
+            }
+        }
+        Ok(run)
     }
 
-    fn same_output(&self) -> Result<(), String> {
-        match (0..self.second.len()).find(|at| self.ours[*at] != self.second[*at]) {
-            None => Ok(()),
-            Some(at) => same(&format!("output at {at}"), self.ours[at], self.second[at]),
-        }
+    /// The last line; says whether there was no difference.
+    fn end(&self) -> bool {
+        println!("{} cases, {} differences", self.count, self.failed.len());
+        self.failed.is_empty()
     }
+}
+
+/// The second program's answer, and the first difference if there is one.
+fn compare_one(case: &Case, made: &Made) -> (Answer, Result<(), String>) {
+    let Case { message, book, stamp, control, output_length, .. } = case;
+    let mut output = filled(made.output.len());
+    let answer = second::answer(message, book, stamp, *control, &mut output[..*output_length]);
+    let compared = same("answer", made.answer, answer)
+        .and_then(|()| same_output(&made.output, &output))
+        .and_then(|()| same("check", made.check, second::check(message)))
+        .and_then(|()| {
+            let mut places = made.places.iter();
+            places.try_for_each(|(place, found)| {
+                same(&format!("locate {place:?}"), *found, second::locate(message, *place))
+            })
+        });
+    (answer, compared)
 }
 
 fn same<T: PartialEq + Debug>(what: &str, ours: T, second: T) -> Result<(), String> {
@@ -109,43 +122,14 @@ fn same<T: PartialEq + Debug>(what: &str, ours: T, second: T) -> Result<(), Stri
     }
 }
 
-fn fill(random: &mut Random, output: &mut Vec<u8>, length: usize) {
-    output.clear();
-    while output.len() < length {
-        output.extend(random.number().to_le_bytes());
+fn same_output(ours: &[u8], second: &[u8]) -> Result<(), String> {
+    match ours.iter().zip(second).position(|(ours, second)| ours != second) {
+        None => Ok(()),
+        Some(at) => same(&format!("output at {at}"), ours[at], second[at]),
     }
-    output.truncate(length);
 }
 
-fn same_places(random: &mut Random, message: &[u8]) -> Result<(), String> {
-    let segments = message.iter().filter(|b| **b == b'\r').count();
-    for _ in 0..if message.len() < 4_096 { 24 } else { 8 } {
-        let mut place = [
-            random.below(segments + 2),
-            count(random, message.len()),
-            count(random, message.len()),
-            count(random, message.len()),
-        ];
-        if random.one_in(16) {
-            // Numbers that a narrower type would take for small ones.
-            let far = [65_535, 65_536, 65_537, 1 << 32, (1 << 32) + 1, 1 << 63, usize::MAX - 1, usize::MAX];
-            place[random.below(4)] = random.pick(&far);
-        }
-        let [s, f, r, c] = place;
-        let name = format_args!("locate {s} {f} {r} {c}").to_string();
-        same(&name, ours::locate(message, s, f, r, c), second::locate(message, s, f, r, c))?;
-    }
-    Ok(())
-}
-
-/// A field, repetition or component: small as a rule, any that a long message may have now and then.
-fn count(random: &mut Random, length: usize) -> usize {
-    match random.below(16) {
-        0 => random.below(40),
-        1 => random.below(110),
-        2 if length > 4_096 => random.below(length),
-        3..6 => random.below(8),
-        6..9 => random.below(4),
-        _ => 1,
-    }
+/// An output before the answer: bytes that no ACK has, each unlike the next. `tests/library.c` fills alike.
+pub fn filled(length: usize) -> Vec<u8> {
+    (0..length).map(|at| 128 + (at % 127) as u8).collect()
 }

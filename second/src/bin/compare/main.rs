@@ -1,21 +1,23 @@
 //! Compares the main code with the second program, through its static library or as a program.
 
-#[cfg(feature = "ours")]
 mod coverage;
-#[cfg(feature = "ours")]
+mod driven;
 mod library;
+#[cfg(feature = "ours")]
+mod linked;
 #[cfg(feature = "ours")]
 #[path = "../../ours.rs"]
 mod ours;
 mod program;
 
+use library::Library;
 use std::env;
-use std::path::PathBuf;
-use std::process::ExitCode;
-#[cfg(feature = "ours")]
+use std::path::{Path, PathBuf};
+use std::process::{Command, ExitCode};
 use std::time::Duration;
 
-const USAGE: &str = "usage: compare [--seconds N] [--cases N] [--seed S] [--replay FILE] [--program PATH]";
+const USAGE: &str = "usage: compare [--seconds N] [--cases N] [--seed S] [--replay FILE] \
+                     [--library PATH | --program PATH] [--under PATH]";
 
 #[derive(Default)]
 struct Options {
@@ -23,7 +25,9 @@ struct Options {
     cases: Option<u64>,
     seed: u64,
     replay: Option<PathBuf>,
+    library: Option<PathBuf>,
     program: Option<PathBuf>,
+    under: Option<PathBuf>,
 }
 
 fn main() -> ExitCode {
@@ -40,24 +44,45 @@ fn main() -> ExitCode {
 /// Whether all is well.
 fn run(options: Options) -> Result<bool, String> {
     if let Some(path) = &options.program {
-        return program::compare(path, options.seed, options.cases.unwrap_or(3_000));
+        return program::compare(options.command(path)?, options.seed, options.cases.unwrap_or(3_000));
     }
-    run_library(options)
-}
-
-#[cfg(not(feature = "ours"))]
-fn run_library(_: Options) -> Result<bool, String> {
-    Err("this build links no library: it takes --program alone".into())
-}
-
-#[cfg(feature = "ours")]
-fn run_library(options: Options) -> Result<bool, String> {
+    let mut ours = match &options.library {
+        Some(path) => Box::new(driven::Driven::start(options.command(path)?)?),
+        None => linked()?,
+    };
     if let Some(file) = &options.replay {
-        return library::replay(file);
+        return library::replay(&mut *ours, file);
     }
     // A number of cases alone is not cut short by the clock.
     let seconds = options.seconds.unwrap_or(if options.cases.is_some() { 100_000 } else { 60 });
-    library::compare(options.seed, options.cases.unwrap_or(u64::MAX), Duration::from_secs(seconds))
+    library::compare(&mut *ours, options.seed, options.cases.unwrap_or(u64::MAX), Duration::from_secs(seconds))
+}
+
+#[cfg(not(feature = "ours"))]
+fn linked() -> Result<Box<dyn Library>, String> {
+    Err("this build links no library: it takes --library or --program".into())
+}
+
+#[cfg(feature = "ours")]
+fn linked() -> Result<Box<dyn Library>, String> {
+    Ok(Box::new(linked::Linked))
+}
+
+impl Options {
+    /// Starts a program, by another one that takes it as its argument if one was named.
+    fn command(&self, path: &Path) -> Result<Command, String> {
+        // Whole paths, since a program is run in another folder.
+        let whole = |path: &Path| path.canonicalize().map_err(|e| format!("{}: {e}", path.display()));
+        let program = whole(path)?;
+        Ok(match &self.under {
+            Some(under) => {
+                let mut command = Command::new(whole(under)?);
+                command.arg(program);
+                command
+            }
+            None => Command::new(program),
+        })
+    }
 }
 
 fn options() -> Result<Options, String> {
@@ -71,7 +96,9 @@ fn options() -> Result<Options, String> {
             Some("--cases") => options.cases = Some(number()?),
             Some("--seed") => options.seed = number()?,
             Some("--replay") => options.replay = Some(value.into()),
+            Some("--library") => options.library = Some(value.into()),
             Some("--program") => options.program = Some(value.into()),
+            Some("--under") => options.under = Some(value.into()),
             _ => return Err(USAGE.into()),
         }
     }

@@ -18,17 +18,16 @@ struct Run {
     piped: bool,
 }
 
-pub fn compare(program: &Path, seed: u64, cases: u64) -> Result<bool, String> {
-    let program = program.canonicalize().map_err(|e| format!("{}: {e}", program.display()))?;
+pub fn compare(mut command: Command, seed: u64, cases: u64) -> Result<bool, String> {
     let folder = env::temp_dir().join(format!("compare-{}", process::id()));
     fs::create_dir_all(&folder).map_err(|e| format!("{}: {e}", folder.display()))?;
-    let result = compare_in(&folder, &program, seed, cases);
+    let result = compare_in(&folder, command.current_dir(&folder), seed, cases);
     // What is left of the folder is of no use to anybody.
     let _ = fs::remove_dir_all(&folder);
     result
 }
 
-fn compare_in(folder: &Path, program: &Path, seed: u64, cases: u64) -> Result<bool, String> {
+fn compare_in(folder: &Path, command: &mut Command, seed: u64, cases: u64) -> Result<bool, String> {
     let generator = Generator::new(seed);
     for index in 0..cases {
         let random = &mut Random::new(seed + 1, index);
@@ -38,7 +37,7 @@ fn compare_in(folder: &Path, program: &Path, seed: u64, cases: u64) -> Result<bo
             run.book.as_deref().unwrap_or_default(),
             &run.input,
         );
-        let printed = start(folder, program, &run).map_err(|e| format!("{}: {e}", program.display()))?;
+        let printed = start(folder, command, &run).map_err(|e| format!("case {index} of seed {seed}: {e}"))?;
         if printed != expected {
             println!("case {index} of seed {seed} prints {}", shown(&printed));
             println!("instead of {}", shown(&expected));
@@ -136,10 +135,9 @@ fn lay(folder: &Path, run: &Run) -> io::Result<()> {
 }
 
 /// Standard output of the program; its input is a pipe or a file.
-fn start(folder: &Path, program: &Path, run: &Run) -> io::Result<Vec<u8>> {
+fn start(folder: &Path, command: &mut Command, run: &Run) -> io::Result<Vec<u8>> {
     lay(folder, run)?;
-    let mut command = Command::new(program);
-    command.current_dir(folder).stdout(Stdio::piped());
+    command.stdout(Stdio::piped());
     if !run.piped {
         let input = File::open(folder.join("line"))?;
         return Ok(command.stdin(input).stderr(Stdio::inherit()).output()?.stdout);

@@ -1,4 +1,4 @@
--- `grade::book::open_book` meets its contract: the two tests pick the case of `opened`, in the order of `opened-walks`. Assumes nothing.
+-- `grade::book::open_book` meets its contract: the two tests are those of rows 7 and 8. Assumes nothing.
 use Prim.Native.Nat.{ℕ, _≤_}
 use mathlib.Core.Path.{_≡_, sym, _∙_}
 use mathlib.Core.Bool.{true, false}
@@ -6,16 +6,14 @@ use mathlib.Core.List.{List}
 use borrow.Author.Needs.{needs}
 use borrow.Author.Tests.{eq-eqb, ne-eqb, not-true, not-false, leb-true}
 use denote.Ref.{now}
-use lib.Dec.{leb, eqb}
+use lib.Dec.{leb}
 use lib.ListN.{length}
 use Rattle.hl7.specs.Text.{bytes}
 use Rattle.hl7.specs.Bytes.{within, begins}
 use Rattle.hl7.proofs.Comparing.{and-both}
-use Rattle.grade.specs.declared.book.Opened.{Opened}
 use Rattle.grade.specs.Limits.{headSize, bookLimit, bookVersion}
-use Rattle.grade.specs.Book.{headRight, version, sections, opened}
-use Rattle.grade.specs.Standing.{chosen}
-use Rattle.grade.proofs.Opening.{opened-walks}
+use Rattle.grade.specs.Book.{headRight, version, otherVersion}
+use Rattle.grade.proofs.Opening.{head-wrong, version-other, version-right}
 use Rattle.grade.proofs.book.open_book.Statement.{statement}
 use Rattle.grade.proofs.book.open_book.Tie as tie
 
@@ -25,15 +23,13 @@ long-enough b h =
     let w = and-both (within headSize bookLimit (length b)) (begins (bytes "VXB") b) h in
     leb-true headSize (length b) (and-both (leb headSize (length b)) (leb (length b) bookLimit) (w .0) .0)
 
-module _ (b key : List ℕ) where
-  bad-head : headRight b ≡ false → Opened.Malformed ≡ opened b key
-  bad-head h = sym (opened-walks b key ∙ rw h)
+other : (b : List ℕ) → (version b ≡ bookVersion → ⊥) → otherVersion b ≡ true
+unfolding otherVersion
+other b n = rw (ne-eqb (version b) bookVersion n)
 
-  bad-version : headRight b ≡ true → eqb (version b) bookVersion ≡ false → Opened.OtherVersion ≡ opened b key
-  bad-version h e = sym (opened-walks b key ∙ rw (h, e))
-
-  good-head : headRight b ≡ true → eqb (version b) bookVersion ≡ true → chosen key (sections b headSize) ≡ opened b key
-  good-head h e = sym (opened-walks b key ∙ rw (h, e))
+first : (b : List ℕ) → version b ≡ bookVersion → otherVersion b ≡ false
+unfolding otherVersion
+first b e = rw (eq-eqb (version b) bookVersion e)
 
 head-right-requires : tie.Need-head-right-requires
 head-right-requires c κs = search needs
@@ -41,7 +37,7 @@ head-right-requires c κs = search needs
 returns : tie.Need-returns
 returns c =
     let a = c .before .before .before .before .args in
-    bad-head (now (a .book)) (now (a .key)) (sym (c .before .head-right .ensures) ∙ not-true _ (c .if1 .taken))
+    head-wrong (now (a .book)) (now (a .key)) (sym (c .before .head-right .ensures) ∙ not-true _ (c .if1 .taken))
 
 pair-at-requires : tie.Need-pair-at-requires
 pair-at-requires c κs = long-enough (now (c .before .before .before .before .args .book)) (sym (c .before .head-right .ensures) ∙ not-false _ (c .if1 .left))
@@ -49,8 +45,8 @@ pair-at-requires c κs = long-enough (now (c .before .before .before .before .ar
 returns-2 : tie.Need-returns-2
 returns-2 c =
     let a = c .before .before .before .before .before .before .args in
-    bad-version (now (a .book)) (now (a .key)) (sym (c .before .before .before .head-right .ensures) ∙ not-false _ (c .before .before .if1 .left))
-    (ne-eqb (version (now (a .book))) bookVersion (λ q. c .if2 .taken (c .before .pair-at .ensures ∙ q)))
+    version-other (now (a .book)) (now (a .key)) (sym (c .before .before .before .head-right .ensures) ∙ not-false _ (c .before .before .if1 .left))
+    (other (now (a .book)) (λ q. c .if2 .taken (c .before .pair-at .ensures ∙ q)))
 
 open-sections-requires : tie.Need-open-sections-requires
 open-sections-requires c κs = search needs
@@ -58,9 +54,8 @@ open-sections-requires c κs = search needs
 returns-3 : tie.Need-returns-3
 returns-3 c =
     let a = c .before .before .before .before .before .before .before .args in
-    c .open-sections .ensures
-    ∙ good-head (now (a .book)) (now (a .key)) (sym (c .before .before .before .before .head-right .ensures) ∙ not-false _ (c .before .before .before .if1 .left))
-    (eq-eqb (version (now (a .book))) bookVersion (sym (c .before .before .pair-at .ensures) ∙ c .before .if2 .left))
+    version-right (now (a .book)) (now (a .key)) (sym (c .before .before .before .before .head-right .ensures) ∙ not-false _ (c .before .before .before .if1 .left))
+    (first (now (a .book)) (sym (c .before .before .pair-at .ensures) ∙ c .before .if2 .left)) (c .open-sections .ensures)
 
 pub open-book-spec : {M : Type 1} → statement M
 open-book-spec =

@@ -1,17 +1,16 @@
 -- `grade::lookup::among_codes` meets its contract: the value is among the codes that are left as it is among all. Assumes nothing.
-use Prim.Native.Nat.{ℕ, _+_, _-_, _<_, _≤_}
+use Prim.Native.Nat.{ℕ, _-_, _<_, _≤_}
 use mathlib.Core.Path.{_≡_, refl, sym, ap, _∙_}
 use mathlib.Core.Bool.{true, false}
 use mathlib.Core.List.{List}
 use native.Mathlib.Omega.{arith}
 use denote.Ref.{now}
-use lib.ListN.{getD}
 use borrow.Author.Needs.{needs}
 use Rattle.hl7.specs.Bytes.{same, among}
 use Rattle.grade.specs.Limits.{codeLimit}
 use Rattle.grade.specs.Reader.{isFound, itemsOf, times}
 use Rattle.grade.specs.Book.{text}
-use Rattle.grade.specs.Standing.{textAt}
+use Rattle.grade.specs.Standing.{textEnd, textAt}
 use Rattle.grade.proofs.Readings.{times-empty}
 use Rattle.grade.proofs.Parts.{code-fits, codes-next}
 use Rattle.grade.proofs.lookup.among_codes.Statement.{statement}
@@ -27,7 +26,7 @@ module _ (b value : List ℕ) (left from : ℕ) (h : 0 < left) (f : isFound (tim
   unfolding among
   stop e = rw (codes-next b left from h f _ refl .2, e)
 
-  more : (next : ℕ) → next ≡ from + 1 + getD b from 0 → same value (textAt b from) ≡ false →
+  more : (next : ℕ) → next ≡ textEnd b from → same value (textAt b from) ≡ false →
       (isFound (times (left - 1) (text codeLimit) b next) ≡ true)
       × (among value (itemsOf (times (left - 1) (text codeLimit) b next)) ≡ among value (itemsOf (times left (text codeLimit) b from)))
   unfolding among

@@ -15,7 +15,7 @@ use Rattle.grade.specs.Reader.{found, times, pair}
 use Rattle.grade.specs.Standing.{endOf}
 use Rattle.grade.specs.Book.{text, ruleIn, codeSet, section}
 use Rattle.grade.proofs.Readings.{ended, faulted, end-given}
-use Rattle.grade.proofs.Parts.{text-inside, made}
+use Rattle.grade.proofs.Parts.{text-inside}
 use borrow.Author.Needs.{needs}
 use Rattle.grade.proofs.walk.section_end.Statement.{statement}
 use Rattle.grade.proofs.walk.section_end.Tie as tie
@@ -64,7 +64,7 @@ module _ (b : List ℕ) (at counts : ℕ) (key : endOf (text keyLimit b at) ≡ 
         unfolding section
         whole =
             rw (keyFound .1, room2, room3, ← counted, l, third, rulesFound .1)
-            (end-given (times (getD b (counts + 2) 0) codeSet b setsAt) (made (keyFound .0) rules (getD b (counts + 2) 0) (counts + 3) (rulesFound .0) setsAt))
+            (end-given (times (getD b (counts + 2) 0) codeSet b setsAt) (λ sets. record { key = keyFound .0; rules = rulesFound .0; sets = sets }))
 
 text-end-requires : tie.Need-text-end-requires
 text-end-requires c κs = search needs

@@ -1,6 +1,4 @@
 -- `relay::reply::reply` meets its contract. Assumes nothing.
-use native.Mathlib.Omega.{arith}
-use Rattle.show.proofs.Showing.{wrote-text}
 use Rattle.relay.proofs.Replying.{replies-bad, replies-good}
 use borrow.Author.Needs.{needs}
 use Rattle.relay.proofs.reply.reply.Statement.{statement}
@@ -37,24 +35,23 @@ same-length : tie.Need-same-length
 same-length c = search needs
 
 returns : tie.Need-returns
-returns c input f room =
+returns c input f =
     let at-put = c .before .before in
     let at-told = at-put .before .before .before in
     let told = rw (at-told .enum-told .given .1) at (at-told .before .before .line-says .ensures input f) in
-    replies-bad input _ _ _ told (wrote-text (at-put .put .ensures) (omega arith))
+    replies-bad _ _ _ _ told (at-put .put .ensures)
 
 same-length-2 : tie.Need-same-length-2
 same-length-2 c = search needs
 
 returns-2 : tie.Need-returns-2
-returns-2 c input f room =
+returns-2 c input f =
     let at-put-answer = c .before .before in
     let at-answer = at-put-answer .before .before .before .before in
     let at-front = at-answer .before .before in
     let at-control = at-front .before .before .before .before .before in
     let told = rw (at-control .control .given .1) at (at-control .before .before .line-says .ensures input f) in
-    let kept = at-answer .answer .kept .1 .1 .1 .1 .0 in
-    replies-good input _ _ _ _ _ told (at-front .front .ensures) (at-answer .answer .ensures) (at-put-answer .put-answer .ensures (omega arith))
+    replies-good _ _ _ _ _ _ told (at-front .front .ensures) (at-answer .answer .ensures) (at-put-answer .put-answer .ensures)
 
 pub reply-spec : {M : Type 1} → statement M
 reply-spec =

@@ -1,0 +1,36 @@
+//! The library as it is linked into this program.
+
+use crate::library::{filled, Library, Made};
+use crate::ours;
+use second::cases::{self, Case, Random};
+
+/// Bytes after the output that nobody may write.
+const GUARD: usize = 64;
+
+pub struct Linked;
+
+impl Library for Linked {
+    fn make(&mut self, cases: &[Case]) -> Result<Vec<Made>, String> {
+        Ok(cases.iter().map(make).collect())
+    }
+}
+
+fn make(case: &Case) -> Made {
+    let Case { message, book, stamp, control, output_length, .. } = case;
+    let mut output = filled(output_length + GUARD);
+    let answer = ours::answer(message, book, stamp, *control, &mut output[..*output_length]);
+    let places = places(case).into_iter().map(|place| (place, ours::locate(message, place)));
+    Made { answer, output, check: ours::check(message), places: places.collect() }
+}
+
+/// The case's place and more, since asking costs little here; also numbers that no packed case can hold.
+fn places(case: &Case) -> Vec<[usize; 4]> {
+    let random = &mut Random::new(case.message.len() as u64, case.control.into());
+    let mut places = vec![case.place];
+    let count = if case.message.len() < 4_096 { 24 } else { 8 };
+    places.extend((0..count).map(|_| cases::place(random, &case.message)));
+    let mut places: Vec<_> = places.into_iter().map(|place| place.map(|number| number as usize)).collect();
+    let far = random.pick(&[1 << 32, (1 << 32) + 1, 1 << 63, usize::MAX - 1, usize::MAX]);
+    places[1][random.below(4)] = far;
+    places
+}

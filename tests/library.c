@@ -1,0 +1,90 @@
+/* The library as a program, for machines whose own programs cannot be linked with it. Takes packed cases (second/README.md
+ * says how they look) from standard input until it ends. Gives for each the answer, the whole lent output, the check and
+ * the place; numbers have eight bytes, the high byte first. */
+#include "../include/jasminedo.h"
+
+#include <stdio.h>
+#include <stdlib.h>
+
+/* Bytes after the output that nobody may write. */
+#define GUARD 64
+
+struct bytes {
+    size_t length;
+    uint8_t *start;
+};
+
+static void fail(const char *why) {
+    fprintf(stderr, "library: %s\n", why);
+    exit(1);
+}
+
+/* Room of just this size, so that tools that watch memory see where it ends. */
+static uint8_t *room(size_t length) {
+    uint8_t *start = malloc(length ? length : 1);
+    if (!start)
+        fail("no memory");
+    return start;
+}
+
+static void read_all(uint8_t *start, size_t length) {
+    if (fread(start, 1, length, stdin) != length)
+        fail("the input ends inside a case");
+}
+
+static uint32_t read_number(void) {
+    uint8_t b[4];
+    read_all(b, sizeof b);
+    return (uint32_t)b[0] << 24 | (uint32_t)b[1] << 16 | (uint32_t)b[2] << 8 | b[3];
+}
+
+static struct bytes read_bytes(void) {
+    struct bytes bytes;
+    bytes.length = read_number();
+    bytes.start = room(bytes.length);
+    read_all(bytes.start, bytes.length);
+    return bytes;
+}
+
+static void write_number(uint64_t number) {
+    for (int shift = 56; shift >= 0; shift -= 8)
+        putchar((int)(number >> shift & 255));
+}
+
+/* What stands in the output before the answer: no ACK has these bytes. The comparison fills alike. */
+static uint8_t filled(size_t at) { return (uint8_t)(128 + at % 127); }
+
+static void run_case(void) {
+    struct bytes message = read_bytes(), book = read_bytes(), stamp = read_bytes();
+    uint32_t control = read_number();
+    size_t length = read_number();
+    size_t segment = read_number(), field = read_number(), repetition = read_number(), component = read_number();
+    uint8_t *output = room(length + GUARD);
+    for (size_t at = 0; at < length + GUARD; at++)
+        output[at] = filled(at);
+
+    write_number(jasminedo_answer(message.start, message.length, book.start, book.length, stamp.start, stamp.length, control,
+                                  output, length));
+    for (size_t at = length; at < length + GUARD; at++)
+        if (output[at] != filled(at))
+            fail("a byte after the output was changed");
+    fwrite(output, 1, length, stdout);
+    write_number(jasminedo_check(message.start, message.length));
+    write_number(jasminedo_locate(message.start, message.length, segment, field, repetition, component));
+
+    free(message.start);
+    free(book.start);
+    free(stamp.start);
+    free(output);
+}
+
+int main(void) {
+    for (int next; (next = getchar()) != EOF;) {
+        ungetc(next, stdin);
+        run_case();
+        /* Whoever sent the case may wait for what was made of it before it sends another. */
+        if (fflush(stdout))
+            fail("what was made of a case cannot be written");
+    }
+    return 0;
+}
