@@ -21,7 +21,7 @@ use Rattle.hl7.proofs.Comparing.{and-both, all-append}
 use Rattle.hl7.proofs.Cutting.{part-short}
 use Rattle.grade.specs.Digits.{isDigit, isSign, digitRun}
 use Rattle.grade.specs.Values.{isStamp}
-use Rattle.grade.specs.Broken.{severityLetter}
+use Rattle.grade.specs.Rule.{severityLetter}
 use Rattle.grade.specs.Strict.{keep}
 use Rattle.grade.specs.Order.{mayFollow}
 use Rattle.grade.specs.Findings.{Event, ruleNumbered, findingAt, findingOf, breaks, places, findings, Demand3}

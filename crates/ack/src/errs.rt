@@ -8,7 +8,7 @@ use grade::header::Header;
 use grade::limits::LINKS;
 use grade::limits::NAME_PLACES;
 use grade::limits::SET_PLACES;
-use grade::order::FOLLOW;
+use grade::order::follow_table;
 use grade::step::Step;
 use grade::step::next;
 use grade::step::start;
@@ -114,7 +114,8 @@ pub fn put_errs(
     requires { ⌜ (at ≤ limit) × (length (now m) ≤ messageLimit) × Holds (now book) section × Placed (now book) section (now sets) × Linked (rulesIn (now book) section) (now links) × (fieldPlaces ≤ length (now starts)) × (d ≡ delimsOf (now m)) ⌝ }
     ensures { λ r. ⌜ Puts d (findings mayFollow (rulesIn (now (book .entry)) section) (setsIn (now (book .entry)) section) (now (m .entry))) (now (out .entry)) at (now (out .exit)) r ⌝ }
 {
-    put_errs_by(&FOLLOW, out, at, d, m, book, section, sets, links, starts)
+    let table = follow_table();
+    put_errs_by(&table, out, at, d, m, book, section, sets, links, starts)
 }
 
 // A finding about the header: an E at the first MSH.

@@ -12,7 +12,7 @@ use Rattle.hl7.specs.Bytes.{all, same, among, begins}
 use Rattle.hl7.specs.Refusals.{firstRow}
 use Rattle.grade.specs.declared.rule.Severity.{Severity}
 use Rattle.grade.specs.declared.rule.Kind.{Kind}
-use Rattle.grade.specs.Rule.{pid, segmentNames, numberFrom, nameOfLetters, placeFits, severityOf, kindOf, ruleOf}
+use Rattle.grade.specs.Rule.{pid, segmentNames, numberFrom, nameOfLetters, placeFits, severityOf, kindOf, ruleSaid, ruleOf}
 use Rattle.grade.specs.Reader.{times}
 use Rattle.grade.specs.Book.{text, codeSet, ruleIn, section, distinct, sections, headRight, decoded, malformed, otherVersion, noSection}
 use Rattle.grade.specs.Admission.{bookRows}
@@ -87,7 +87,7 @@ samples :
     && gives (book 1 (part "AX" 1 1 (rule "MSH" 3 1 6 "I" 1 0 0 ++ (0 ∷ 2 ∷ (sized "M" ++ sized "F"))))) 0
     && gives (book 1 (part "AX" 0 1 (0 ∷ 0 ∷ []))) 7)
     ≡ true
-unfolding head rule sized part book example one gives all same among begins segmentNames numberFrom nameOfLetters placeFits severityOf kindOf ruleOf times text codeSet ruleIn section distinct sections headRight decoded malformed otherVersion noSection bookRows firstRow
+unfolding head rule sized part book example one gives all same among begins segmentNames numberFrom nameOfLetters placeFits severityOf kindOf ruleSaid ruleOf times text codeSet ruleIn section distinct sections headRight decoded malformed otherVersion noSection bookRows firstRow
 samples = refl
 
 -- what the example's section says: PID-7.1 DATE E, PID-3.1 REQUIRED E, PID-8 REQUIRED W
@@ -103,5 +103,5 @@ example-says :
       sets = [];
     }
     ∷ []
-unfolding head rule sized part book example all same among begins segmentNames numberFrom nameOfLetters placeFits severityOf kindOf ruleOf times text codeSet ruleIn section distinct sections decoded
+unfolding head rule sized part book example all same among begins segmentNames numberFrom nameOfLetters placeFits severityOf kindOf ruleSaid ruleOf times text codeSet ruleIn section distinct sections decoded
 example-says = refl

@@ -12,12 +12,11 @@ use lib.Seq.{getD-set-same, getD-set-other}
 use Rattle.hl7.specs.Place.{delimsOf, segmentsOf}
 use Rattle.grade.specs.Strict.{keep, countFrom, pairsFrom}
 use Rattle.grade.specs.Limits.{namePlaces}
-use Rattle.grade.specs.Rule.{theEnd, counted, otherNumber}
-use Rattle.grade.specs.Standing.{noRule}
+use Rattle.grade.specs.Rule.{theEnd, counted, otherNumber, noRule}
 use Rattle.grade.specs.Order.{nameOf, nameAt, nameBefore, earlier, outOfOrder}
 use Rattle.grade.specs.Broken.{breaksRule}
-use Rattle.grade.specs.Findings.{isAbout, ruleNumbered, segmentAt, named, valuesAt, orderBroken, ordinalAt, findingAt, findingOf, breaksAt, breaks, turns, findings}
-use Rattle.grade.specs.Rest.{brokenValues, valueFinding, ofRule, ofRules, orderFinding, ofOrder, gradeSegments}
+use Rattle.grade.specs.Findings.{isAbout, ruleNumbered, segmentAt, named, valuesAt, orderBroken, ordinalAt, findingAt, findingOf, breaksAt, breaks, turns, findings, valueFinding, orderFinding}
+use Rattle.grade.specs.Rest.{brokenValues, ofRule, ofRules, ofOrder, gradeSegments}
 use Rattle.grade.specs.declared.rule.Rule.{Rule}
 use Rattle.grade.specs.declared.finding.Finding.{Finding}
 use Rattle.grade.proofs.Naming.{counted-bounds, uncounted}

@@ -19,9 +19,9 @@ use Rattle.grade.specs.declared.rule.KindRead.{KindRead}
 use Rattle.grade.specs.declared.rule.RuleRead.{RuleRead}
 use Rattle.grade.specs.Limits.{headSize, bookLimit, bookVersion, sectionLimit, keyLimit, ruleLimit, ruleSize, setLimit, codeLimit, codeCountLimit}
 use Rattle.grade.specs.Reader.{found, itemsOf, Reader, run, twoBytes, byte, times}
-use Rattle.grade.specs.Rule.{counted, segmentNames, nameBytes, nameOfLetters, severityOf, kindOf, kindFits, placeFits, ruleOf, ruleFits}
+use Rattle.grade.specs.Rule.{counted, segmentNames, nameBytes, nameOfLetters, severityOf, severityLetter, kindOf, unusedZero, ruleSaid, ruleOf, ruleFits}
 use Rattle.grade.specs.Book.{plain, text, codeSet, ruleIn, Contents, section, sections, distinct, keys, headRight, version, malformed, otherVersion, decoded}
-use Rattle.grade.specs.Encoding.{twoBytesOf, spellAll, textBytes, setBytes, severityByte, kindByte, lastBytes, ruleBytes, sectionBytes, bookBytes, each, textFits, setFits, sectionFits, wellFormed}
+use Rattle.grade.specs.Encoding.{twoBytesOf, spellAll, textBytes, setBytes, kindByte, lastBytes, ruleBytes, sectionBytes, bookBytes, each, textFits, setFits, sectionFits, wellFormed}
 use Rattle.grade.proofs.Naming.{at-counted, letters-name}
 use Rattle.grade.proofs.Holding.{place-limits}
 
@@ -99,21 +99,28 @@ three : (n : ℕ) → counted n ≡ true → nameBytes n ≡ getD (nameBytes n) 
 unfolding nameBytes segmentNames same
 three n h = same-equal _ _ (at-counted threeAt refl n h)
 
-severity-back : (severity : Severity) → severityOf (severityByte severity) ≡ SeverityRead.Is severity
+severity-back : (severity : Severity) → severityOf (severityLetter severity) ≡ SeverityRead.Is severity
 unfolding severityOf
 severity-back Severity.Error = refl
 severity-back Severity.Warning = refl
 severity-back Severity.Informational = refl
 
-kind-back : (sets : ℕ) (kind : Kind) → kindFits sets kind ≡ true →
-    kindOf (kindByte kind) sets (getD (lastBytes kind) 0 0) (getD (lastBytes kind) 1 0) (getD (lastBytes kind) 2 0) ≡ KindRead.Is kind
+kind-back : (kind : Kind) → kindOf (kindByte kind) (getD (lastBytes kind) 0 0) (getD (lastBytes kind) 1 0) (getD (lastBytes kind) 2 0) ≡ KindRead.Is kind
 unfolding kindOf
-kind-back sets Kind.Required h = refl
-kind-back sets (Kind.Length low high) h = rw h
-kind-back sets Kind.Number h = refl
-kind-back sets Kind.Date h = refl
-kind-back sets (Kind.Time digits) h = rw h
-kind-back sets (Kind.Code set) h = rw h
+kind-back Kind.Required = refl
+kind-back (Kind.Length low high) = refl
+kind-back Kind.Number = refl
+kind-back Kind.Date = refl
+kind-back (Kind.Time digits) = refl
+kind-back (Kind.Code set) = refl
+
+zero-back : (kind : Kind) → unusedZero kind (getD (lastBytes kind) 0 0) (getD (lastBytes kind) 1 0) (getD (lastBytes kind) 2 0) ≡ true
+zero-back Kind.Required = refl
+zero-back (Kind.Length low high) = refl
+zero-back Kind.Number = refl
+zero-back Kind.Date = refl
+zero-back (Kind.Time digits) = refl
+zero-back (Kind.Code set) = refl
 
 last-three : (kind : Kind) → length (lastBytes kind) ≡ 3
 last-three Kind.Required = refl
@@ -124,15 +131,13 @@ last-three (Kind.Time digits) = refl
 last-three (Kind.Code set) = refl
 
 rule-ten : (r : Rule) (name : List ℕ) (x y z : ℕ) → name ≡ x ∷ y ∷ z ∷ [] →
-    length (name ++ (r .place .field ∷ r .place .component ∷ kindByte (r .kind) ∷ severityByte (r .severity) ∷ lastBytes (r .kind))) ≡ ruleSize
+    length (name ++ (r .place .field ∷ r .place .component ∷ kindByte (r .kind) ∷ severityLetter (r .severity) ∷ lastBytes (r .kind))) ≡ ruleSize
 rule-ten r name x y z e = rw (e, last-three (r .kind))
 
 rule-back : (sets : ℕ) (r : Rule) (name : List ℕ) (x y z : ℕ) → name ≡ x ∷ y ∷ z ∷ [] → nameOfLetters x y z ≡ r .place .segment → ruleFits sets r ≡ true →
-    ruleOf sets (name ++ (r .place .field ∷ r .place .component ∷ kindByte (r .kind) ∷ severityByte (r .severity) ∷ lastBytes (r .kind))) ≡ RuleRead.Is r
-unfolding ruleOf
-rule-back sets r name x y z e s h =
-    let t = and-both (placeFits (r .place)) (kindFits sets (r .kind)) h in
-    rw (e, s, t .0, severity-back (r .severity), kind-back sets (r .kind) (t .1))
+    ruleOf sets (name ++ (r .place .field ∷ r .place .component ∷ kindByte (r .kind) ∷ severityLetter (r .severity) ∷ lastBytes (r .kind))) ≡ RuleRead.Is r
+unfolding ruleOf ruleSaid
+rule-back sets r name x y z e s h = rw (e, s, severity-back (r .severity), kind-back (r .kind), h, zero-back (r .kind))
 
 read-rule : (b : List ℕ) (sets : ℕ) → Reads b (ruleIn sets) ruleBytes (ruleFits sets)
 unfolding ruleIn

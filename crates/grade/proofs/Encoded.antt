@@ -20,10 +20,10 @@ use Rattle.grade.specs.declared.rule.KindRead.{KindRead}
 use Rattle.grade.specs.declared.rule.RuleRead.{RuleRead}
 use Rattle.grade.specs.Limits.{headSize, bookLimit, bookVersion, keyLimit, codeLimit, ruleSize}
 use Rattle.grade.specs.Reader.{Parsed, fault, found, isFound, itemsOf, Reader, pair, times}
-use Rattle.grade.specs.Rule.{severityOf, unused, timeDigits, kindIf, kindOf, ruleOf, ruleFits}
+use Rattle.grade.specs.Rule.{severityOf, severityLetter, kindOf, unusedZero, ruleOf, ruleFits}
 use Rattle.grade.specs.Book.{text, codeSet, ruleIn, Contents, section, sections, headRight, version, malformed, otherVersion, decoded}
 use Rattle.grade.specs.Standing.{textEnd, siteAt}
-use Rattle.grade.specs.Encoding.{twoBytesOf, spellAll, textBytes, setBytes, severityByte, kindByte, lastBytes, ruleBytes, sectionBytes, bookBytes, each, textFits, setFits, sectionFits, wellFormed}
+use Rattle.grade.specs.Encoding.{twoBytesOf, spellAll, textBytes, setBytes, kindByte, lastBytes, ruleBytes, sectionBytes, bookBytes, each, textFits, setFits, sectionFits, wellFormed}
 use Rattle.grade.proofs.Readings.{found-same, row-found, row-length, cond-gave}
 use Rattle.grade.proofs.Naming.{name-letters}
 use Rattle.grade.proofs.Parts.{TextRead, text-read, set-is, rule-found, rule-made, read-fits, section-parts, set-count, BookParts, book-parts}
@@ -99,60 +99,48 @@ module _ (b : List ℕ) (small : Bytes b) where
 
 -- ---- the ten bytes of a rule
 
-severity-spelt : (x : ℕ) (severity : Severity) → severityOf x ≡ SeverityRead.Is severity → x ≡ severityByte severity
+severity-spelt : (x : ℕ) (severity : Severity) → severityOf x ≡ SeverityRead.Is severity → x ≡ severityLetter severity
 unfolding severityOf
 severity-spelt x severity =
-    cond-gave (eqb x 69) _ _ (SeverityRead.Is severity) (λ t h. eqb-true x 69 t ∙ ap severityByte (same-severity Severity.Error h))
-    (cond-gave (eqb x 87) _ _ (SeverityRead.Is severity) (λ t h. eqb-true x 87 t ∙ ap severityByte (same-severity Severity.Warning h))
-    (cond-gave (eqb x 73) _ _ (SeverityRead.Is severity) (λ t h. eqb-true x 73 t ∙ ap severityByte (same-severity Severity.Informational h))
+    cond-gave (eqb x 69) _ _ (SeverityRead.Is severity) (λ t h. eqb-true x 69 t ∙ ap severityLetter (same-severity Severity.Error h))
+    (cond-gave (eqb x 87) _ _ (SeverityRead.Is severity) (λ t h. eqb-true x 87 t ∙ ap severityLetter (same-severity Severity.Warning h))
+    (cond-gave (eqb x 73) _ _ (SeverityRead.Is severity) (λ t h. eqb-true x 73 t ∙ ap severityLetter (same-severity Severity.Informational h))
     (λ h. none h)))
   where
     same-severity : (made : Severity) → SeverityRead.Is made ≡ SeverityRead.Is severity → made ≡ severity
     same-severity made h = cc
 
-    none : SeverityRead.Fault ≡ SeverityRead.Is severity → x ≡ severityByte severity
+    none : SeverityRead.Fault ≡ SeverityRead.Is severity → x ≡ severityLetter severity
     none h = let z : _≡_ {A = ℕ} 0 1 = cc in absurd (omega arith)
 
 -- the kind's number and the last three bytes
-module _ (number sets set low high : ℕ) (kind : Kind) where
+module _ (number set low high : ℕ) (kind : Kind) (zero : unusedZero kind set low high ≡ true) where
   abbrev KindSpelt : Type 0
   KindSpelt = (number ≡ kindByte kind) × (set ∷ low ∷ high ∷ [] ≡ lastBytes kind)
 
-  kind-case : (k : ℕ) (t : Bool) (made : Kind) (rest : KindRead) → k ≡ kindByte made → (t ≡ true → set ∷ low ∷ high ∷ [] ≡ lastBytes made) →
-      (rest ≡ KindRead.Is kind → KindSpelt) → cond (eqb number k) (kindIf t made) rest ≡ KindRead.Is kind → KindSpelt
-  kind-case k t made rest e l g =
-      cond-gave (eqb number k) (kindIf t made) rest (KindRead.Is kind) (λ u h. go t l (eqb-true number k u) h) g
+  kind-case : (k : ℕ) (made : Kind) (rest : KindRead) → k ≡ kindByte made → (unusedZero made set low high ≡ true → set ∷ low ∷ high ∷ [] ≡ lastBytes made) →
+      (rest ≡ KindRead.Is kind → KindSpelt) → cond (eqb number k) (KindRead.Is made) rest ≡ KindRead.Is kind → KindSpelt
+  kind-case k made rest e l g = cond-gave (eqb number k) (KindRead.Is made) rest (KindRead.Is kind) (λ u h. go (eqb-true number k u) h) g
     where
-      go : (t : Bool) → (t ≡ true → set ∷ low ∷ high ∷ [] ≡ lastBytes made) → number ≡ k → kindIf t made ≡ KindRead.Is kind → KindSpelt
-      go true l u h = let q : made ≡ kind = cc in (u ∙ e ∙ ap kindByte q, l refl ∙ ap lastBytes q)
-      go false l u h = let z : _≡_ {A = ℕ} 0 1 = cc in absurd (omega arith)
+      go : number ≡ k → KindRead.Is made ≡ KindRead.Is kind → KindSpelt
+      go u h = let q : made ≡ kind = cc in (u ∙ e ∙ ap kindByte q, l (rw q zero) ∙ ap lastBytes q)
 
-  kind-spelt : kindOf number sets set low high ≡ KindRead.Is kind → KindSpelt
+  kind-spelt : kindOf number set low high ≡ KindRead.Is kind → KindSpelt
   unfolding kindOf
   kind-spelt =
-      kind-case 1 (unused set && unused low && unused high) Kind.Required _ refl (λ t. nothing t)
-      (kind-case 2 (unused set && within 1 high low) (Kind.Length low high) _ refl (λ t. ap (λ (x : ℕ). x ∷ low ∷ high ∷ []) (eqb-true set 0 (and-both (unused set) (within 1 high low) t .0)))
-      (kind-case 3 (unused set && unused low && unused high) Kind.Number _ refl (λ t. nothing t)
-      (kind-case 4 (unused set && unused low && unused high) Kind.Date _ refl (λ t. nothing t)
-      (kind-case 5 (unused set && timeDigits low && unused high) (Kind.Time low) _ refl (λ t. digits t)
-      (kind-case 6 (within 1 sets set && unused low && unused high) (Kind.Code set) _ refl (λ t. code t)
+      kind-case 1 Kind.Required _ refl (λ t. nothing t)
+      (kind-case 2 (Kind.Length low high) _ refl (λ t. ap (λ (x : ℕ). x ∷ low ∷ high ∷ []) (eqb-true set 0 t))
+      (kind-case 3 Kind.Number _ refl (λ t. nothing t)
+      (kind-case 4 Kind.Date _ refl (λ t. nothing t)
+      (kind-case 5 (Kind.Time low) _ refl (λ t. let w = and-both (eqb set 0) (eqb high 0) t in rw (eqb-true set 0 (w .0), eqb-true high 0 (w .1)))
+      (kind-case 6 (Kind.Code set) _ refl (λ t. let w = and-both (eqb low 0) (eqb high 0) t in rw (eqb-true low 0 (w .0), eqb-true high 0 (w .1)))
       (λ h. none h))))))
     where
-      nothing : (unused set && unused low && unused high) ≡ true → _≡_ {A = List ℕ} (set ∷ low ∷ high ∷ []) (0 ∷ 0 ∷ 0 ∷ [])
+      nothing : (eqb set 0 && eqb low 0 && eqb high 0) ≡ true → _≡_ {A = List ℕ} (set ∷ low ∷ high ∷ []) (0 ∷ 0 ∷ 0 ∷ [])
       nothing t =
-          let w = and-both _ (unused high) t in
-          let v = and-both (unused set) (unused low) (w .0) in
+          let w = and-both _ (eqb high 0) t in
+          let v = and-both (eqb set 0) (eqb low 0) (w .0) in
           rw (eqb-true set 0 (v .0), eqb-true low 0 (v .1), eqb-true high 0 (w .1))
-
-      digits : (unused set && timeDigits low && unused high) ≡ true → _≡_ {A = List ℕ} (set ∷ low ∷ high ∷ []) (0 ∷ low ∷ 0 ∷ [])
-      digits t =
-          let w = and-both _ (unused high) t in
-          rw (eqb-true set 0 (and-both (unused set) (timeDigits low) (w .0) .0), eqb-true high 0 (w .1))
-
-      code : (within 1 sets set && unused low && unused high) ≡ true → _≡_ {A = List ℕ} (set ∷ low ∷ high ∷ []) (set ∷ 0 ∷ 0 ∷ [])
-      code t =
-          let w = and-both _ (unused high) t in
-          rw (eqb-true low 0 (and-both (within 1 sets set) (unused low) (w .0) .1), eqb-true high 0 (w .1))
 
       none : KindRead.Fault ≡ KindRead.Is kind → KindSpelt
       none h = let z : _≡_ {A = ℕ} 0 1 = cc in absurd (omega arith)
@@ -169,9 +157,9 @@ tab-self (x ∷ l) n h = rw (← h) (ap (λ (xs : List ℕ). x ∷ xs) (tab-self
 rule-bytes : (sets : ℕ) (ten : List ℕ) (r : Rule) → length ten ≡ ruleSize → ruleOf sets ten ≡ RuleRead.Is r → ten ≡ ruleBytes r
 rule-bytes sets ten r l h =
     let m = rule-made sets ten r h in
-    let p = place-limits sets r (read-fits sets ten r h) in
+    let p = place-limits sets r (m .fits) in
     let s = name-letters (getD ten 0 0) (getD ten 1 0) (getD ten 2 0) (r .place .segment) (p .segment) (ap (λ (x : Place). x .segment) (m .place)) in
-    let k = kind-spelt (getD ten 5 0) sets (getD ten 7 0) (getD ten 8 0) (getD ten 9 0) (r .kind) (m .kind) in
+    let k = kind-spelt (getD ten 5 0) (getD ten 7 0) (getD ten 8 0) (getD ten 9 0) (r .kind) (m .zero) (m .kind) in
     tab-self ten ruleSize l
     ∙ ap₂ _++_ s
     (ap₂ _∷_ (ap (λ (x : Place). x .field) (m .place))

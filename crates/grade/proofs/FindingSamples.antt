@@ -6,14 +6,14 @@ use Rattle.hl7.specs.Text.{bytes}
 use Rattle.hl7.specs.Bytes.{same, among, begins}
 use Rattle.hl7.specs.Cut.{cut, ahead, butLast, startAt}
 use Rattle.hl7.specs.Place.{delimsOf, nthOf, cutUnless, partOfField, neverCut, componentOf, repetitionsOf}
-use Rattle.grade.specs.Rule.{theEnd, msh, pid, pd1, nk1, pv1, orc, rxa, rxr, obx, nte, segmentNames, numberFrom, nameOfLetters, errorCode}
+use Rattle.grade.specs.Rule.{theEnd, msh, pid, pd1, nk1, pv1, orc, rxa, rxr, obx, nte, segmentNames, numberFrom, nameOfLetters}
 use Rattle.grade.specs.Digits.{countWithin, digitRun}
 use Rattle.grade.specs.Calendar.{monthLength, isRealDate}
 use Rattle.grade.specs.Values.{isDate}
 use Rattle.grade.specs.Order.{nameOf, nameBefore, earlier, isIn, mayFollow}
-use Rattle.grade.specs.Broken.{broken, judges, breaksRule, severityLetter}
+use Rattle.grade.specs.Broken.{broken, judges, breaksRule}
 use Rattle.grade.specs.Strict.{keep, countFrom, pairsFrom}
-use Rattle.grade.specs.Findings.{findings}
+use Rattle.grade.specs.Findings.{orderFinding, valueFinding, findings}
 use Rattle.grade.specs.declared.rule.Kind.{Kind}
 use Rattle.grade.specs.declared.rule.Kind.the-variants.{Required, Length, Date, Code}
 use Rattle.grade.specs.declared.rule.Severity.{Severity}
@@ -37,23 +37,9 @@ message (seg ∷ segs) = seg ++ (13 ∷ message segs)
 abbrev rule : ℕ → ℕ → ℕ → Kind → Severity → Rule
 rule segment field component kind severity = record { place = record { segment = segment; field = field; component = component }; kind = kind; severity = severity }
 
--- the order finding of a segment by name and number, and of the end
-abbrev order : ℕ → ℕ → Finding
-order name ordinal = record { name = name; ordinal = ordinal; field = 0; repetition = 0; component = 0; rule = 0; code = 100; severity = severityLetter Error }
-
 -- rule i is broken at a repetition of the number-th segment of its name
 abbrev breach : ℕ → ℕ → ℕ → Rule → Finding
-breach i ordinal repetition r =
-    record {
-      name = r .place .segment;
-      ordinal = ordinal;
-      field = r .place .field;
-      repetition = repetition;
-      component = r .place .component;
-      rule = i;
-      code = errorCode (r .kind);
-      severity = severityLetter (r .severity);
-    }
+breach i ordinal repetition r = valueFinding (r .place .segment) ordinal r i repetition
 
 -- a section's rules, the segments of a message, and the findings
 record Sample : Type 0 where
@@ -90,13 +76,13 @@ sexed = rule pid 8 0 Required Warning
 
 abbrev table : List Sample
 table =
-    unruled (bytes "MSH" ∷ bytes "PID" ∷ bytes "ORC" ∷ bytes "ORC" ∷ bytes "RXA" ∷ []) (order orc 2 ∷ [])
-    ∷ unruled (bytes "MSH" ∷ bytes "PID" ∷ bytes "ORC" ∷ []) (order theEnd 0 ∷ [])
+    unruled (bytes "MSH" ∷ bytes "PID" ∷ bytes "ORC" ∷ bytes "ORC" ∷ bytes "RXA" ∷ []) (orderFinding orc 2 ∷ [])
+    ∷ unruled (bytes "MSH" ∷ bytes "PID" ∷ bytes "ORC" ∷ []) (orderFinding theEnd 0 ∷ [])
     ∷ unruled (bytes "MSH" ∷ bytes "ZZZ" ∷ bytes "PID" ∷ []) []
-    ∷ unruled (bytes "MSH" ∷ bytes "PID" ∷ bytes "RXA" ∷ bytes "OBX" ∷ []) (order rxa 1 ∷ [])
+    ∷ unruled (bytes "MSH" ∷ bytes "PID" ∷ bytes "RXA" ∷ bytes "OBX" ∷ []) (orderFinding rxa 1 ∷ [])
     -- a later MSH is out of order, and PID may follow it
-    ∷ unruled (bytes "MSH" ∷ bytes "PID" ∷ bytes "MSH" ∷ bytes "PID" ∷ []) (order msh 2 ∷ [])
-    ∷ unruled (bytes "MSH" ∷ []) (order theEnd 0 ∷ [])
+    ∷ unruled (bytes "MSH" ∷ bytes "PID" ∷ bytes "MSH" ∷ bytes "PID" ∷ []) (orderFinding msh 2 ∷ [])
+    ∷ unruled (bytes "MSH" ∷ []) (orderFinding theEnd 0 ∷ [])
     ∷ unruled [] []
     -- every bad repetition, by its own number; the empty one is not judged
     ∷ record { rules = long ∷ []; segments = bytes "MSH" ∷ bytes "PID|x~~y" ∷ []; gives = breach 1 1 1 long ∷ breach 1 1 3 long ∷ [] }
@@ -114,7 +100,7 @@ table =
     ∷ record {
       rules = dosed ∷ [];
       segments = bytes "MSH" ∷ bytes "PID" ∷ bytes "ORC" ∷ bytes "RXA|x" ∷ bytes "ORC" ∷ bytes "RXA" ∷ bytes "RXA" ∷ [];
-      gives = breach 1 2 1 dosed ∷ order rxa 3 ∷ breach 1 3 1 dosed ∷ [];
+      gives = breach 1 2 1 dosed ∷ orderFinding rxa 3 ∷ breach 1 3 1 dosed ∷ [];
     }
     -- the paper's example
     ∷ record {

@@ -18,11 +18,11 @@ use Rattle.grade.specs.declared.rule.Rule.{Rule}
 use Rattle.grade.specs.declared.rule.RuleRead.{RuleRead}
 use Rattle.grade.specs.Limits.{ruleSize, fieldLimit, componentLimit}
 use Rattle.grade.specs.Reader.{found, isFound, itemsOf, times}
-use Rattle.grade.specs.Rule.{counted, nameOfLetters, firstField, placeFits, kindFits, ruleOf, ruleFits}
+use Rattle.grade.specs.Rule.{counted, nameOfLetters, firstField, placeFits, kindFits, ruleSaid, ruleOf, ruleFits, noRule}
 use Rattle.grade.specs.Book.{ruleIn, codeSet}
-use Rattle.grade.specs.Standing.{starting, rulesIn, setsIn, noRule, Holds, codesAt, SetAt, Placed}
+use Rattle.grade.specs.Standing.{starting, rulesIn, setsIn, Holds, codesAt, SetAt, Placed}
 use Rattle.grade.proofs.Readings.{then-found, found-same, ended, row-at, row-length, starts-say, starts-stand}
-use Rattle.grade.proofs.Parts.{made-there, rule-found, read-fits}
+use Rattle.grade.proofs.Parts.{place-there, rule-found, read-said, read-fits}
 
 module _ (b : List ℕ) (s : Section) (h : Holds b s) where
   rules-read : times (s .«rule_count») (ruleIn (s .«set_count»)) b (s .«rules_at») ≡ found (rulesIn b s) (s .«sets_at»)
@@ -52,13 +52,19 @@ module _ (b : List ℕ) (s : Section) (h : Holds b s) where
         let f = rule-found sets b at r (at + ruleSize) q in
         (f .0, f .1)
 
+    -- what they say
+    pub its-said : ruleSaid (slice (s .«rules_at» + ruleSize * i) (s .«rules_at» + ruleSize * i + ruleSize) b) ≡ RuleRead.Is (getD (rulesIn b s) i noRule)
+    its-said =
+        let at = s .«rules_at» + ruleSize * i in
+        read-said (s .«set_count») (slice at (at + ruleSize) b) (getD (rulesIn b s) i noRule) (its-bytes .1)
+
     -- the three letters of its segment
     pub its-name :
         nameOfLetters (getD b (s .«rules_at» + ruleSize * i) 0) (getD b (s .«rules_at» + ruleSize * i + 1) 0) (getD b (s .«rules_at» + ruleSize * i + 2) 0)
         ≡ getD (rulesIn b s) i noRule .place .segment
     its-name =
         let at = s .«rules_at» + ruleSize * i in
-        ap (λ (p : Place). p .segment) (made-there (s .«set_count») b at (getD (rulesIn b s) i noRule) (its-bytes .1) .0)
+        ap (λ (p : Place). p .segment) (place-there (s .«set_count») b at (getD (rulesIn b s) i noRule) (its-bytes .1))
 
     -- a rule of the section is within its limits
     pub rule-fits : ruleFits (s .«set_count») (getD (rulesIn b s) i noRule) ≡ true

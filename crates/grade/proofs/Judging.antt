@@ -13,11 +13,11 @@ use Rattle.hl7.specs.Place.{isMsh, neverCut, fieldOf, cutUnless, repetitionsOf}
 use Rattle.hl7.specs.declared.place.Delims.{Delims}
 use Rattle.hl7.proofs.Walking.{parts-start}
 use Rattle.hl7.proofs.Placing.{cut-later}
-use Rattle.grade.specs.Rule.{msh, counted, firstField, kindFits, ruleFits}
-use Rattle.grade.specs.Standing.{noRule, rulesIn, setsIn, SetStands, codesAt, SetAt}
+use Rattle.grade.specs.Rule.{msh, counted, firstField, kindFits, ruleFits, noRule}
+use Rattle.grade.specs.Standing.{rulesIn, setsIn, SetStands, codesAt, SetAt}
 use Rattle.grade.specs.Broken.{judges, broken, codesOf, breaksRule}
-use Rattle.grade.specs.Findings.{valueIn, valuesOf}
-use Rattle.grade.specs.Rest.{CodesStand, CodesAre, breaksBy, brokenValues, brokenFrom, valueFinding, ofRule, ofRules, leftOf}
+use Rattle.grade.specs.Findings.{valueIn, valuesOf, valueFinding}
+use Rattle.grade.specs.Rest.{CodesStand, CodesAre, breaksBy, brokenValues, brokenFrom, ofRule, ofRules, leftOf}
 use Rattle.grade.proofs.Holding.{place-limits, code-limits}
 use Rattle.grade.specs.declared.rule.Kind.{Kind}
 use Rattle.grade.specs.declared.rule.Kind.the-variants.{Required, Length, Number, Date, Time, Code}

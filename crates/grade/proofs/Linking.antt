@@ -11,7 +11,8 @@ use lib.ListN.{length, getD, drop, set, replicate, getD-replicate, length-set, d
 use lib.Seq.{drop-cons, getD-set-same, getD-set-other, ext-getD}
 use Rattle.hl7.specs.declared.place.Delims.{Delims}
 use Rattle.grade.specs.Limits.{namePlaces, linkLimit}
-use Rattle.grade.specs.Standing.{noRule, rulesIn}
+use Rattle.grade.specs.Rule.{noRule}
+use Rattle.grade.specs.Standing.{rulesIn}
 use Rattle.grade.specs.Linked.{nextAbout, Linked}
 use Rattle.grade.proofs.Judging.{rulesHere, other-rule, rules-next}
 use Rattle.grade.specs.declared.rule.Rule.{Rule}

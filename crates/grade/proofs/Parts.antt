@@ -13,17 +13,16 @@ use Rattle.hl7.specs.Bytes.{within, all}
 use Rattle.hl7.proofs.Comparing.{and-both}
 use Rattle.grade.specs.declared.walk.Section.{Section}
 use Rattle.grade.specs.declared.walk.Next.{Next}
-use Rattle.grade.specs.declared.rule.Kind.{Kind}
 use Rattle.grade.specs.declared.rule.Place.{Place}
 use Rattle.grade.specs.declared.rule.KindRead.{KindRead}
 use Rattle.grade.specs.declared.rule.SeverityRead.{SeverityRead}
 use Rattle.grade.specs.declared.rule.Rule.{Rule}
 use Rattle.grade.specs.declared.rule.RuleRead.{RuleRead}
 use Rattle.grade.specs.Limits.{headSize, sectionLimit, keyLimit, ruleLimit, ruleSize, setLimit, codeLimit, codeCountLimit}
-use Rattle.grade.specs.Reader.{Parsed, found, isFound, itemsOf, check, times, byte, run, pair, twoBytes}
-use Rattle.grade.specs.Rule.{nameOfLetters, unused, timeDigits, kindIf, kindOf, isKind, kindFits, severityOf, isSeverity, placeFits, placeOf, ruleWith, ruleOf, isRule, ruleFits}
+use Rattle.grade.specs.Reader.{Parsed, fault, found, isFound, itemsOf, check, times, byte, run, pair, twoBytes}
+use Rattle.grade.specs.Rule.{nameOfLetters, severityOf, kindOf, unusedZero, placeOf, noRule, ruleWith, ruleSaid, ruleFits, ruleIf, ruleWithin, ruleOf, isRule}
 use Rattle.grade.specs.Book.{plain, keys, text, section, ruleIn, codeSet, Contents, ruleRead, distinct, nothingAfter, sections}
-use Rattle.grade.specs.Standing.{endOf, mapped, textEnd, textAt, TextFits, standsAt, contentsOf, contentsAt, siteAt, starting, noRule, SetStands}
+use Rattle.grade.specs.Standing.{endOf, mapped, textEnd, textAt, TextFits, standsAt, contentsOf, contentsAt, siteAt, starting, SetStands}
 use Rattle.grade.proofs.Readings.{then-found, found-same, check-found, byte-found, run-found, two-found, ended, is-found, row-end, row-inside, row-found, cond-gave, starts-say}
 
 -- ---- texts
@@ -97,34 +96,51 @@ set-is b at h =
 
 -- ---- rules
 
--- the parts that make a rule
+-- what makes a rule: what its bytes say, and that it is within its limits
 pub record RuleMade (sets : ℕ) (ten : List ℕ) (r : Rule) : Type 0 where
-  pub fits : placeFits (placeOf ten) ≡ true
   pub place : placeOf ten ≡ r .place
   pub severity : severityOf (getD ten 6 0) ≡ SeverityRead.Is (r .severity)
-  pub kind : kindOf (getD ten 5 0) sets (getD ten 7 0) (getD ten 8 0) (getD ten 9 0) ≡ KindRead.Is (r .kind)
+  pub kind : kindOf (getD ten 5 0) (getD ten 7 0) (getD ten 8 0) (getD ten 9 0) ≡ KindRead.Is (r .kind)
+  pub fits : ruleFits sets r ≡ true
+  pub zero : unusedZero (r .kind) (getD ten 7 0) (getD ten 8 0) (getD ten 9 0) ≡ true
 
-with-made : (t : Bool) (p : Place) (v : SeverityRead) (k : KindRead) (r : Rule) → ruleWith t p v k ≡ RuleRead.Is r →
-    (t ≡ true) × (p ≡ r .place) × (v ≡ SeverityRead.Is (r .severity)) × (k ≡ KindRead.Is (r .kind))
-with-made true p (SeverityRead.Is severity) (KindRead.Is kind) r e =
+with-made : (p : Place) (v : SeverityRead) (k : KindRead) (r : Rule) → ruleWith p v k ≡ RuleRead.Is r →
+    (p ≡ r .place) × (v ≡ SeverityRead.Is (r .severity)) × (k ≡ KindRead.Is (r .kind))
+with-made p (SeverityRead.Is severity) (KindRead.Is kind) r e =
     let q : _≡_ {A = Rule} (record { place = p; severity = severity; kind = kind }) r = cc in
-    (refl, ap (λ (x : Rule). x .place) q, ap (λ (x : Rule). SeverityRead.Is (x .severity)) q, ap (λ (x : Rule). KindRead.Is (x .kind)) q)
-with-made true p (SeverityRead.Is severity) KindRead.Fault r e = let z : _≡_ {A = ℕ} 0 1 = cc in absurd (omega arith)
-with-made true p SeverityRead.Fault k r e = let z : _≡_ {A = ℕ} 0 1 = cc in absurd (omega arith)
-with-made false p v k r e = let z : _≡_ {A = ℕ} 0 1 = cc in absurd (omega arith)
+    (ap (λ (x : Rule). x .place) q, ap (λ (x : Rule). SeverityRead.Is (x .severity)) q, ap (λ (x : Rule). KindRead.Is (x .kind)) q)
+with-made p (SeverityRead.Is severity) KindRead.Fault r e = let z : _≡_ {A = ℕ} 0 1 = cc in absurd (omega arith)
+with-made p SeverityRead.Fault k r e = let z : _≡_ {A = ℕ} 0 1 = cc in absurd (omega arith)
+
+within-made : (sets : ℕ) (ten : List ℕ) (x : RuleRead) (r : Rule) → ruleWithin sets ten x ≡ RuleRead.Is r →
+    (x ≡ RuleRead.Is r) × ((ruleFits sets r && unusedZero (r .kind) (getD ten 7 0) (getD ten 8 0) (getD ten 9 0)) ≡ true)
+within-made sets ten (RuleRead.Is rule) r e =
+    go (ruleFits sets rule && unusedZero (rule .kind) (getD ten 7 0) (getD ten 8 0) (getD ten 9 0)) refl e
+  where
+    go : (t : Bool) → (ruleFits sets rule && unusedZero (rule .kind) (getD ten 7 0) (getD ten 8 0) (getD ten 9 0)) ≡ t → ruleIf t rule ≡ RuleRead.Is r →
+        (RuleRead.Is rule ≡ RuleRead.Is r) × ((ruleFits sets r && unusedZero (r .kind) (getD ten 7 0) (getD ten 8 0) (getD ten 9 0)) ≡ true)
+    go true h e =
+        let q : rule ≡ r = cc in
+        (e, rw (← q) h)
+    go false h e = let z : _≡_ {A = ℕ} 0 1 = cc in absurd (omega arith)
+within-made sets ten RuleRead.Fault r e = let z : _≡_ {A = ℕ} 0 1 = cc in absurd (omega arith)
+
+-- a rule that was read is what its bytes say
+pub read-said : (sets : ℕ) (ten : List ℕ) (r : Rule) → ruleOf sets ten ≡ RuleRead.Is r → ruleSaid ten ≡ RuleRead.Is r
+unfolding ruleOf
+read-said sets ten r h = within-made sets ten (ruleSaid ten) r h .0
 
 pub rule-made : (sets : ℕ) (ten : List ℕ) (r : Rule) → ruleOf sets ten ≡ RuleRead.Is r → RuleMade sets ten r
-unfolding ruleOf
+unfolding ruleOf ruleSaid
 rule-made sets ten r h =
-    let w = with-made (placeFits (placeOf ten)) (placeOf ten) (severityOf (getD ten 6 0)) (kindOf (getD ten 5 0) sets (getD ten 7 0) (getD ten 8 0) (getD ten 9 0)) r h in
-    record { fits = w .0; place = w .1; severity = w .2; kind = w .3 }
+    let w = within-made sets ten (ruleSaid ten) r h in
+    let p = with-made (placeOf ten) (severityOf (getD ten 6 0)) (kindOf (getD ten 5 0) (getD ten 7 0) (getD ten 8 0) (getD ten 9 0)) r (w .0) in
+    let t = and-both (ruleFits sets r) (unusedZero (r .kind) (getD ten 7 0) (getD ten 8 0) (getD ten 9 0)) (w .1) in
+    record { place = p .0; severity = p .1; kind = p .2; fits = t .0; zero = t .1 }
 
--- there is a rule where its parts are
-pub with-is : (t : Bool) (p : Place) (v : SeverityRead) (k : KindRead) → isRule (ruleWith t p v k) ≡ (t && isSeverity v && isKind k)
-with-is true p (SeverityRead.Is severity) (KindRead.Is kind) = refl
-with-is true p (SeverityRead.Is severity) KindRead.Fault = refl
-with-is true p SeverityRead.Fault k = refl
-with-is false p v k = refl
+-- and it is within its limits
+pub read-fits : (sets : ℕ) (ten : List ℕ) (r : Rule) → ruleOf sets ten ≡ RuleRead.Is r → ruleFits sets r ≡ true
+read-fits sets ten r h = rule-made sets ten r h .fits
 
 slice-at : (b : List ℕ) (at n k : ℕ) → k < n → getD (slice at (at + n) b) k 0 ≡ getD b (at + k) 0
 slice-at b at n k h = getD-drop at (take (at + n) b) k 0 ∙ getD-take (at + n) b (at + k) 0 (omega arith)
@@ -139,15 +155,11 @@ placeAt b at =
     }
 
 -- what the ten bytes at a position say, read where they stand
-pub rule-there : (sets : ℕ) (b : List ℕ) (at : ℕ) →
-    ruleOf sets (slice at (at + ruleSize) b)
-    ≡ ruleWith
-    (placeFits (placeAt b at))
-    (placeAt b at)
-    (severityOf (getD b (at + 6) 0))
-    (kindOf (getD b (at + 5) 0) sets (getD b (at + 7) 0) (getD b (at + 8) 0) (getD b (at + 9) 0))
-unfolding ruleOf
-rule-there sets b at =
+pub said-there : (b : List ℕ) (at : ℕ) →
+    ruleSaid (slice at (at + ruleSize) b)
+    ≡ ruleWith (placeAt b at) (severityOf (getD b (at + 6) 0)) (kindOf (getD b (at + 5) 0) (getD b (at + 7) 0) (getD b (at + 8) 0) (getD b (at + 9) 0))
+unfolding ruleSaid
+said-there b at =
     let first : getD (slice at (at + ruleSize) b) 0 0 ≡ getD b at 0 = slice-at b at ruleSize 0 (lit< tt) ∙ ap (λ (k : ℕ). getD b k 0) (add-zero at) in
     rw (
       first,
@@ -162,17 +174,27 @@ rule-there sets b at =
       slice-at b at ruleSize 9 (lit< tt),
     )
 
--- so are the parts of a rule
-pub made-there : (sets : ℕ) (b : List ℕ) (at : ℕ) (r : Rule) → ruleOf sets (slice at (at + ruleSize) b) ≡ RuleRead.Is r →
-    (placeAt b at ≡ r .place)
-    × (severityOf (getD b (at + 6) 0) ≡ SeverityRead.Is (r .severity))
-    × (kindOf (getD b (at + 5) 0) sets (getD b (at + 7) 0) (getD b (at + 8) 0) (getD b (at + 9) 0) ≡ KindRead.Is (r .kind))
-made-there sets b at r h =
-    let w =
-    with-made (placeFits (placeAt b at)) (placeAt b at) (severityOf (getD b (at + 6) 0)) (kindOf (getD b (at + 5) 0) sets (getD b (at + 7) 0) (getD b (at + 8) 0) (getD b (at + 9) 0)) r
-    (sym (rule-there sets b at) ∙ h)
-    in
-    (w .1, w .2, w .3)
+-- so is the place of a rule
+pub place-there : (sets : ℕ) (b : List ℕ) (at : ℕ) (r : Rule) → ruleOf sets (slice at (at + ruleSize) b) ≡ RuleRead.Is r → placeAt b at ≡ r .place
+place-there sets b at r h =
+    with-made (placeAt b at) (severityOf (getD b (at + 6) 0)) (kindOf (getD b (at + 5) 0) (getD b (at + 7) 0) (getD b (at + 8) 0) (getD b (at + 9) 0)) r
+    (sym (said-there b at) ∙ read-said sets (slice at (at + ruleSize) b) r h) .0
+
+-- and whether there is a rule
+pub rule-stands : (sets : ℕ) (b : List ℕ) (at : ℕ) (r : Rule) → ruleSaid (slice at (at + ruleSize) b) ≡ RuleRead.Is r →
+    (ruleFits sets r && unusedZero (r .kind) (getD b (at + 7) 0) (getD b (at + 8) 0) (getD b (at + 9) 0)) ≡ isRule (ruleOf sets (slice at (at + ruleSize) b))
+unfolding ruleOf
+rule-stands sets b at r e =
+    rw (e, slice-at b at ruleSize 7 (lit< tt), slice-at b at ruleSize 8 (lit< tt), slice-at b at ruleSize 9 (lit< tt))
+    (if-is (ruleFits sets r && unusedZero (r .kind) (getD b (at + 7) 0) (getD b (at + 8) 0) (getD b (at + 9) 0)))
+  where
+    if-is : (t : Bool) → t ≡ isRule (ruleIf t r)
+    if-is true = refl
+    if-is false = refl
+
+pub rule-faults : (sets : ℕ) (b : List ℕ) (at : ℕ) → ruleSaid (slice at (at + ruleSize) b) ≡ RuleRead.Fault → false ≡ isRule (ruleOf sets (slice at (at + ruleSize) b))
+unfolding ruleOf
+rule-faults sets b at e = rw e
 
 -- a rule that was found: its ten bytes stand in the book, and say it
 pub rule-found : (sets : ℕ) (b : List ℕ) (at : ℕ) (r : Rule) (e : ℕ) → ruleIn sets b at ≡ found r e →
@@ -187,40 +209,6 @@ rule-found sets b at r e h =
     go : (x : RuleRead) (m : ℕ) → ruleRead x b m ≡ found r e → (x ≡ RuleRead.Is r) × (e ≡ m)
     go (RuleRead.Is rule) m k = (cc, cc)
     go RuleRead.Fault m k = let z : _≡_ {A = ℕ} 0 1 = cc in absurd (omega arith)
-
--- a kind under a test
-pub kind-if-is : (t : Bool) (kind : Kind) → t ≡ isKind (kindIf t kind)
-kind-if-is true kind = refl
-kind-if-is false kind = refl
-
-pub kind-if-gave : (t : Bool) (made kind : Kind) → kindIf t made ≡ KindRead.Is kind → (t ≡ true) × (made ≡ kind)
-kind-if-gave true made kind h = (refl, cc)
-kind-if-gave false made kind h = let z : _≡_ {A = ℕ} 0 1 = cc in absurd (omega arith)
-
--- a kind that was read is within its limits
-module _ (sets : ℕ) (kind : Kind) where
-  branch : (t : Bool) (made : Kind) → (t ≡ true → kindFits sets made ≡ true) → kindIf t made ≡ KindRead.Is kind → kindFits sets kind ≡ true
-  branch t made f h = let w = kind-if-gave t made kind h in rw (← w .1) (f (w .0))
-
-  kind-fits : (number set low high : ℕ) → kindOf number sets set low high ≡ KindRead.Is kind → kindFits sets kind ≡ true
-  unfolding kindOf
-  kind-fits number set low high =
-      cond-gave (eqb number 1) _ _ (KindRead.Is kind) (λ _. branch (unused set && unused low && unused high) Kind.Required (λ t. refl))
-      (cond-gave (eqb number 2) _ _ (KindRead.Is kind) (λ _. branch _ (Kind.Length low high) (λ t. and-both (unused set) (within 1 high low) t .1))
-      (cond-gave (eqb number 3) _ _ (KindRead.Is kind) (λ _. branch (unused set && unused low && unused high) Kind.Number (λ t. refl))
-      (cond-gave (eqb number 4) _ _ (KindRead.Is kind) (λ _. branch (unused set && unused low && unused high) Kind.Date (λ t. refl))
-      (cond-gave (eqb number 5) _ _ (KindRead.Is kind) (λ _. branch _ (Kind.Time low) (λ t. and-both (unused set) (timeDigits low) (and-both _ (unused high) t .0) .1))
-      (cond-gave (eqb number 6) _ _ (KindRead.Is kind) (λ _. branch _ (Kind.Code set) (λ t. and-both (within 1 sets set) (unused low) (and-both _ (unused high) t .0) .0))
-      (λ h. none h))))))
-    where
-      none : KindRead.Fault ≡ KindRead.Is kind → kindFits sets kind ≡ true
-      none h = let z : _≡_ {A = ℕ} 0 1 = cc in absurd (omega arith)
-
--- a rule that was read is within its limits
-pub read-fits : (sets : ℕ) (ten : List ℕ) (r : Rule) → ruleOf sets ten ≡ RuleRead.Is r → ruleFits sets r ≡ true
-read-fits sets ten r h =
-    let m = rule-made sets ten r h in
-    rw (← m .place, m .fits) (kind-fits sets (r .kind) _ _ _ _ (m .kind))
 
 -- ---- sections
 

@@ -16,12 +16,12 @@ use Rattle.hl7.specs.Place.{delimsOf, carriageReturn, isMsh}
 use Rattle.hl7.specs.declared.place.Delims.{Delims}
 use Rattle.hl7.proofs.Walking.{ended-step, ended-stop}
 use Rattle.grade.specs.Limits.{segmentCount, namePlaces}
-use Rattle.grade.specs.Rule.{theEnd, msh, pid, counted, segmentNames, numberFrom, nameOfLetters, otherNumber}
-use Rattle.grade.specs.Standing.{Holds, rulesIn, setsIn, noRule}
+use Rattle.grade.specs.Rule.{theEnd, msh, pid, counted, segmentNames, numberFrom, nameOfLetters, otherNumber, noRule}
+use Rattle.grade.specs.Standing.{Holds, rulesIn, setsIn}
 use Rattle.grade.specs.Linked.{nextAbout, Linked}
 use Rattle.grade.specs.Order.{nameOf, outOfOrder}
-use Rattle.grade.specs.Findings.{findings}
-use Rattle.grade.specs.Rest.{HereStands, Parted, segmentRest, rulesFrom, orderFinding, ofOrder, ofSegment, NextWithin, gradeSegments, gradeFrom, CountsStand, rest, Stands, betweenAt, endBy, endOpened, enteredAt, Enters, Opens, Steps}
+use Rattle.grade.specs.Findings.{findings, orderFinding}
+use Rattle.grade.specs.Rest.{HereStands, Parted, segmentRest, rulesFrom, ofOrder, ofSegment, NextWithin, gradeSegments, gradeFrom, CountsStand, rest, Stands, betweenAt, endBy, endOpened, enteredAt, Enters, Opens, Steps}
 use Rattle.grade.specs.declared.walk.Section.{Section}
 use Rattle.grade.specs.declared.finding.Finding.{Finding}
 use Rattle.grade.specs.declared.within.Here.{Here}

@@ -16,10 +16,11 @@ use Rattle.hl7.specs.declared.place.Delims.{Delims}
 use Rattle.hl7.proofs.Comparing.{all-take, all-drop}
 use Rattle.hl7.proofs.Cutting.{between-inside}
 use Rattle.grade.specs.Limits.{namePlaces, fieldLimit}
-use Rattle.grade.specs.Rule.{ruleFits, kindFits}
-use Rattle.grade.specs.Standing.{Holds, rulesIn, setsIn, noRule}
+use Rattle.grade.specs.Rule.{ruleFits, kindFits, noRule}
+use Rattle.grade.specs.Standing.{Holds, rulesIn, setsIn}
 use Rattle.grade.specs.Linked.{nextAbout, Linked}
-use Rattle.grade.specs.Rest.{CodesAre, brokenFrom, NextValue, valueFinding, ofRules, leftOf, leftFrom, bytesOf, HereStands, Fielded, SpotStands, rulesFrom, segmentRest, NextOfRule, NextWithin}
+use Rattle.grade.specs.Findings.{valueFinding}
+use Rattle.grade.specs.Rest.{CodesAre, brokenFrom, NextValue, ofRules, leftOf, leftFrom, bytesOf, HereStands, Fielded, SpotStands, rulesFrom, segmentRest, NextOfRule, NextWithin}
 use Rattle.grade.specs.declared.rule.Rule.{Rule}
 use Rattle.grade.specs.declared.walk.Section.{Section}
 use Rattle.grade.specs.declared.finding.Finding.{Finding}

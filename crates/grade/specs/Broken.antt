@@ -1,6 +1,5 @@
 -- When a value breaks a rule: a yes or no about the rule and that value. Assumes nothing.
 use Prim.Native.Nat.{ℕ, _-_}
-use Prim.Native.Char.{code}
 use mathlib.Core.Bool.{Bool, true, false, cond, not, _&&_, _||_}
 use mathlib.Core.List.{List, []}
 use lib.ListN.{length, getD}
@@ -9,8 +8,6 @@ use Rattle.hl7.specs.Bytes.{among}
 use Rattle.grade.specs.Values.{hasLength, isNumber, isDate, isTime}
 use Rattle.grade.specs.declared.rule.Kind.{Kind}
 use Rattle.grade.specs.declared.rule.Kind.the-variants.{Required, Length, Number, Date, Time, Code}
-use Rattle.grade.specs.declared.rule.Severity.{Severity}
-use Rattle.grade.specs.declared.rule.Severity.the-variants.{Error, Warning, Informational}
 use Rattle.grade.specs.declared.rule.Rule.{Rule}
 
 abbrev pub isEmpty : List ℕ → Bool
@@ -53,9 +50,3 @@ codesOf sets (Code set) = getD sets (set - 1) []
 -- a rule is broken by the value at repetition r
 unfoldable pub breaksRule : List (List (List ℕ)) → Rule → ℕ → List ℕ → Bool
 breaksRule sets rule r value = judges (rule .kind) r && broken (rule .kind) (codesOf sets (rule .kind)) value
-
--- the letter that stands for a severity
-abbrev pub severityLetter : Severity → ℕ
-severityLetter Error = code "E"
-severityLetter Warning = code "W"
-severityLetter Informational = code "I"

@@ -1,18 +1,16 @@
 -- To be believed: the bytes of a book that says given things, the other way to say what a rule book is.
 -- `proofs/Encoded.antt` and `proofs/Decoded.antt` show that it is the inverse of the readers, in both directions.
 use Prim.Native.Nat.{ℕ, _/_, _%_}
-use Prim.Native.Char.{code}
 use mathlib.Core.Bool.{Bool, true, _&&_}
 use mathlib.Core.List.{List, [], _∷_, _++_}
 use lib.Dec.{leb}
 use lib.ListN.{length}
 use Rattle.hl7.specs.Text.{bytes}
 use Rattle.hl7.specs.Bytes.{within, all}
-use Rattle.grade.specs.declared.rule.Severity.{Severity}
 use Rattle.grade.specs.declared.rule.Kind.{Kind}
 use Rattle.grade.specs.declared.rule.Rule.{Rule}
 use Rattle.grade.specs.Limits.{bookLimit, bookVersion, sectionLimit, keyLimit, ruleLimit, setLimit, codeCountLimit, codeLimit}
-use Rattle.grade.specs.Rule.{nameBytes, ruleFits}
+use Rattle.grade.specs.Rule.{nameBytes, severityLetter, ruleFits}
 use Rattle.grade.specs.Book.{plain, Contents, distinct, keys}
 
 -- ---- bytes
@@ -30,11 +28,6 @@ textBytes letters = length letters ∷ letters
 
 abbrev pub setBytes : List (List ℕ) → List ℕ
 setBytes codes = twoBytesOf (length codes) ++ spellAll textBytes codes
-
-abbrev pub severityByte : Severity → ℕ
-severityByte Severity.Error = code "E"
-severityByte Severity.Warning = code "W"
-severityByte Severity.Informational = code "I"
 
 abbrev pub kindByte : Kind → ℕ
 kindByte Kind.Required = 1
@@ -56,7 +49,7 @@ lastBytes (Kind.Code set) = set ∷ 0 ∷ 0 ∷ []
 abbrev pub ruleBytes : Rule → List ℕ
 ruleBytes r =
     nameBytes (r .place .segment)
-    ++ (r .place .field ∷ r .place .component ∷ kindByte (r .kind) ∷ severityByte (r .severity) ∷ lastBytes (r .kind))
+    ++ (r .place .field ∷ r .place .component ∷ kindByte (r .kind) ∷ severityLetter (r .severity) ∷ lastBytes (r .kind))
 
 abbrev pub sectionBytes : Contents → List ℕ
 sectionBytes c =

@@ -9,9 +9,8 @@ use lib.Dec.{T, eqb}
 use Rattle.hl7.specs.Place.{delimsOf, segmentsOf, neverCut, repetitionsOf, componentOf}
 use Rattle.hl7.specs.declared.place.Delims.{Delims}
 use Rattle.grade.specs.Order.{nameAt, nameBefore, earlier, outOfOrder}
-use Rattle.grade.specs.Rule.{counted, errorCode}
-use Rattle.grade.specs.Standing.{noRule}
-use Rattle.grade.specs.Broken.{breaksRule, severityLetter}
+use Rattle.grade.specs.Rule.{counted, errorCode, noRule, severityLetter}
+use Rattle.grade.specs.Broken.{breaksRule}
 use Rattle.grade.specs.Strict.{Increasing, Lex, keep, countFrom, pairsFrom}
 use Rattle.grade.specs.declared.rule.Rule.{Rule}
 use Rattle.grade.specs.declared.rule.Severity.the-variants.{Error}
@@ -29,6 +28,26 @@ valueIn d whole rule rep = componentOf d whole rep (rule .place .component) .byt
 -- the values of a rule at a segment, one for each repetition of the rule's field
 abbrev pub valuesOf : Delims → Rule → List ℕ → List (List ℕ)
 valuesOf d rule seg = map (valueIn d (neverCut seg (rule .place .field)) rule) (repetitionsOf d seg (rule .place .field))
+
+-- ---- findings
+-- the order is broken at a segment, by its name and its number among the segments of that name
+abbrev pub orderFinding : ℕ → ℕ → Finding
+orderFinding name ordinal =
+    record { name = name; ordinal = ordinal; field = 0; repetition = 0; component = 0; rule = 0; code = 100; severity = severityLetter Error }
+
+-- rule i is broken there at repetition k, both counted from 1
+abbrev pub valueFinding : ℕ → ℕ → Rule → ℕ → ℕ → Finding
+valueFinding name ordinal rule i k =
+    record {
+      name = name;
+      ordinal = ordinal;
+      field = rule .place .field;
+      repetition = k;
+      component = rule .place .component;
+      rule = i;
+      code = errorCode (rule .kind);
+      severity = severityLetter (rule .severity);
+    }
 
 -- ---- events
 -- an event is a place: segment n (the end is the place after the last), rule number (0 is the order), repetition
@@ -79,26 +98,8 @@ module _ (follows : ℕ → ℕ → Bool) (rules : List Rule) (sets : List (List
   ordinalAt n = cond (counted (named n)) (suc (earlier (segmentsOf m) (named n) n)) 0
 
   abbrev pub findingAt : ℕ → ℕ → ℕ → Finding
-  findingAt n zero r = record {
-    name = named n;
-    ordinal = ordinalAt n;
-    field = 0;
-    repetition = 0;
-    component = 0;
-    rule = 0;
-    code = 100;
-    severity = severityLetter Error;
-  }
-  findingAt n (suc i) r = record {
-    name = named n;
-    ordinal = ordinalAt n;
-    field = ruleNumbered i .place .field;
-    repetition = suc r;
-    component = ruleNumbered i .place .component;
-    rule = suc i;
-    code = errorCode (ruleNumbered i .kind);
-    severity = severityLetter (ruleNumbered i .severity);
-  }
+  findingAt n zero r = orderFinding (named n) (ordinalAt n)
+  findingAt n (suc i) r = valueFinding (named n) (ordinalAt n) (ruleNumbered i) (suc i) (suc r)
 
   abbrev pub findingOf : Event → Finding
   findingOf e = findingAt (e .0) (e .1 .0) (e .1 .1)

@@ -6,7 +6,7 @@ use mathlib.Core.List.{List, [], _∷_}
 use lib.Dec.{eqb}
 use lib.ListN.{length, getD, drop}
 use Rattle.grade.specs.Limits.{namePlaces, linkLimit}
-use Rattle.grade.specs.Standing.{noRule}
+use Rattle.grade.specs.Rule.{noRule}
 use Rattle.grade.specs.declared.rule.Rule.{Rule}
 
 -- the first rule about a name among `rules`, whose first has number i, counted from 0; the number after them where there is none

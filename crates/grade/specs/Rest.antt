@@ -14,16 +14,15 @@ use Rattle.hl7.specs.Bytes.{all, differs}
 use Rattle.hl7.specs.Place.{carriageReturn, isMsh, fieldOf}
 use Rattle.hl7.specs.Refusals.{messageLimit}
 use Rattle.hl7.specs.declared.place.Delims.{Delims}
-use Rattle.grade.specs.Rule.{theEnd, msh, pid, counted, otherNumber, errorCode}
-use Rattle.grade.specs.Standing.{noRule, rulesIn, setsIn, Holds, Placed, SetStands, codesAt}
+use Rattle.grade.specs.Rule.{theEnd, msh, pid, counted, otherNumber, noRule}
+use Rattle.grade.specs.Standing.{rulesIn, setsIn, Holds, Placed, SetStands, codesAt}
 use Rattle.grade.specs.Linked.{Linked}
 use Rattle.grade.specs.Order.{nameOf}
-use Rattle.grade.specs.Broken.{judges, broken, breaksRule, severityLetter}
-use Rattle.grade.specs.Findings.{isAbout, valueIn, valuesOf}
+use Rattle.grade.specs.Broken.{judges, broken, breaksRule}
+use Rattle.grade.specs.Findings.{isAbout, valueIn, valuesOf, orderFinding, valueFinding}
 use Rattle.grade.specs.declared.rule.Kind.{Kind}
 use Rattle.grade.specs.declared.rule.Kind.the-variants.{Required, Length, Number, Date, Time, Code}
 use Rattle.grade.specs.declared.rule.Rule.{Rule}
-use Rattle.grade.specs.declared.rule.Severity.the-variants.{Error}
 use Rattle.grade.specs.declared.walk.Section.{Section}
 use Rattle.grade.specs.declared.finding.Finding.{Finding}
 use Rattle.grade.specs.declared.within.Here.{Here}
@@ -79,20 +78,6 @@ brokenFrom d fld b rule codes at passed = brokenValues (breaksBy b rule codes) p
 abbrev pub NextValue : Delims → List ℕ → List ℕ → Rule → ℕ → List ℕ → Value → Type 0
 NextValue d fld b rule codes l (Broken k next) = (l ≡ k ∷ brokenFrom d fld b rule codes next k) × (k ≤ next)
 NextValue d fld b rule codes l Fine = l ≡ []
-
--- the finding of rule i (from 1) at repetition k of the number-th segment of that name
-abbrev pub valueFinding : ℕ → ℕ → Rule → ℕ → ℕ → Finding
-valueFinding name ordinal rule i k =
-    record {
-      name = name;
-      ordinal = ordinal;
-      field = rule .place .field;
-      repetition = k;
-      component = rule .place .component;
-      rule = i;
-      code = errorCode (rule .kind);
-      severity = severityLetter (rule .severity);
-    }
 
 -- what one rule gives at a segment, and what the rules give of which i came before
 abbrev pub ofRule : Delims → List (List (List ℕ)) → ℕ → ℕ → List ℕ → ℕ → Rule → List Finding
@@ -162,10 +147,6 @@ rulesFrom d m b s here i = ofRules d (setsIn b s) (here .name) (here .ordinal) (
 -- what a segment still gives from a spot on
 abbrev pub segmentRest : Delims → List ℕ → List ℕ → Section → Here → Spot → List Finding
 segmentRest d m b s here spot = leftFrom d (setsIn b s) (here .name) (here .ordinal) (bytesOf m here) spot (drop (spot .rule) (rulesIn b s))
-
-abbrev pub orderFinding : ℕ → ℕ → Finding
-orderFinding name ordinal =
-    record { name = name; ordinal = ordinal; field = 0; repetition = 0; component = 0; rule = 0; code = 100; severity = severityLetter Error }
 
 -- what the order gives at a name after the counted name `last`; `out` says whether it is broken there
 abbrev pub ofOrder : (ℕ → ℕ → Bool) → ℕ → ℕ → ℕ → List Finding

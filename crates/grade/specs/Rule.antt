@@ -108,38 +108,35 @@ severityOf letter =
     (cond (eqb letter (code "I")) (SeverityRead.Is Severity.Informational)
     SeverityRead.Fault))
 
--- a severity was read
-abbrev pub isSeverity : SeverityRead → Bool
-isSeverity (SeverityRead.Is severity) = true
-isSeverity SeverityRead.Fault = false
+-- the letter that stands for a severity
+abbrev pub severityLetter : Severity → ℕ
+severityLetter Severity.Error = code "E"
+severityLetter Severity.Warning = code "W"
+severityLetter Severity.Informational = code "I"
 
-abbrev pub kindIf : Bool → Kind → KindRead
-kindIf true kind = KindRead.Is kind
-kindIf false kind = KindRead.Fault
+-- the kind with a number, made of the rule's last three bytes: set number, low, high
+unfoldable pub kindOf : ℕ → ℕ → ℕ → ℕ → KindRead
+kindOf number set low high =
+    cond (eqb number 1) (KindRead.Is Kind.Required)
+    (cond (eqb number 2) (KindRead.Is (Kind.Length low high))
+    (cond (eqb number 3) (KindRead.Is Kind.Number)
+    (cond (eqb number 4) (KindRead.Is Kind.Date)
+    (cond (eqb number 5) (KindRead.Is (Kind.Time low))
+    (cond (eqb number 6) (KindRead.Is (Kind.Code set))
+    KindRead.Fault)))))
 
--- bytes that a kind does not use are 0
-abbrev pub unused : ℕ → Bool
-unused byte = eqb byte 0
+-- those of the three that a kind does not use are 0
+abbrev pub unusedZero : Kind → ℕ → ℕ → ℕ → Bool
+unusedZero Kind.Required set low high = eqb set 0 && eqb low 0 && eqb high 0
+unusedZero (Kind.Length least most) set low high = eqb set 0
+unusedZero Kind.Number set low high = eqb set 0 && eqb low 0 && eqb high 0
+unusedZero Kind.Date set low high = eqb set 0 && eqb low 0 && eqb high 0
+unusedZero (Kind.Time digits) set low high = eqb set 0 && eqb high 0
+unusedZero (Kind.Code number) set low high = eqb low 0 && eqb high 0
 
 -- the numbers of digits that a TIME may ask for
 abbrev pub timeDigits : ℕ → Bool
 timeDigits n = eqb n 4 || eqb n 6 || eqb n 8 || eqb n 10 || eqb n 12 || eqb n 14
-
--- the kind by its number, the number of the section's sets, and the rule's last three bytes: set number, low, high
-unfoldable pub kindOf : ℕ → ℕ → ℕ → ℕ → ℕ → KindRead
-kindOf number sets set low high =
-    cond (eqb number 1) (kindIf (unused set && unused low && unused high) Kind.Required)
-    (cond (eqb number 2) (kindIf (unused set && within 1 high low) (Kind.Length low high))
-    (cond (eqb number 3) (kindIf (unused set && unused low && unused high) Kind.Number)
-    (cond (eqb number 4) (kindIf (unused set && unused low && unused high) Kind.Date)
-    (cond (eqb number 5) (kindIf (unused set && timeDigits low && unused high) (Kind.Time low))
-    (cond (eqb number 6) (kindIf (within 1 sets set && unused low && unused high) (Kind.Code set))
-    KindRead.Fault)))))
-
--- a kind was read
-abbrev pub isKind : KindRead → Bool
-isKind (KindRead.Is kind) = true
-isKind KindRead.Fault = false
 
 -- a kind within its limits, in a section with so many sets
 abbrev pub kindFits : ℕ → Kind → Bool
@@ -161,12 +158,21 @@ errorCode (Kind.Code set) = 103
 
 -- ---- rules
 
-abbrev pub ruleWith : Bool → Place → SeverityRead → KindRead → RuleRead
-ruleWith true place (SeverityRead.Is severity) (KindRead.Is kind) =
+-- stands for a rule where there is none
+abbrev pub noRule : Rule
+noRule =
+    record {
+      place = record { segment = theEnd; field = 0; component = 0 };
+      severity = Severity.Error;
+      kind = Kind.Required;
+    }
+
+-- a place, a severity and a kind
+abbrev pub ruleWith : Place → SeverityRead → KindRead → RuleRead
+ruleWith place (SeverityRead.Is severity) (KindRead.Is kind) =
     RuleRead.Is (record { place = place; severity = severity; kind = kind })
-ruleWith true place (SeverityRead.Is severity) KindRead.Fault = RuleRead.Fault
-ruleWith true place SeverityRead.Fault kind = RuleRead.Fault
-ruleWith false place severity kind = RuleRead.Fault
+ruleWith place (SeverityRead.Is severity) KindRead.Fault = RuleRead.Fault
+ruleWith place SeverityRead.Fault kind = RuleRead.Fault
 
 -- segment name (3), field, component
 abbrev pub placeOf : List ℕ → Place
@@ -174,19 +180,26 @@ placeOf ten =
     record { segment = nameOfLetters (getD ten 0 0) (getD ten 1 0) (getD ten 2 0); field = getD ten 3 0; component = getD ten 4 0 }
 
 -- the place, then kind, severity, set number, low, high
+unfoldable pub ruleSaid : List ℕ → RuleRead
+ruleSaid ten = ruleWith (placeOf ten) (severityOf (getD ten 6 0)) (kindOf (getD ten 5 0) (getD ten 7 0) (getD ten 8 0) (getD ten 9 0))
+
+-- a rule within its limits, in a section with so many sets
+abbrev pub ruleFits : ℕ → Rule → Bool
+ruleFits sets rule = placeFits (rule .place) && kindFits sets (rule .kind)
+
+abbrev pub ruleIf : Bool → Rule → RuleRead
+ruleIf true rule = RuleRead.Is rule
+ruleIf false rule = RuleRead.Fault
+
+abbrev pub ruleWithin : ℕ → List ℕ → RuleRead → RuleRead
+ruleWithin sets ten (RuleRead.Is rule) = ruleIf (ruleFits sets rule && unusedZero (rule .kind) (getD ten 7 0) (getD ten 8 0) (getD ten 9 0)) rule
+ruleWithin sets ten RuleRead.Fault = RuleRead.Fault
+
+-- what they say, where it is within its limits and the bytes that are not used are 0
 unfoldable pub ruleOf : ℕ → List ℕ → RuleRead
-ruleOf sets ten =
-    ruleWith
-    (placeFits (placeOf ten))
-    (placeOf ten)
-    (severityOf (getD ten 6 0))
-    (kindOf (getD ten 5 0) sets (getD ten 7 0) (getD ten 8 0) (getD ten 9 0))
+ruleOf sets ten = ruleWithin sets ten (ruleSaid ten)
 
 -- a rule was read
 abbrev pub isRule : RuleRead → Bool
 isRule (RuleRead.Is rule) = true
 isRule RuleRead.Fault = false
-
--- a rule within its limits, in a section with so many sets
-abbrev pub ruleFits : ℕ → Rule → Bool
-ruleFits sets rule = placeFits (rule .place) && kindFits sets (rule .kind)

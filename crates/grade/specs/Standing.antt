@@ -14,8 +14,6 @@ use Rattle.grade.specs.Reader.{Parsed, fault, found, isFound, itemsOf, R
 use Rattle.grade.specs.Book.{plain, ruleIn, codeSet, Contents, section}
 use Rattle.grade.specs.Header.{mshOf, headerOf}
 use Rattle.grade.specs.Admission.{keyOf, admitRows, openedTold, admittedTold}
-use Rattle.grade.specs.declared.rule.Severity.{Severity}
-use Rattle.grade.specs.declared.rule.Kind.{Kind}
 use Rattle.grade.specs.declared.rule.Rule.{Rule}
 use Rattle.grade.specs.declared.walk.Next.{Next}
 use Rattle.grade.specs.declared.walk.Section.{Section}
@@ -114,15 +112,6 @@ abbrev pub Admits : (m b : List ℕ) → Admitted → Type 0
 Admits m b r = AdmitsBy (admitRows m b) (delimsOf m) (mshOf m) b r
 
 -- ---- what a section holds
-
--- stands for a rule where there is none
-abbrev pub noRule : Rule
-noRule =
-    record {
-      place = record { segment = 0; field = 0; component = 0 };
-      severity = Severity.Error;
-      kind = Kind.Required;
-    }
 
 -- the rules of the section that stands there
 unfoldable pub rulesIn : List ℕ → Section → List Rule

@@ -7,7 +7,8 @@ ghost use Rattle.hl7.specs.Bytes.{among};
 ghost use Rattle.grade.specs.Limits.{codeLimit, linkLimit, namePlaces, setLimit};
 ghost use Rattle.grade.specs.Reader.{isFound, itemsOf, times};
 ghost use Rattle.grade.specs.Book.{text, codeSet};
-ghost use Rattle.grade.specs.Standing.{endOf, rulesIn, noRule, Holds, SetStands, codesAt, NotedSets, Placed};
+ghost use Rattle.grade.specs.Rule.{noRule};
+ghost use Rattle.grade.specs.Standing.{endOf, rulesIn, Holds, SetStands, codesAt, NotedSets, Placed};
 ghost use Rattle.grade.specs.Linked.{Linked};
 ghost use Rattle.grade.specs.declared.walk.Next.{Next};
 use crate::limits::LINKS;
@@ -15,8 +16,10 @@ use crate::limits::NAME_PLACES;
 use crate::limits::RULE_SIZE;
 use crate::limits::SET_PLACES;
 use crate::rule::Rule;
+use crate::rule::RuleRead;
 use crate::rule::name_of_letters;
-use crate::rule::rule_from;
+use crate::rule::no_rule;
+use crate::rule::rule_said;
 use crate::walk::Section;
 use crate::walk::pair_at;
 use crate::walk::text_after;
@@ -25,13 +28,16 @@ use hl7::bytes::same_bytes;
 use hl7::bytes::wide;
 use hl7::bytes::wide16;
 
-// The rule with a number, counted from 0.
+// The rule with a number, counted from 0. Its limits are not looked at again.
 pub(crate) fn rule_at(book: &[u8], section: Section, i: usize) -> Rule
     requires { ⌜ Holds (now book) section × (i < section .«rule_count») ⌝ }
     ensures { λ r. ⌜ r ≡ getD (rulesIn (now (book .entry)) section) i noRule ⌝ }
 {
     let rules_at = section.rules_at;
-    rule_from(book, rules_at + RULE_SIZE * i)
+    let RuleRead::Is(rule) = rule_said(book, rules_at + RULE_SIZE * i) else {
+        return no_rule();
+    };
+    rule
 }
 
 // The number of the name that the rule with a number is about.

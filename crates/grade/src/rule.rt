@@ -1,16 +1,10 @@
 // One rule: a place, a severity and one of six kinds, and the ten bytes that say it.
 ghost use mathlib.Core.Path.{_≡_};
-ghost use Prim.Native.Nat.{ℕ, _+_, _<_, _≤_};
+ghost use Prim.Native.Nat.{_+_, _<_, _≤_};
 ghost use lib.ListN.{length};
 ghost use lib.Seq.{slice};
-ghost use Rattle.grade.specs.declared.rule.Severity.{Severity};
-ghost use Rattle.grade.specs.declared.rule.SeverityRead.{SeverityRead};
-ghost use Rattle.grade.specs.declared.rule.Kind.{Kind};
-ghost use Rattle.grade.specs.declared.rule.KindRead.{KindRead};
-ghost use Rattle.grade.specs.declared.rule.Rule.{Rule};
-ghost use Rattle.grade.specs.declared.rule.RuleRead.{RuleRead};
 ghost use Rattle.grade.specs.Limits.{ruleSize};
-ghost use Rattle.grade.specs.Rule.{nameOfLetters, lettersNumber, lettersOf, firstField, placeFits, severityOf, isSeverity, kindOf, isKind, errorCode, ruleOf, isRule};
+ghost use Rattle.grade.specs.Rule.{nameOfLetters, lettersNumber, lettersOf, firstField, placeFits, severityOf, severityLetter, kindOf, unusedZero, timeDigits, kindFits, errorCode, noRule, ruleSaid, ruleOf, isRule};
 use crate::limits::COMPONENT_LIMIT;
 use crate::limits::FIELD_LIMIT;
 use crate::limits::SEGMENT_COUNT;
@@ -44,7 +38,7 @@ pub struct Rule {
     pub kind: Kind,
 }
 
-// What reading a severity, a kind or a rule gives: the definitions are stated with these.
+// What reading a severity, a kind or a rule gives.
 pub enum SeverityRead {
     Is(Severity),
     Fault,
@@ -143,54 +137,74 @@ fn place_fits(place: Place) -> bool
     counted & inside & (place.component <= COMPONENT_LIMIT)
 }
 
-// Whether a letter stands for a severity: E, W or I.
-fn severity_stands(letter: u8) -> bool
-    ensures { λ r. ⌜ r ≡ isSeverity (severityOf letter) ⌝ }
-{
-    (letter == b'E') | (letter == b'W') | (letter == b'I')
-}
-
-// The severity of a letter that stands for one.
-fn severity_at(letter: u8) -> Severity
-    ensures { λ r. ⌜ ((severity : Severity) → severityOf letter ≡ SeverityRead.Is severity → r ≡ severity) ⌝ }
+// The severity that a letter stands for.
+fn severity_of(letter: u8) -> SeverityRead
+    ensures { λ r. ⌜ r ≡ severityOf letter ⌝ }
 {
     match letter {
-        b'E' => Severity::Error,
-        b'W' => Severity::Warning,
-        _ => Severity::Informational,
+        b'E' => SeverityRead::Is(Severity::Error),
+        b'W' => SeverityRead::Is(Severity::Warning),
+        b'I' => SeverityRead::Is(Severity::Informational),
+        _ => SeverityRead::Fault,
     }
 }
 
-// Whether the bytes stand for a kind: those that it does not use are 0, and those that it uses are in range.
-fn kind_stands(number: u8, sets: u8, set: u8, low: u8, high: u8) -> bool
-    ensures { λ r. ⌜ r ≡ isKind (kindOf number sets set low high) ⌝ }
+pub(crate) fn severity_letter(severity: Severity) -> u8
+    ensures { λ r. ⌜ r ≡ severityLetter severity ⌝ }
 {
-    match number {
-        1 => (set == 0) & (low == 0) & (high == 0),
-        2 => (set == 0) & ((1 <= low) & (low <= high)),
-        3 => (set == 0) & (low == 0) & (high == 0),
-        4 => (set == 0) & (low == 0) & (high == 0),
-        5 => {
-            (set == 0)
-                & ((low == 4) | (low == 6) | (low == 8) | (low == 10) | (low == 12) | (low == 14))
-                & (high == 0)
-        }
-        6 => (1 <= set) & (set <= sets) & (low == 0) & (high == 0),
-        _ => false,
+    match severity {
+        Severity::Error => b'E',
+        Severity::Warning => b'W',
+        Severity::Informational => b'I',
     }
 }
 
-// The kind of bytes that stand for one.
-fn kind_at(number: u8, set: u8, low: u8, high: u8) -> Kind
-    ensures { λ r. ⌜ ((sets : ℕ) (kind : Kind) → kindOf number sets set low high ≡ KindRead.Is kind → r ≡ kind) ⌝ }
+// The kind with a number, made of the rule's last three bytes.
+fn kind_of(number: u8, set: u8, low: u8, high: u8) -> KindRead
+    ensures { λ r. ⌜ r ≡ kindOf number set low high ⌝ }
 {
     match number {
-        1 => Kind::Required,
-        2 => Kind::Length { low, high },
-        3 => Kind::Number,
-        4 => Kind::Date,
-        5 => Kind::Time { digits: low },
-        _ => Kind::Code { set },
+        1 => KindRead::Is(Kind::Required),
+        2 => KindRead::Is(Kind::Length { low, high }),
+        3 => KindRead::Is(Kind::Number),
+        4 => KindRead::Is(Kind::Date),
+        5 => KindRead::Is(Kind::Time { digits: low }),
+        6 => KindRead::Is(Kind::Code { set }),
+        _ => KindRead::Fault,
+    }
+}
+
+// Whether those of the three bytes that a kind does not use are 0.
+fn unused_zero(kind: Kind, set: u8, low: u8, high: u8) -> bool
+    ensures { λ r. ⌜ r ≡ unusedZero kind set low high ⌝ }
+{
+    match kind {
+        Kind::Required => (set == 0) & (low == 0) & (high == 0),
+        Kind::Length { low: _, high: _ } => set == 0,
+        Kind::Number => (set == 0) & (low == 0) & (high == 0),
+        Kind::Date => (set == 0) & (low == 0) & (high == 0),
+        Kind::Time { digits: _ } => (set == 0) & (high == 0),
+        Kind::Code { set: _ } => (low == 0) & (high == 0),
+    }
+}
+
+fn time_digits(n: u8) -> bool
+    ensures { λ r. ⌜ r ≡ timeDigits n ⌝ }
+{
+    (n == 4) | (n == 6) | (n == 8) | (n == 10) | (n == 12) | (n == 14)
+}
+
+// Whether a kind is within its limits, in a section with so many sets.
+fn kind_fits(sets: u8, kind: Kind) -> bool
+    ensures { λ r. ⌜ r ≡ kindFits sets kind ⌝ }
+{
+    match kind {
+        Kind::Required => true,
+        Kind::Length { low, high } => is_within(low, 1, high),
+        Kind::Number => true,
+        Kind::Date => true,
+        Kind::Time { digits } => time_digits(digits),
+        Kind::Code { set } => is_within(set, 1, sets),
     }
 }
 
@@ -208,32 +222,55 @@ pub(crate) fn error_code(kind: Kind) -> u16
     }
 }
 
-// Whether the ten bytes at a position say a rule, in a section with so many sets.
-pub(crate) fn rule_stands(book: &[u8], at: usize, sets: u8) -> bool
+// Stands for a rule where there is none.
+pub(crate) fn no_rule() -> Rule
+    ensures { λ r. ⌜ r ≡ noRule ⌝ }
+{
+    Rule {
+        place: Place {
+            segment: 0,
+            field: 0,
+            component: 0,
+        },
+        severity: Severity::Error,
+        kind: Kind::Required,
+    }
+}
+
+// The place, the severity and the kind that the ten bytes at a position say.
+pub(crate) fn rule_said(book: &[u8], at: usize) -> RuleRead
     requires { ⌜ at + ruleSize ≤ length (now book) ⌝ }
-    ensures { λ r. ⌜ r ≡ isRule (ruleOf sets (slice at (at + ruleSize) (now (book .entry)))) ⌝ }
+    ensures { λ r. ⌜ r ≡ ruleSaid (slice at (at + ruleSize) (now (book .entry))) ⌝ }
 {
     let place = Place {
         segment: name_of_letters(book[at], book[at + 1], book[at + 2]),
         field: book[at + 3],
         component: book[at + 4],
     };
-    let kind = kind_stands(book[at + 5], sets, book[at + 7], book[at + 8], book[at + 9]);
-    place_fits(place) & severity_stands(book[at + 6]) & kind
+    let SeverityRead::Is(severity) = severity_of(book[at + 6]) else {
+        return RuleRead::Fault;
+    };
+    let KindRead::Is(kind) = kind_of(book[at + 5], book[at + 7], book[at + 8], book[at + 9]) else {
+        return RuleRead::Fault;
+    };
+    RuleRead::Is(Rule {
+        place,
+        severity,
+        kind,
+    })
 }
 
-// The rule that they say, where they say one: nothing is checked again.
-pub(crate) fn rule_from(book: &[u8], at: usize) -> Rule
+// Whether they say a rule, in a section with so many sets: all is within its limits.
+pub(crate) fn rule_stands(book: &[u8], at: usize, sets: u8) -> bool
     requires { ⌜ at + ruleSize ≤ length (now book) ⌝ }
-    ensures { λ r. ⌜ ((sets : ℕ) (rule : Rule) → ruleOf sets (slice at (at + ruleSize) (now (book .entry))) ≡ RuleRead.Is rule → r ≡ rule) ⌝ }
+    ensures { λ r. ⌜ r ≡ isRule (ruleOf sets (slice at (at + ruleSize) (now (book .entry)))) ⌝ }
 {
-    Rule {
-        place: Place {
-            segment: name_of_letters(book[at], book[at + 1], book[at + 2]),
-            field: book[at + 3],
-            component: book[at + 4],
-        },
-        severity: severity_at(book[at + 6]),
-        kind: kind_at(book[at + 5], book[at + 7], book[at + 8], book[at + 9]),
-    }
+    let RuleRead::Is(rule) = rule_said(book, at) else {
+        return false;
+    };
+    let place = rule.place;
+    let kind = rule.kind;
+    place_fits(place)
+        & kind_fits(sets, kind)
+        & unused_zero(kind, book[at + 7], book[at + 8], book[at + 9])
 }

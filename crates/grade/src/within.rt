@@ -10,8 +10,8 @@ use crate::lookup::place_at;
 use crate::lookup::rule_at;
 use crate::rule::Kind;
 use crate::rule::Rule;
-use crate::rule::Severity;
 use crate::rule::error_code;
+use crate::rule::severity_letter;
 use crate::walk::Section;
 use hl7::bytes::wide;
 use hl7::cut::find;
@@ -25,10 +25,10 @@ ghost use Rattle.hl7.specs.Bytes.{all, differs};
 ghost use Rattle.hl7.specs.Cut.{endFrom};
 ghost use Rattle.hl7.specs.Refusals.{messageLimit};
 ghost use Rattle.grade.specs.Limits.{fieldPlaces, ruleLimit, segmentCount};
-ghost use Rattle.grade.specs.Rule.{kindFits};
-ghost use Rattle.grade.specs.Standing.{Holds, Placed, rulesIn, setsIn, noRule};
-ghost use Rattle.grade.specs.Broken.{severityLetter};
-ghost use Rattle.grade.specs.Rest.{CodesStand, CodesAre, brokenFrom, NextValue, valueFinding, bytesOf, HereStands, Parted, Fielded, SpotStands, Given, segmentRest, orderFinding, NextOfRule, NextWithin};
+ghost use Rattle.grade.specs.Rule.{kindFits, noRule};
+ghost use Rattle.grade.specs.Standing.{Holds, Placed, rulesIn, setsIn};
+ghost use Rattle.grade.specs.Findings.{valueFinding, orderFinding};
+ghost use Rattle.grade.specs.Rest.{CodesStand, CodesAre, brokenFrom, NextValue, bytesOf, HereStands, Parted, Fielded, SpotStands, Given, segmentRest, NextOfRule, NextWithin};
 
 // The segment that is being judged: its bytes, its name, and its number among the segments of that name; how many of its parts are noted, and whether
 // it is known to have no tilde.
@@ -114,16 +114,6 @@ fn next_value(
 pub enum Within {
     Found(Finding, Spot),
     Nothing,
-}
-
-fn severity_letter(severity: Severity) -> u8
-    ensures { λ r. ⌜ r ≡ severityLetter severity ⌝ }
-{
-    match severity {
-        Severity::Error => b'E',
-        Severity::Warning => b'W',
-        Severity::Informational => b'I',
-    }
 }
 
 fn value_finding(here: Here, rule: Rule, i: usize, repetition: u32) -> Finding

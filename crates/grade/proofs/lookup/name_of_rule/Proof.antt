@@ -4,7 +4,8 @@ use native.Mathlib.Omega.{arith}
 use denote.Ref.{now}
 use lib.ListN.{getD}
 use borrow.Author.Needs.{needs}
-use Rattle.grade.specs.Standing.{rulesIn, noRule}
+use Rattle.grade.specs.Rule.{noRule}
+use Rattle.grade.specs.Standing.{rulesIn}
 use Rattle.grade.proofs.Naming.{counted-bounds}
 use Rattle.grade.proofs.Holding.{its-bytes, its-name, rule-fits, place-limits}
 use Rattle.grade.proofs.lookup.name_of_rule.Statement.{statement}

@@ -1,38 +1,37 @@
--- `grade::rule::kind_stands` meets its contract: each arm's number picks its case of `kindOf`, and the arm's test is the test there. Assumes nothing.
+-- `grade::rule::kind_of` meets its contract: each arm's number picks its case of `kindOf`. Assumes nothing.
 use borrow.Author.Tests.{ne-eqb}
 use Rattle.grade.specs.Rule.{kindOf}
-use Rattle.grade.proofs.Parts.{kind-if-is}
-use Rattle.grade.proofs.rule.kind_stands.Statement.{statement}
-use Rattle.grade.proofs.rule.kind_stands.Tie as tie
+use Rattle.grade.proofs.rule.kind_of.Statement.{statement}
+use Rattle.grade.proofs.rule.kind_of.Tie as tie
 
 returns : tie.Need-returns
 unfolding kindOf
-returns c = rw (c .match .keys1) (kind-if-is _ _)
+returns c = rw (c .match .keys1)
 
 returns-2 : tie.Need-returns-2
 unfolding kindOf
-returns-2 c = rw (c .match .keys2) (kind-if-is _ _)
+returns-2 c = rw (c .match .keys2)
 
 returns-3 : tie.Need-returns-3
 unfolding kindOf
-returns-3 c = rw (c .match .keys3) (kind-if-is _ _)
+returns-3 c = rw (c .match .keys3)
 
 returns-4 : tie.Need-returns-4
 unfolding kindOf
-returns-4 c = rw (c .match .keys4) (kind-if-is _ _)
+returns-4 c = rw (c .match .keys4)
 
 returns-5 : tie.Need-returns-5
 unfolding kindOf
-returns-5 c = rw (c .match .keys5) (kind-if-is _ _)
+returns-5 c = rw (c .match .keys5)
 
 returns-6 : tie.Need-returns-6
 unfolding kindOf
-returns-6 c = rw (c .match .keys6) (kind-if-is _ _)
+returns-6 c = rw (c .match .keys6)
 
 returns-7 : tie.Need-returns-7
 unfolding kindOf
 returns-7 c = simp (ne-eqb _ _ (c .match .rest .1), ne-eqb _ _ (c .match .rest .0 .1), ne-eqb _ _ (c .match .rest .0 .0 .1), ne-eqb _ _ (c .match .rest .0 .0 .0 .1), ne-eqb _ _ (c .match .rest .0 .0 .0 .0 .1), ne-eqb _ _ (c .match .rest .0 .0 .0 .0 .0 .1))
 
-pub kind-stands-spec : {M : Type 1} → statement M
-kind-stands-spec =
+pub kind-of-spec : {M : Type 1} → statement M
+kind-of-spec =
     tie.close (tie.spec returns returns-2 returns-3 returns-4 returns-5 returns-6 returns-7)
