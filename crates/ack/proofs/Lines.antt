@@ -13,7 +13,8 @@ use Rattle.hl7.specs.Place.{carriageReturn}
 use Rattle.hl7.specs.declared.place.Delims.{Delims}
 use Rattle.hl7.proofs.Comparing.{and-both, same-equal}
 use Rattle.grade.proofs.Naming.{at-counted, no-name}
-use Rattle.grade.specs.Rule.{theEnd, counted, segmentNames, nameBytes, lettersOf}
+use Rattle.grade.specs.Rule.{theEnd, counted, segmentNames, nameBytes}
+use Rattle.grade.specs.Standing.{lettersOf}
 use Rattle.grade.specs.declared.finding.Finding.{Finding}
 use Rattle.ack.specs.Decimal.{decimal}
 use Rattle.ack.specs.Layout.{ownByte, own, marked, joined, copied, mshLine, verdict, msaLine, componentParts, valueParts, placeParts, codeText, errLine, ended, ackBytes}

@@ -10,7 +10,8 @@ use borrow.Author.Tests.{ne-eqb}
 use Rattle.hl7.specs.Place.{isMsh}
 use Rattle.hl7.specs.declared.place.Delims.{Delims}
 use Rattle.hl7.proofs.Placing.{field-short}
-use Rattle.grade.specs.Rule.{theEnd, nameBytes, lettersOf}
+use Rattle.grade.specs.Rule.{theEnd, nameBytes}
+use Rattle.grade.specs.Standing.{lettersOf}
 use Rattle.grade.specs.declared.finding.Finding.{Finding}
 use Rattle.ack.specs.Decimal.{decimal}
 use Rattle.ack.specs.Layout.{ownByte, marked, joined, copied, mshLine, verdict, msaLine, componentParts, valueParts, placeParts, codeText, errLine, ended, ackBytes}

@@ -1,4 +1,4 @@
--- What the calls give: number, detail and the output afterwards, for every input. Assumes nothing.
+-- To be believed. What the calls give: number, detail and the output afterwards, for every input. Assumes nothing.
 use Prim.Native.Nat.{ℕ}
 use mathlib.Core.Path.{_≡_}
 use mathlib.Core.Bool.{cond, not}

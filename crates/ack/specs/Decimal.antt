@@ -1,4 +1,4 @@
--- A number in decimal notation. Assumes nothing.
+-- To be believed. A number in decimal notation. Assumes nothing.
 use Prim.Native.Nat.{ℕ, zero, suc, _+_, _/_, _%_}
 use mathlib.Core.Bool.{cond}
 use mathlib.Core.List.{List, [], _∷_, _++_}

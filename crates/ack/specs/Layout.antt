@@ -1,4 +1,4 @@
--- The bytes of an ACK, in the layout's own order. Assumes nothing.
+-- To be believed. The bytes of an ACK, in the layout's own order. Assumes nothing.
 use Prim.Native.Nat.{ℕ}
 use Prim.Native.Char.{code}
 use mathlib.Core.Bool.{Bool, false, cond, _||_}

@@ -1,4 +1,5 @@
--- The pieces in which an ACK is written: the names that only inner contracts use. Assumes nothing.
+-- Inner: only contracts inside the crates use these names; nothing here has to be believed.
+-- The pieces in which an ACK is written. Assumes nothing.
 use Prim.Native.Nat.{ℕ, _^_}
 use mathlib.Core.Path.{_≡_}
 use Prim.Native.Char.{code}

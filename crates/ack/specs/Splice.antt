@@ -1,4 +1,5 @@
--- What a lent output holds after bytes were written into it: the names that only inner contracts use. Assumes nothing.
+-- Inner: only contracts inside the crates use these names; nothing here has to be believed.
+-- What a lent output holds after bytes were written into it. Assumes nothing.
 use mathlib.Core.Path.{_≡_}
 use mathlib.Core.List.{List, [], _∷_}
 use Prim.Native.Nat.{ℕ, suc, _+_, _^_, _<_, min}

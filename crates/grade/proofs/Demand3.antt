@@ -2,7 +2,7 @@
 use Prim.Native.Nat.{ℕ, zero, suc, _≤_, _<_}
 use mathlib.Core.Path.{_≡_, refl, sym, ap, subst, _∙_}
 use mathlib.Core.Bool.{Bool, true, false, _&&_}
-use mathlib.Core.Logic.{_↔_, _⊎_, inl, inr}
+use mathlib.Core.Logic.{_↔_}
 use mathlib.Core.List.{List, [], map, List·Memᴰ}
 use native.Mathlib.Omega.{arith}
 use native.Mathlib.Decide.{decLt}
@@ -13,7 +13,7 @@ use Rattle.grade.specs.Rule.{theEnd, counted}
 use Rattle.grade.specs.Order.{nameAt, nameOf}
 use Rattle.grade.specs.Broken.{breaksRule}
 use Rattle.grade.specs.Strict.{Increasing, keep}
-use Rattle.grade.specs.Findings.{isAbout, Event, orderAt, ruleAt, Earlier, Breaks, BreaksAt, Demand3, breaks, breaksAt, turns, places, findings, findingOf, named, valuesAt, ruleNumbered}
+use Rattle.grade.specs.Findings.{isAbout, Event, Earlier, BreaksAt, Demand3, breaks, breaksAt, turns, places, findings, findingOf, named, valuesAt, ruleNumbered}
 use Rattle.grade.specs.declared.rule.Rule.{Rule}
 use Rattle.grade.specs.declared.finding.Finding.{Finding}
 use Rattle.grade.proofs.Increasing.{by-members, lex-asym, lt-asym, mem-keep, increasing-keep, mem-count, increasing-count, mem-pairs, increasing-pairs}
@@ -77,11 +77,3 @@ module _ (o : ℕ → ℕ → Bool) (c : List Rule) (t : List (List (List ℕ)))
     where
       all : Demand3 o c t m (findings o c t m)
       all = findings-meet
-
-  -- an event that is one is of the two forms
-  pub event-forms : (e : Event) → Breaks o c t m e → ((n : ℕ) × (e ≡ orderAt n)) ⊎ ((n : ℕ) × (i : ℕ) × (r : ℕ) × (e ≡ ruleAt n i r))
-  event-forms e h = form (e .0) (e .1 .0) (e .1 .1) h
-    where
-      form : (n j r : ℕ) → BreaksAt o c t m n j r → ((k : ℕ) × (_≡_ {A = Event} (n, (j, r)) (orderAt k))) ⊎ ((k : ℕ) × (i : ℕ) × (q : ℕ) × (_≡_ {A = Event} (n, (j, r)) (ruleAt k i q)))
-      form n zero r b = inl (n, λ i. (n, (0, b .1 i)))
-      form n (suc i) r b = inr (n, i, r, refl)

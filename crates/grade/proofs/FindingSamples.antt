@@ -3,14 +3,14 @@ use Prim.Native.Nat.{ℕ}
 use mathlib.Core.Path.{_≡_, refl}
 use mathlib.Core.List.{List, [], _∷_, _++_, map}
 use Rattle.hl7.specs.Text.{bytes}
-use Rattle.hl7.specs.Bytes.{same, among, begins}
+use Rattle.hl7.specs.Bytes.{same, among, begins, isIn}
 use Rattle.hl7.specs.Cut.{cut, ahead, butLast, startAt}
 use Rattle.hl7.specs.Place.{delimsOf, nthOf, cutUnless, partOfField, neverCut, componentOf, repetitionsOf}
 use Rattle.grade.specs.Rule.{theEnd, msh, pid, pd1, nk1, pv1, orc, rxa, rxr, obx, nte, segmentNames, numberFrom, nameOfLetters}
 use Rattle.grade.specs.Digits.{countWithin, digitRun}
 use Rattle.grade.specs.Calendar.{monthLength, isRealDate}
 use Rattle.grade.specs.Values.{isDate}
-use Rattle.grade.specs.Order.{nameOf, nameBefore, earlier, isIn, mayFollow}
+use Rattle.grade.specs.Order.{nameOf, nameBefore, earlier, mayFollow}
 use Rattle.grade.specs.Broken.{broken, judges, breaksRule}
 use Rattle.grade.specs.Strict.{keep, countFrom, pairsFrom}
 use Rattle.grade.specs.Findings.{orderFinding, valueFinding, findings}

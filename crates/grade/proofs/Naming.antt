@@ -11,7 +11,8 @@ use borrow.Author.Tests.{eqb-true, leb-true, le-leb, lt-leb, ltb-true}
 use Rattle.hl7.specs.Bytes.{same}
 use Rattle.hl7.proofs.Comparing.{and-both, same-equal, upto, upto-at}
 use Rattle.grade.specs.Limits.{segmentCount}
-use Rattle.grade.specs.Rule.{msh, otherNumber, counted, segmentNames, nameBytes, numberFrom, nameOfLetters, lettersNumber, lettersOf}
+use Rattle.grade.specs.Rule.{msh, otherNumber, counted, segmentNames, nameBytes, numberFrom, nameOfLetters}
+use Rattle.grade.specs.Standing.{lettersNumber, lettersOf}
 
 -- ---- the numbers that count
 pub is-counted : (n : ℕ) → 1 ≤ n → n ≤ segmentCount → counted n ≡ true

@@ -6,7 +6,7 @@ use mathlib.Core.Bool.{Bool, true, false, not, _&&_}
 use mathlib.Core.List.{List, [], _∷_, _++_}
 use lib.Dec.{eqb}
 use Rattle.hl7.specs.Text.{bytes}
-use Rattle.hl7.specs.Bytes.{same, begins}
+use Rattle.hl7.specs.Bytes.{same, begins, isIn}
 use Rattle.hl7.specs.Cut.{cut, ahead, butLast, startAt}
 use Rattle.hl7.specs.Place.{delimsOf, nthOf, cutUnless, partOfField, neverCut, componentOf, repetitionsOf}
 use Rattle.hl7.specs.Refusals.{firstRow, wrongBytes, hasForm, wrongSegments, formRows, messageRows}
@@ -14,7 +14,7 @@ use Rattle.grade.specs.Rule.{theEnd, orc, segmentNames, numberFrom, name
 use Rattle.grade.specs.Digits.{countWithin, digitRun}
 use Rattle.grade.specs.Calendar.{monthLength, isRealDate}
 use Rattle.grade.specs.Values.{isUnsigned, isNumber, isDate}
-use Rattle.grade.specs.Order.{nameBefore, earlier, isIn, mayFollow}
+use Rattle.grade.specs.Order.{nameBefore, earlier, mayFollow}
 use Rattle.grade.specs.Broken.{broken, judges, breaksRule}
 use Rattle.grade.specs.Strict.{keep, countFrom, pairsFrom}
 use Rattle.grade.specs.Findings.{findings}

@@ -1,4 +1,4 @@
--- To be believed: rows 1 to 9, which say whether a message can be graded by a book. Assumes nothing.
+-- To be believed. Rows 1 to 9, which say whether a message can be graded by a book. Assumes nothing.
 use Prim.Native.Nat.{ℕ}
 use mathlib.Core.Bool.{Bool, not}
 use mathlib.Core.List.{List, [], _∷_, _++_}

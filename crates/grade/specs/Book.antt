@@ -1,4 +1,4 @@
--- To be believed: what a rule book is, read from its bytes (01, "The rule book"), and when it is refused (01, rows 7 to 9).
+-- To be believed. What a rule book is, read from its bytes (01, "The rule book"), and when it is refused (01, rows 7 to 9).
 use Prim.Native.Nat.{ℕ}
 use Prim.Native.Char.{code}
 use mathlib.Core.Bool.{Bool, true, cond, not, _&&_, _||_}

@@ -1,4 +1,4 @@
--- When a value breaks a rule: a yes or no about the rule and that value. Assumes nothing.
+-- To be believed. When a value breaks a rule: a yes or no about the rule and that value. Assumes nothing.
 use Prim.Native.Nat.{ℕ, _-_}
 use mathlib.Core.Bool.{Bool, true, false, cond, not, _&&_, _||_}
 use mathlib.Core.List.{List, []}

@@ -1,4 +1,4 @@
--- The Gregorian calendar, years 1 to 9999. Assumes nothing.
+-- To be believed. The Gregorian calendar, years 1 to 9999. Assumes nothing.
 use Prim.Native.Nat.{ℕ, _%_}
 use mathlib.Core.Bool.{Bool, not, cond, _&&_, _||_}
 use mathlib.Core.List.{List, [], _∷_}

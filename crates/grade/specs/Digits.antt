@@ -1,4 +1,4 @@
--- Digits, signs and numbers in decimal. A value is the list of its bytes. Assumes nothing.
+-- To be believed. Digits, signs and numbers in decimal. A value is the list of its bytes. Assumes nothing.
 use Prim.Native.Nat.{ℕ, _+_, _-_, _*_}
 use mathlib.Core.Bool.{Bool, cond, _||_}
 use mathlib.Core.List.{List, [], _∷_}

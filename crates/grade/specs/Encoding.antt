@@ -1,4 +1,4 @@
--- To be believed: the bytes of a book that says given things, the other way to say what a rule book is.
+-- To be believed. The bytes of a book that says given things, the other way to say what a rule book is.
 -- `proofs/Encoded.antt` and `proofs/Decoded.antt` show that it is the inverse of the readers, in both directions.
 use Prim.Native.Nat.{ℕ, _/_, _%_}
 use mathlib.Core.Bool.{Bool, true, _&&_}

@@ -50,16 +50,9 @@ valueFinding name ordinal rule i k =
     }
 
 -- ---- events
--- an event is a place: segment n (the end is the place after the last), rule number (0 is the order), repetition
+-- an event is a place: segment n, from 0 (the end is the place after the last), rule number (0 is the order), repetition, from 0
 abbrev pub Event : Type 0
 Event = ℕ × (ℕ × ℕ)
-
--- the order is broken at segment n, or rule i (counted from 0) is broken at repetition r (counted from 0) of segment n
-abbrev pub orderAt : ℕ → Event
-orderAt n = (n, (0, 0))
-
-abbrev pub ruleAt : ℕ → ℕ → ℕ → Event
-ruleAt n i r = (n, (suc i, r))
 
 -- by segment, then by rule number, the order first, then by repetition
 abbrev pub Earlier : Event → Event → Type 0

@@ -1,4 +1,4 @@
--- The sizes and limits of a rule book, each in one place. `src/limits.rt` has the constants of the same names.
+-- To be believed. The sizes and limits of a rule book, each in one place. `src/limits.rt` has the constants of the same names.
 use Prim.Native.Nat.{ℕ}
 
 -- the longest book, in bytes

@@ -1,3 +1,4 @@
+-- Inner: only contracts inside the crates use these names; nothing here has to be believed.
 -- The rules of each name, linked: from a name to its first rule, from a rule to the next one about the same segment.
 use Prim.Native.Nat.{ℕ, suc, _+_, _<_, _≤_}
 use mathlib.Core.Path.{_≡_}

@@ -1,9 +1,10 @@
--- The names of segments, and which may follow which. Assumes nothing.
+-- To be believed. The names of segments, and which may follow which. Assumes nothing.
 use Prim.Native.Nat.{ℕ, zero, suc, _-_}
 use mathlib.Core.Bool.{Bool, false, not, cond, _&&_, _||_}
 use mathlib.Core.List.{List, [], _∷_, map}
 use lib.ListN.{getD}
 use lib.Dec.{eqb, leb}
+use Rattle.hl7.specs.Bytes.{isIn}
 use Rattle.grade.specs.Limits.{segmentCount, namePlaces}
 use Rattle.grade.specs.Rule.{theEnd, msh, pid, pd1, nk1, pv1, orc, rxa, rxr, obx, nte, counted, nameOfLetters, otherNumber}
 use Rattle.grade.specs.Strict.{countFrom}
@@ -40,11 +41,6 @@ followers name =
     (cond (eqb name rxr) (obx ∷ orc ∷ theEnd ∷ [])
     (cond (eqb name obx || eqb name nte) (obx ∷ nte ∷ orc ∷ theEnd ∷ [])
     [])))))))
-
--- n is one of the list
-unfoldable pub isIn : ℕ → List ℕ → Bool
-isIn n [] = false
-isIn n (x ∷ l) = eqb n x || isIn n l
 
 unfoldable pub mayFollow : ℕ → ℕ → Bool
 mayFollow before name = isIn name (followers before)

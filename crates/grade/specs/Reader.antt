@@ -1,4 +1,4 @@
--- To be believed: readers tell what stands at a position of a list of bytes, and the position after it. With `do` a format is said line by line.
+-- To be believed. Readers tell what stands at a position of a list of bytes, and the position after it. With `do` a format is said line by line.
 use Prim.Native.Nat.{ℕ, zero, suc, _+_, _*_}
 use mathlib.Core.Bool.{Bool, true, false, cond}
 use mathlib.Core.List.{List, [], _∷_}

@@ -1,5 +1,5 @@
--- A rule, and what its ten bytes say (01, "The rule book").
-use Prim.Native.Nat.{ℕ, suc, _+_, _*_}
+-- To be believed. A rule, and what its ten bytes say (01, "The rule book").
+use Prim.Native.Nat.{ℕ, suc}
 use Prim.Native.Char.{code}
 use mathlib.Core.Bool.{Bool, true, false, cond, _&&_, _||_}
 use mathlib.Core.List.{List, [], _∷_}
@@ -78,14 +78,6 @@ numberFrom n name (text ∷ texts) = cond (same name text) n (numberFrom (suc n)
 -- the number of the name with these three letters
 unfoldable pub nameOfLetters : ℕ → ℕ → ℕ → ℕ
 nameOfLetters a b c = numberFrom msh (a ∷ b ∷ c ∷ []) segmentNames
-
--- three letters as one number: what the code tells names apart by
-abbrev pub lettersNumber : ℕ → ℕ → ℕ → ℕ
-lettersNumber a b c = a * 65536 + b * 256 + c
-
--- those of a name
-abbrev pub lettersOf : ℕ → ℕ
-lettersOf name = lettersNumber (getD (nameBytes name) 0 0) (getD (nameBytes name) 1 0) (getD (nameBytes name) 2 0)
 
 -- ---- places
 

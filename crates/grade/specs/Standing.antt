@@ -9,6 +9,7 @@ use Rattle.hl7.specs.Bytes.{same}
 use Rattle.hl7.specs.Place.{delimsOf}
 use Rattle.hl7.specs.Refusals.{Row, firstRow}
 use Rattle.hl7.specs.declared.place.Delims.{Delims}
+use Rattle.grade.specs.Rule.{nameBytes}
 use Rattle.grade.specs.Limits.{headSize, ruleLimit, ruleSize, setLimit}
 use Rattle.grade.specs.Reader.{Parsed, fault, found, isFound, itemsOf, Reader, andThen, pair, times}
 use Rattle.grade.specs.Book.{plain, ruleIn, codeSet, Contents, section}
@@ -20,6 +21,18 @@ use Rattle.grade.specs.declared.walk.Section.{Section}
 use Rattle.grade.specs.declared.book.Opened.{Opened}
 use Rattle.grade.specs.declared.admit.Admitted.{Admitted}
 use Rattle.grade.specs.declared.admit.Admitted.the-variants.{By}
+
+-- ---- names
+
+-- three letters as one number: the code tells names apart by it
+abbrev pub lettersNumber : ℕ → ℕ → ℕ → ℕ
+lettersNumber a b c = a * 65536 + b * 256 + c
+
+-- those of a name
+abbrev pub lettersOf : ℕ → ℕ
+lettersOf name = lettersNumber (getD (nameBytes name) 0 0) (getD (nameBytes name) 1 0) (getD (nameBytes name) 2 0)
+
+-- ---- reading
 
 -- where a reading ends
 abbrev pub endOf : {A : Type 0} → Parsed A → Next

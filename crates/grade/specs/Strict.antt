@@ -1,4 +1,4 @@
--- Lists in strict order, and the ranges that they are made of. Assumes nothing.
+-- To be believed. Lists in strict order, and the ranges that they are made of. Assumes nothing.
 use Prim.Native.Nat.{ℕ, zero, suc, _<_}
 use mathlib.Core.Path.{_≡_}
 use mathlib.Core.Logic.{_⊎_}

@@ -1,4 +1,4 @@
--- What a value must be to have a LENGTH, to be a NUMBER, a DATE, a TIME or the stamp. Assumes nothing.
+-- To be believed. What a value must be to have a LENGTH, to be a NUMBER, a DATE, a TIME or the stamp. Assumes nothing.
 use Prim.Native.Nat.{ℕ, _+_, _*_, _%_}
 use mathlib.Core.Bool.{Bool, cond, _&&_, _||_}
 use mathlib.Core.List.{List}

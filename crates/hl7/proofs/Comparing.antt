@@ -8,7 +8,7 @@ use native.Mathlib.Nat.{le-of-eq, not-suc-le-zero, le-of-suc-le-suc, add-zero, s
 use native.Mathlib.Omega.{arith}
 use lib.Dec.{eqb}
 use lib.ListN.{length, getD, take, drop, length-drop, drop-of-length-le}
-use lib.Seq.{drop-cons, drop-drop, getD-drop, take-all, drop-length, take-nil, slice}
+use lib.Seq.{drop-cons, getD-drop, take-all, drop-length, take-nil, slice}
 use borrow.Author.Tests.{eq-eqb, ne-eqb, eqb-true, eqb-false}
 use Rattle.hl7.specs.Bytes.{all, same, among, begins}
 use Rattle.hl7.specs.Spans.{occurrences}
@@ -52,9 +52,6 @@ part-slice (x ∷ v) (suc from) (suc to) h =
 module _ {A : Type 0} (l : List A) (i : ℕ) (x : A) (rest : List A) (e : drop i l ≡ x ∷ rest) where
   pub drop-head : (d : A) → getD l i d ≡ x
   drop-head d = rw (← add-zero i, ← getD-drop i l 0 d, e)
-
-  pub drop-rest : drop (i + 1) l ≡ rest
-  drop-rest = rw (← drop-drop 1 i l, e)
 
 -- a test of every number below k, to be computed
 abbrev pub upto : (ℕ → Bool) → ℕ → Bool

@@ -6,10 +6,9 @@ use mathlib.Core.Logic.{_↔_, _⊎_, inl, inr}
 use mathlib.Core.List.{List, [], _∷_, _++_}
 use Prim.Native.Nat.{ℕ, zero, suc, _+_, _-_, _≤_, _<_}
 use native.Mathlib.Numerals.{add-one}
-use native.Mathlib.Nat.{add-zero}
 use native.Mathlib.Omega.{arith}
 use native.Mathlib.Decide.{decLe}
-use lib.Dec.{eqb, ltb}
+use lib.Dec.{eqb}
 use lib.ListN.{length, getD, drop, length-drop, drop-of-length-le}
 use borrow.Author.Tests.{eq-eqb, ne-eqb, lt-ltb, le-ltb, eqb-true, eqb-false, ltb-false, not-true, not-false}
 use Rattle.hl7.specs.declared.place.Delims.{Delims}
@@ -212,20 +211,6 @@ reading-paper (WrongSegment start) = refl
 pub reading-is : (m : List ℕ) {r : Reading} → readingTold r ≡ firstRow (messageRows m) → r ≡ readingOf (firstRow (messageRows m))
 reading-is m {r} e = sym (reading-paper r) ∙ ap readingOf e
 
--- and the other way round
-pub paper-reading : (m : List ℕ) → readingTold (readingOf (firstRow (messageRows m))) ≡ firstRow (messageRows m)
-unfolding readingOf messageRows formRows firstRow
-paper-reading m = by (eqb (length m) 0) (ltb messageLimit (length m)) (wrongBytes 0 m) (begins nineBytes m) (wrongSegments (delimsOf m) 0 (cut carriageReturn m))
-  where
-    by : (empty long : Bool) (bytes : List ℕ) (headed : Bool) (segments : List ℕ) →
-        let a = firstRow (row 1 empty ∷ row 2 long ∷ rowAt 3 bytes ∷ row 4 (not headed) ∷ rowAt 5 segments ∷ []) in readingTold (readingOf a) ≡ a
-    by true long bytes headed segments = refl
-    by false true bytes headed segments = refl
-    by false false (x ∷ bytes) headed segments = refl
-    by false false [] false segments = refl
-    by false false [] true (x ∷ segments) = refl
-    by false false [] true [] = refl
-
 -- any two answers that the contract of `check` allows are equal
 pub check-once : (m : List ℕ) {r q : Reading} → readingTold r ≡ firstRow (messageRows m) → readingTold q ≡ firstRow (messageRows m) → r ≡ q
 check-once m e f = reading-is m e ∙ sym (reading-is m f)
@@ -313,10 +298,6 @@ sound-msh m e = begins-less (bytes "MSH") (bytes "|^~\\&|") _ (first-begins carr
 none-at : (positions : List ℕ) → isSome positions ≡ false → positions ≡ []
 none-at [] e = refl
 none-at (x ∷ l) e = absurd (true≢false e)
-
-pub sound-bytes : (m : List ℕ) → isSound m ≡ true → wrongBytes 0 m ≡ []
-unfolding messageRows
-sound-bytes m e = none-at (wrongBytes 0 m) (sound-none m e 2)
 
 pub sound-segments : (m : List ℕ) → isSound m ≡ true → wrongSegments (delimsOf m) 0 (cut carriageReturn m) ≡ []
 unfolding messageRows formRows

@@ -1,12 +1,11 @@
--- Refusals as a table: each row a condition, a number and a detail, tried in the readingTold's order. Rows 1 to 5 are about the message's bytes.
+-- To be believed. Refusals as a table: each row a condition, a number and a detail, tried in the paper's order. Rows 1 to 5 are about the message's bytes.
 -- Assumes nothing.
 use Prim.Native.Nat.{ℕ, suc, _+_, _<_}
-use Prim.Native.Char.{code}
 use mathlib.Core.Path.{_≡_}
 use mathlib.Core.Bool.{Bool, true, false, cond, not, _&&_, _||_}
 use mathlib.Core.List.{List, [], _∷_}
 use lib.ListN.{length, getD}
-use lib.Dec.{eqb, leb, ltb}
+use lib.Dec.{eqb, ltb}
 use Rattle.hl7.specs.Text.{bytes}
 use Rattle.hl7.specs.Bytes.{within, isIn, begins}
 use Rattle.hl7.specs.Cut.{cut, Piece}
@@ -18,7 +17,7 @@ use Rattle.hl7.specs.declared.refusal.Reading.{Reading}
 use Rattle.hl7.specs.declared.refusal.Reading.the-variants.{Sound, Empty, TooLong, WrongByte, NoHeader, WrongSegment}
 
 -- ---- tables of refusals
--- an answer on readingTold: a number and a detail
+-- an answer on paper: a number and a detail
 pub record Told : Type 0 where
   pub number : ℕ
   pub detail : ℕ
@@ -113,7 +112,7 @@ formRows m = row 4 (not (begins nineBytes m)) ∷ rowAt 5 (wrongSegments (delims
 unfoldable pub messageRows : List ℕ → List Row
 messageRows m = row 1 (eqb (length m) 0) ∷ row 2 (ltb messageLimit (length m)) ∷ rowAt 3 (wrongBytes 0 m) ∷ formRows m
 
--- ---- the code's answers on readingTold
+-- ---- the code's answers on paper
 abbrev pub firstOf : List ℕ → Found
 firstOf [] = Nothing
 firstOf (x ∷ l) = At x
@@ -134,7 +133,7 @@ readsSound (WrongByte at) = false
 readsSound NoHeader = false
 readsSound (WrongSegment start) = false
 
--- what a readingTold's answer about a message is in the code's words: the other way round
+-- what a paper's answer about a message is in the code's words: the other way round
 unfoldable pub readingOf : Told → Reading
 readingOf a =
     cond (eqb (a .number) 0) Sound

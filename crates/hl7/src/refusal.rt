@@ -12,7 +12,7 @@ ghost use Rattle.hl7.specs.Refusals.{allowed, wrongBytes, isUpper, isUpp
 
 const MESSAGE_LIMIT: usize = 32768;
 
-// What a message is on reading: sound, or which of refusals 1 to 5 it meets, with the position where the readingTold gives one.
+// What a message is on reading: sound, or which of refusals 1 to 5 it meets, with the position where the paper gives one.
 pub enum Reading {
     Sound,
     Empty,

@@ -1,4 +1,4 @@
--- What a call from another language answers: one number that holds a number and a detail, or a start and a length. Assumes nothing.
+-- To be believed. What a call from another language answers: one number that holds a number and a detail, or a start and a length. Assumes nothing.
 use Prim.Native.Nat.{ℕ, _+_, _-_, _*_}
 use lib.ListN.{length}
 use Rattle.hl7.specs.Cut.{Piece}

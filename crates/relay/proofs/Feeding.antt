@@ -14,7 +14,7 @@ use Rattle.hl7.specs.Cut.{cut}
 use Rattle.hl7.proofs.Comparing.{all-last}
 use Rattle.hl7.proofs.Cutting.{cut-delimiter, cut-other, cut-last}
 use Rattle.grade.specs.Digits.{isDigit}
-use Rattle.relay.specs.Line.{lineFeed, space, lineOf, has, beforeLast, afterLast, stampOf, lastItem, valueAfter, valueOf, largestControl, isControl, badLine, goodLine, said}
+use Rattle.relay.specs.Line.{lineFeed, space, lineOf, occurs, beforeLast, afterLast, stampOf, lastItem, valueAfter, valueOf, largestControl, isControl, badLine, goodLine, said}
 use Rattle.relay.specs.Fed.{headLength, tooLarge, Heads, Items, Fed, shortened}
 use Rattle.relay.specs.declared.line.Head.{Head}
 use Rattle.relay.specs.declared.line.Item.{Item}
@@ -72,7 +72,7 @@ module _ {line : List ℕ} {i : Item} (a : Items line i) where
 
 -- ---- the input
 pub fed-start : (bytes : List ℕ) → length bytes ≡ headLength → Fed [] (record { ended = false; head = record { bytes = bytes; count = 0 }; item = record { spaced = false; stamp = 0; filled = false; digits = true; value = 0 } })
-unfolding cut has beforeLast afterLast all valueAfter
+unfolding cut occurs beforeLast afterLast all valueAfter
 fed-start bytes h =
     record {
       ended = refl;
@@ -150,7 +150,7 @@ module _ {input : List ℕ} {s : State} (f : Fed input s) where
     said-by =
         rw (← e, f .item .spaced, f .item .filled, f .item .digits, le-leb (valueOf (lastItem (lineOf input))) largestControl (omega (arith, small)))
         (ap (λ (b : Bool). cond b (goodLine (stampOf (lineOf input)) (valueOf (lastItem (lineOf input)))) badLine)
-        (tests (has space (lineOf input)) (not (eqb (length (lastItem (lineOf input))) 0)) (all isDigit (lastItem (lineOf input)))))
+        (tests (occurs space (lineOf input)) (not (eqb (length (lastItem (lineOf input))) 0)) (all isDigit (lastItem (lineOf input)))))
 
   pub said-bad : s .item .value ≤ largestControl → (s .item .spaced && s .item .filled && s .item .digits) ≡ false → badLine ≡ shortened (said (lineOf input))
   said-bad h e = sym (ap shortened (said-by h e))

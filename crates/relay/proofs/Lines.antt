@@ -12,33 +12,33 @@ use lib.Seq.{take-length, take-all}
 use borrow.Author.Tests.{eq-eqb, ne-eqb, eqb-true}
 use Rattle.hl7.specs.Cut.{ahead, cut, partAt}
 use Rattle.hl7.proofs.Cutting.{first}
-use Rattle.relay.specs.Line.{has, beforeLast, afterLast, valueAfter}
+use Rattle.relay.specs.Line.{occurs, beforeLast, afterLast, valueAfter}
 
 -- ---- the last d of some bytes parts them
-pub last-parts : (d : ℕ) (s : List ℕ) → has d s ≡ true → s ≡ beforeLast d s ++ (d ∷ afterLast d s)
-unfolding has beforeLast afterLast
+pub last-parts : (d : ℕ) (s : List ℕ) → occurs d s ≡ true → s ≡ beforeLast d s ++ (d ∷ afterLast d s)
+unfolding occurs beforeLast afterLast
 last-parts d [] h = absurd (true≢false (sym h))
-last-parts d (x ∷ s) h = by-rest (has d s) refl (last-parts d s)
+last-parts d (x ∷ s) h = by-rest (occurs d s) refl (last-parts d s)
   where
     here : (b : Bool) → eqb x d ≡ b → (b || false) ≡ true → x ∷ s ≡ d ∷ cond b s (x ∷ s)
     here true e h = ap (λ (y : ℕ). y ∷ s) (eqb-true x d e)
     here false e h = absurd (true≢false (sym h))
 
-    by-rest : (b : Bool) → has d s ≡ b → (has d s ≡ true → s ≡ beforeLast d s ++ (d ∷ afterLast d s)) → x ∷ s ≡ beforeLast d (x ∷ s) ++ (d ∷ afterLast d (x ∷ s))
+    by-rest : (b : Bool) → occurs d s ≡ b → (occurs d s ≡ true → s ≡ beforeLast d s ++ (d ∷ afterLast d s)) → x ∷ s ≡ beforeLast d (x ∷ s) ++ (d ∷ afterLast d (x ∷ s))
     by-rest true e ih = rw e (ap (λ (l : List ℕ). x ∷ l) (ih e))
     by-rest false e ih = rw e (here (eqb x d) refl (rw e at h))
 
 -- and none stands after it
-pub last-is-last : (d : ℕ) (s : List ℕ) → has d s ≡ true → has d (afterLast d s) ≡ false
-unfolding has afterLast
+pub last-is-last : (d : ℕ) (s : List ℕ) → occurs d s ≡ true → occurs d (afterLast d s) ≡ false
+unfolding occurs afterLast
 last-is-last d [] h = absurd (true≢false (sym h))
-last-is-last d (x ∷ s) h = by-rest (has d s) refl (last-is-last d s)
+last-is-last d (x ∷ s) h = by-rest (occurs d s) refl (last-is-last d s)
   where
-    here : (b : Bool) → has d s ≡ false → (b || false) ≡ true → has d (cond b s (x ∷ s)) ≡ false
+    here : (b : Bool) → occurs d s ≡ false → (b || false) ≡ true → occurs d (cond b s (x ∷ s)) ≡ false
     here true e h = e
     here false e h = absurd (true≢false (sym h))
 
-    by-rest : (b : Bool) → has d s ≡ b → (has d s ≡ true → has d (afterLast d s) ≡ false) → has d (afterLast d (x ∷ s)) ≡ false
+    by-rest : (b : Bool) → occurs d s ≡ b → (occurs d s ≡ true → occurs d (afterLast d s) ≡ false) → occurs d (afterLast d (x ∷ s)) ≡ false
     by-rest true e ih = rw e (ih e)
     by-rest false e ih = rw e (here (eqb x d) e (rw e at h))
 
@@ -46,7 +46,7 @@ last-is-last d (x ∷ s) h = by-rest (has d s) refl (last-is-last d s)
 pub before-front : (d : ℕ) (s : List ℕ) → beforeLast d s ≡ take (length (beforeLast d s)) s
 unfolding beforeLast
 before-front d [] = refl
-before-front d (x ∷ s) = by-rest (has d s) (before-front d s)
+before-front d (x ∷ s) = by-rest (occurs d s) (before-front d s)
   where
     by-rest : (b : Bool) → beforeLast d s ≡ take (length (beforeLast d s)) s → cond b (x ∷ beforeLast d s) [] ≡ take (length (cond b (x ∷ beforeLast d s) [])) (x ∷ s)
     by-rest true ih = ap (λ (l : List ℕ). x ∷ l) ih
@@ -55,7 +55,7 @@ before-front d (x ∷ s) = by-rest (has d s) (before-front d s)
 pub before-within : (d : ℕ) (s : List ℕ) → length (beforeLast d s) ≤ length s
 unfolding beforeLast
 before-within d [] = omega arith
-before-within d (x ∷ s) = by-rest (has d s) (before-within d s)
+before-within d (x ∷ s) = by-rest (occurs d s) (before-within d s)
   where
     by-rest : (b : Bool) → length (beforeLast d s) ≤ length s → length (cond b (x ∷ beforeLast d s) []) ≤ length (x ∷ s)
     by-rest true ih = omega arith
@@ -63,8 +63,8 @@ before-within d (x ∷ s) = by-rest (has d s) (before-within d s)
 
 -- ---- one d more
 module _ (d x : ℕ) (e : x ≡ d) where
-  pub has-delimiter : (s : List ℕ) → has d (s ++ (x ∷ [])) ≡ true
-  unfolding has
+  pub has-delimiter : (s : List ℕ) → occurs d (s ++ (x ∷ [])) ≡ true
+  unfolding occurs
   has-delimiter [] = rw (eq-eqb x d e)
   has-delimiter (y ∷ s) = rw (has-delimiter s) (or-true (eqb y d))
     where
@@ -73,31 +73,31 @@ module _ (d x : ℕ) (e : x ≡ d) where
       or-true false = refl
 
   pub before-delimiter : (s : List ℕ) → beforeLast d (s ++ (x ∷ [])) ≡ s
-  unfolding has beforeLast
+  unfolding occurs beforeLast
   before-delimiter [] = refl
   before-delimiter (y ∷ s) = rw (has-delimiter s) (ap (λ (l : List ℕ). y ∷ l) (before-delimiter s))
 
   pub after-delimiter : (s : List ℕ) → afterLast d (s ++ (x ∷ [])) ≡ []
-  unfolding has afterLast
+  unfolding occurs afterLast
   after-delimiter [] = rw (eq-eqb x d e)
   after-delimiter (y ∷ s) = rw (has-delimiter s) (after-delimiter s)
 
 -- ---- one other byte more
 module _ (d x : ℕ) (n : x ≡ d → ⊥) where
-  pub has-other : (s : List ℕ) → has d (s ++ (x ∷ [])) ≡ has d s
-  unfolding has
+  pub has-other : (s : List ℕ) → occurs d (s ++ (x ∷ [])) ≡ occurs d s
+  unfolding occurs
   has-other [] = rw (ne-eqb x d n)
   has-other (y ∷ s) = ap (λ (b : Bool). eqb y d || b) (has-other s)
 
   pub before-other : (s : List ℕ) → beforeLast d (s ++ (x ∷ [])) ≡ beforeLast d s
-  unfolding has beforeLast
+  unfolding occurs beforeLast
   before-other [] = refl
   before-other (y ∷ s) = rw (has-other s, before-other s)
 
   pub after-other : (s : List ℕ) → afterLast d (s ++ (x ∷ [])) ≡ afterLast d s ++ (x ∷ [])
-  unfolding has afterLast
+  unfolding occurs afterLast
   after-other [] = rw (ne-eqb x d n)
-  after-other (y ∷ s) = rw (has-other s, after-other s) (by-tests (has d s) (eqb y d))
+  after-other (y ∷ s) = rw (has-other s, after-other s) (by-tests (occurs d s) (eqb y d))
     where
       by-tests : (a b : Bool) → cond a (afterLast d s ++ (x ∷ [])) (cond b (s ++ (x ∷ [])) (y ∷ (s ++ (x ∷ [])))) ≡ cond a (afterLast d s) (cond b s (y ∷ s)) ++ (x ∷ [])
       by-tests true b = refl

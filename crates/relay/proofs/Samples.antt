@@ -5,7 +5,7 @@ use mathlib.Core.List.{List, [], _∷_, map}
 use Rattle.hl7.specs.Bytes.{all}
 use Rattle.hl7.specs.Cut.{ahead, cut}
 use Rattle.hl7.specs.Text.{bytes}
-use Rattle.relay.specs.Line.{lineOf, has, beforeLast, afterLast, valueAfter, isControl, Said, badLine, goodLine, said}
+use Rattle.relay.specs.Line.{lineOf, occurs, beforeLast, afterLast, valueAfter, isControl, Said, badLine, goodLine, said}
 
 -- an input and what its line says
 record Sample : Type 0 where
@@ -37,5 +37,5 @@ samples =
     ∷ []
 
 samples-hold : map (λ (s : Sample). said (lineOf (bytes (s .input)))) samples ≡ map (λ (s : Sample). s .says) samples
-unfolding samples row said isControl has beforeLast afterLast valueAfter all cut ahead
+unfolding samples row said isControl occurs beforeLast afterLast valueAfter all cut ahead
 samples-hold = refl

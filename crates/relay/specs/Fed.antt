@@ -1,4 +1,5 @@
--- What the reader of the line keeps of the input: the names that only inner contracts use. Assumes nothing.
+-- Inner: only contracts inside the crates use these names; nothing here has to be believed.
+-- What the reader of the line keeps of the input. Assumes nothing.
 use Prim.Native.Nat.{ℕ, _+_, min}
 use mathlib.Core.Path.{_≡_}
 use mathlib.Core.Bool.{not}
@@ -7,7 +8,7 @@ use lib.Dec.{eqb, ltb}
 use lib.ListN.{length, take}
 use Rattle.hl7.specs.Bytes.{all}
 use Rattle.grade.specs.Digits.{isDigit}
-use Rattle.relay.specs.Line.{lineOf, space, has, stampOf, lastItem, valueOf, largestControl, Said, badLine, goodLine, said}
+use Rattle.relay.specs.Line.{lineOf, space, occurs, stampOf, lastItem, valueOf, largestControl, Said, badLine, goodLine, said}
 use Rattle.relay.specs.declared.line.Head.{Head}
 use Rattle.relay.specs.declared.line.Item.{Item}
 use Rattle.relay.specs.declared.line.State.{State}
@@ -30,7 +31,7 @@ pub record Heads (line : List ℕ) (h : Head) : Type 0 where
 
 -- i tells what stands before and after the line's last space
 pub record Items (line : List ℕ) (i : Item) : Type 0 where
-  pub spaced : i .spaced ≡ has space line
+  pub spaced : i .spaced ≡ occurs space line
   pub stamp : i .stamp ≡ min (length (stampOf line)) headLength
   pub filled : i .filled ≡ not (eqb (length (lastItem line)) 0)
   pub digits : i .digits ≡ all isDigit (lastItem line)

@@ -1,4 +1,4 @@
--- The line that the program reads: stamp, space, control number. Assumes nothing.
+-- To be believed. The line that the program reads: stamp, space, control number. Assumes nothing.
 use Prim.Native.Nat.{ℕ, _+_, _-_, _*_}
 use mathlib.Core.Bool.{Bool, false, cond, not, _&&_, _||_}
 use mathlib.Core.List.{List, [], _∷_}
@@ -19,19 +19,19 @@ abbrev pub lineOf : List ℕ → List ℕ
 lineOf input = partAt (cut lineFeed input) 0
 
 -- d is one of the bytes s
-unfoldable pub has : ℕ → List ℕ → Bool
-has d [] = false
-has d (x ∷ s) = eqb x d || has d s
+unfoldable pub occurs : ℕ → List ℕ → Bool
+occurs d [] = false
+occurs d (x ∷ s) = eqb x d || occurs d s
 
 -- everything before the last d of s; nothing where there is none
 unfoldable pub beforeLast : ℕ → List ℕ → List ℕ
 beforeLast d [] = []
-beforeLast d (x ∷ s) = cond (has d s) (x ∷ beforeLast d s) []
+beforeLast d (x ∷ s) = cond (occurs d s) (x ∷ beforeLast d s) []
 
 -- what stands after the last d of s; all of s where there is none
 unfoldable pub afterLast : ℕ → List ℕ → List ℕ
 afterLast d [] = []
-afterLast d (x ∷ s) = cond (has d s) (afterLast d s) (cond (eqb x d) s (x ∷ s))
+afterLast d (x ∷ s) = cond (occurs d s) (afterLast d s) (cond (eqb x d) s (x ∷ s))
 
 -- everything before the line's last space is the stamp
 abbrev pub stampOf : List ℕ → List ℕ
@@ -63,4 +63,4 @@ pub data Said : Type 0 where
 
 -- a line without a space, or whose last item is no control number, is a bad line
 unfoldable pub said : List ℕ → Said
-said line = cond (has space line && isControl (lastItem line)) (goodLine (stampOf line) (valueOf (lastItem line))) badLine
+said line = cond (occurs space line && isControl (lastItem line)) (goodLine (stampOf line) (valueOf (lastItem line))) badLine

@@ -1,4 +1,4 @@
--- What the program prints for its input, its message and its book, with an output lent for the answer. Assumes nothing.
+-- To be believed. What the program prints for its input, its message and its book, with an output lent for the answer. Assumes nothing.
 use Prim.Native.Nat.{ℕ}
 use mathlib.Core.Path.{_≡_}
 use mathlib.Core.List.{List}

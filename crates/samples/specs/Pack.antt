@@ -1,3 +1,4 @@
+-- Inner: only contracts inside the crates use these names; nothing here has to be believed.
 -- Numbers of a pack. Assumes nothing.
 use Prim.Native.Nat.{ℕ, _+_, _*_}
 use mathlib.Core.List.{List}

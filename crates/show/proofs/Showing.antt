@@ -71,11 +71,6 @@ module _ {before : List ℕ} {count end : ℕ} {after : List ℕ} {i : ℕ} (t :
       (sym (take-append-drop i after) ∙ ap₂ _++_ (t .turned ∙ front) (t .rest ∙ back), all ∙ t .least)
 
 -- ---- texts
--- a text that was written where it fits
-pub wrote-text : {before text after : List ℕ} {end : ℕ} → Wrote before 0 text after end → length text ≤ length before → take end after ≡ text
-wrote-text {before} {text} {after} {end} w h =
-    rw (wrote-at-start w h) (take-at text (drop (length text) before) end (omega (arith, w .room, w .ends)))
-
 pub refusal-short : (number detail : ℕ) → length (refusal number detail) ≤ refusalRoom
 unfolding refusal
 refusal-short number detail = simp length-append (omega (arith, decimal-short number, decimal-short detail))

@@ -1,4 +1,4 @@
--- The text that a program prints for an answer. Assumes nothing.
+-- To be believed. The text that a program prints for an answer. Assumes nothing.
 use Prim.Native.Nat.{ℕ, min}
 use mathlib.Core.Path.{_≡_}
 use mathlib.Core.Bool.{cond}

@@ -1,6 +1,7 @@
 -- `grade::order::follow_table` meets its contract: `refl` is the test of all its entries. Assumes nothing.
 use mathlib.Core.Path.{refl}
-use Rattle.grade.specs.Order.{mayFollow, isIn}
+use Rattle.hl7.specs.Bytes.{isIn}
+use Rattle.grade.specs.Order.{mayFollow}
 use Rattle.grade.specs.Strict.{countFrom}
 use Rattle.grade.proofs.order.follow_table.Statement.{statement}
 use Rattle.grade.proofs.order.follow_table.Tie as tie

@@ -1,5 +1,5 @@
 -- `hl7::refusal::check` meets its contract: rows 1 to 3, and then those of the form. Assumes nothing.
-use mathlib.Core.Path.{sym, _∙_}
+use mathlib.Core.Path.{_∙_}
 use native.Mathlib.Omega.{arith}
 use Rattle.hl7.proofs.Refusing.{message-empty, message-long, message-byte, message-form}
 use borrow.Author.Needs.{needs}

@@ -1,5 +1,4 @@
 -- `hl7::refusal::check_form` meets its contract: rows 4 and 5. Assumes nothing.
-use mathlib.Core.Path.{sym, _∙_}
 use Rattle.hl7.proofs.Refusing.{form-none, form-wrong, form-sound}
 use borrow.Author.Needs.{needs}
 use Rattle.hl7.proofs.refusal.check_form.Statement.{statement}

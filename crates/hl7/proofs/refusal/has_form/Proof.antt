@@ -1,5 +1,4 @@
 -- `hl7::refusal::has_form` meets its contract: it asks what the definition asks. Assumes nothing.
-use borrow.Author.Needs.{needs}
 use Rattle.hl7.specs.Refusals.{hasForm}
 use Rattle.hl7.proofs.refusal.has_form.Statement.{statement}
 use Rattle.hl7.proofs.refusal.has_form.Tie as tie
