@@ -6,7 +6,7 @@ use mathlib.Core.List.{List, [], _∷_, map, flatMap}
 use Rattle.hl7.specs.Text.{bytes}
 use Rattle.hl7.specs.Bytes.{begins}
 use Rattle.hl7.specs.Cut.{cut, ahead, startAt}
-use Rattle.hl7.specs.Place.{standardDelims, partOfField}
+use Rattle.hl7.specs.Place.{delimsOf, partOfField}
 use Rattle.grade.specs.Rule.{theEnd, pid, orc, segmentNames, nameBytes}
 use Rattle.grade.specs.declared.finding.Finding.{Finding}
 use Rattle.ack.specs.Decimal.{decimal, lastDigits}
@@ -28,7 +28,7 @@ msh : List ℕ
 msh = bytes "MSH|^~\\&|CAB|C1|REG|AX|20250113115900+0000||VXU^V04^VXU_V04|M1|P|2.5.1"
 
 samples :
-    ackBytes standardDelims msh (bytes "20250113120000+0000") 7 (birth ∷ sex ∷ []) ∷ errLine standardDelims order ∷ errLine standardDelims end ∷ decimal 0 ∷ decimal 4294967295 ∷ decimal 18446744073709551615 ∷ []
+    ackBytes (delimsOf msh) msh (bytes "20250113120000+0000") 7 (birth ∷ sex ∷ []) ∷ errLine (delimsOf msh) order ∷ errLine (delimsOf msh) end ∷ decimal 0 ∷ decimal 4294967295 ∷ decimal 18446744073709551615 ∷ []
     ≡ map bytes (
     "MSH|^~\\&|REG|AX|CAB|C1|20250113120000+0000||ACK^V04^ACK|7|P|2.5.1|||NE|NE|||||Z23^CDCPHINVS\rMSA|AE|M1\rERR||PID^1^7^1^1|102^Data type error^HL70357|E|1^^L\rERR||PID^1^8^1|101^Required field missing^HL70357|W|3^^L\r"
     ∷ "ERR||ORC^2|100^Segment sequence error^HL70357|E|0^^L"
@@ -37,5 +37,5 @@ samples :
     ∷ "4294967295"
     ∷ "18446744073709551615"
     ∷ [])
-unfolding ackBytes copied mshLine msaLine errLine placeParts valueParts componentParts codeText has joined marked ownByte decimal lastDigits nameBytes segmentNames flatMap birth sex order end msh partOfField begins cut ahead startAt
+unfolding ackBytes copied mshLine msaLine errLine placeParts valueParts componentParts codeText has joined marked ownByte decimal lastDigits nameBytes segmentNames flatMap birth sex order end msh partOfField begins cut ahead startAt delimsOf
 samples = refl

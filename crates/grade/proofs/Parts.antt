@@ -3,7 +3,7 @@ use Prim.Native.Nat.{ℕ, _+_, _-_, _*_, _<_, _≤_}
 use native.Mathlib.Nat.{add-zero}
 use native.Mathlib.Omega.{arith}
 use mathlib.Core.Path.{_≡_, refl, sym, ap, ap₂, subst, subst₂, _∙_}
-use mathlib.Core.Bool.{Bool, true, false, _&&_}
+use mathlib.Core.Bool.{Bool, true, false, cond, _&&_}
 use mathlib.Core.List.{List, [], _∷_, map}
 use borrow.Author.Tests.{eqb-true}
 use lib.Dec.{eqb, leb, lit<}
@@ -20,7 +20,7 @@ use Rattle.grade.specs.declared.rule.Rule.{Rule}
 use Rattle.grade.specs.declared.rule.RuleRead.{RuleRead}
 use Rattle.grade.specs.Limits.{headSize, sectionLimit, keyLimit, ruleLimit, ruleSize, setLimit, codeLimit, codeCountLimit}
 use Rattle.grade.specs.Reader.{Parsed, fault, found, isFound, itemsOf, check, times, byte, run, pair, twoBytes}
-use Rattle.grade.specs.Rule.{nameOfLetters, severityOf, kindOf, unusedZero, placeOf, noRule, ruleWith, ruleSaid, ruleFits, ruleIf, ruleWithin, ruleOf, isRule}
+use Rattle.grade.specs.Rule.{nameOfLetters, severityOf, kindOf, unusedZero, placeOf, noRule, ruleWith, ruleSaid, ruleFits, ruleWithin, ruleOf, isRule}
 use Rattle.grade.specs.Book.{plain, keys, text, section, ruleIn, codeSet, Contents, ruleRead, distinct, nothingAfter, sections}
 use Rattle.grade.specs.Standing.{endOf, mapped, textEnd, textAt, TextFits, standsAt, contentsOf, contentsAt, siteAt, starting, SetStands}
 use Rattle.grade.proofs.Readings.{then-found, found-same, check-found, byte-found, run-found, two-found, ended, is-found, row-end, row-inside, row-found, cond-gave, starts-say}
@@ -117,7 +117,7 @@ within-made : (sets : ℕ) (ten : List ℕ) (x : RuleRead) (r : Rule) → ruleWi
 within-made sets ten (RuleRead.Is rule) r e =
     go (ruleFits sets rule && unusedZero (rule .kind) (getD ten 7 0) (getD ten 8 0) (getD ten 9 0)) refl e
   where
-    go : (t : Bool) → (ruleFits sets rule && unusedZero (rule .kind) (getD ten 7 0) (getD ten 8 0) (getD ten 9 0)) ≡ t → ruleIf t rule ≡ RuleRead.Is r →
+    go : (t : Bool) → (ruleFits sets rule && unusedZero (rule .kind) (getD ten 7 0) (getD ten 8 0) (getD ten 9 0)) ≡ t → cond t (RuleRead.Is rule) RuleRead.Fault ≡ RuleRead.Is r →
         (RuleRead.Is rule ≡ RuleRead.Is r) × ((ruleFits sets r && unusedZero (r .kind) (getD ten 7 0) (getD ten 8 0) (getD ten 9 0)) ≡ true)
     go true h e =
         let q : rule ≡ r = cc in
@@ -188,7 +188,7 @@ rule-stands sets b at r e =
     rw (e, slice-at b at ruleSize 7 (lit< tt), slice-at b at ruleSize 8 (lit< tt), slice-at b at ruleSize 9 (lit< tt))
     (if-is (ruleFits sets r && unusedZero (r .kind) (getD b (at + 7) 0) (getD b (at + 8) 0) (getD b (at + 9) 0)))
   where
-    if-is : (t : Bool) → t ≡ isRule (ruleIf t r)
+    if-is : (t : Bool) → t ≡ isRule (cond t (RuleRead.Is r) RuleRead.Fault)
     if-is true = refl
     if-is false = refl
 

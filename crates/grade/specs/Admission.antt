@@ -13,13 +13,9 @@ use Rattle.grade.specs.declared.book.Opened.{Opened}
 use Rattle.grade.specs.declared.admit.Admitted.{Admitted}
 use Rattle.grade.specs.declared.admit.Admitted.the-variants.{Unreadable, NoControlId, MalformedBook, OtherVersion, NoSection, By}
 
--- the whole MSH-10
-abbrev pub controlId : Delims → List ℕ → List ℕ
-controlId d msh = fieldOf d msh 10 .bytes
-
--- it is not empty and not over 199 bytes
+-- the whole MSH-10 is not empty and not over 199 bytes
 abbrev pub hasControlId : Delims → List ℕ → Bool
-hasControlId d msh = within 1 199 (length (controlId d msh))
+hasControlId d msh = within 1 199 (length (fieldOf d msh 10 .bytes))
 
 -- MSH-6.1 names the section
 abbrev pub keyOf : Delims → List ℕ → List ℕ

@@ -152,12 +152,7 @@ errorCode (Kind.Code set) = 103
 
 -- stands for a rule where there is none
 abbrev pub noRule : Rule
-noRule =
-    record {
-      place = record { segment = theEnd; field = 0; component = 0 };
-      severity = Severity.Error;
-      kind = Kind.Required;
-    }
+noRule = record { place = record { segment = theEnd; field = 0; component = 0 }; severity = Severity.Error; kind = Kind.Required }
 
 -- a place, a severity and a kind
 abbrev pub ruleWith : Place → SeverityRead → KindRead → RuleRead
@@ -179,12 +174,8 @@ ruleSaid ten = ruleWith (placeOf ten) (severityOf (getD ten 6 0)) (kindOf (getD 
 abbrev pub ruleFits : ℕ → Rule → Bool
 ruleFits sets rule = placeFits (rule .place) && kindFits sets (rule .kind)
 
-abbrev pub ruleIf : Bool → Rule → RuleRead
-ruleIf true rule = RuleRead.Is rule
-ruleIf false rule = RuleRead.Fault
-
 abbrev pub ruleWithin : ℕ → List ℕ → RuleRead → RuleRead
-ruleWithin sets ten (RuleRead.Is rule) = ruleIf (ruleFits sets rule && unusedZero (rule .kind) (getD ten 7 0) (getD ten 8 0) (getD ten 9 0)) rule
+ruleWithin sets ten (RuleRead.Is rule) = cond (ruleFits sets rule && unusedZero (rule .kind) (getD ten 7 0) (getD ten 8 0) (getD ten 9 0)) (RuleRead.Is rule) RuleRead.Fault
 ruleWithin sets ten RuleRead.Fault = RuleRead.Fault
 
 -- what they say, where it is within its limits and the bytes that are not used are 0

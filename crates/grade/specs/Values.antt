@@ -17,12 +17,9 @@ hasLength low high v = within low high (length v)
 unfoldable pub isUnsigned : List ℕ → Bool
 isUnsigned v = eqb (digitsIn v + pointsIn v) (length v) && leb (pointsIn v) 1 && leb 1 (digitsIn v)
 
--- 1 where v begins with a sign, else 0
-abbrev pub signLength : List ℕ → ℕ
-signLength v = cond (isSign (getD v 0 0)) 1 0
-
+-- v itself, or v without the sign that it begins with
 unfoldable pub isNumber : List ℕ → Bool
-isNumber v = isUnsigned (drop (signLength v) v)
+isNumber v = isUnsigned (drop (cond (isSign (getD v 0 0)) 1 0) v)
 
 -- ---- DATE: eight digits, YYYYMMDD, of a real date
 abbrev pub yearOf : List ℕ → ℕ

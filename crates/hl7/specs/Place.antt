@@ -13,12 +13,9 @@ use Rattle.hl7.specs.Cut.{cut, Piece, pieceAt, missing, butLast}
 use Rattle.hl7.specs.Text.{bytes}
 
 -- ---- the delimiters
-abbrev pub standardDelims : Delims
-standardDelims = record { bar = code "|"; caret = code "^"; tilde = code "~"; backslash = code "\\"; ampersand = code "&" }
-
--- the five bytes that a message is cut by
+-- the five bytes that a message is cut by: always the standard five
 unfoldable pub delimsOf : List ℕ → Delims
-delimsOf m = standardDelims
+delimsOf m = record { bar = code "|"; caret = code "^"; tilde = code "~"; backslash = code "\\"; ampersand = code "&" }
 
 abbrev pub carriageReturn : ℕ
 carriageReturn = 13
