@@ -85,6 +85,10 @@ module _ (o xs : List ℕ) (at : ℕ) where
 pub wrote-length : {o p xs : List ℕ} {a b : ℕ} → Wrote o a xs p b → length p ≡ length o
 wrote-length {o} {xs = xs} {a} w = ap length (w .holds) ∙ splice-length o a xs
 
+-- any two results that the contract of a writer allows are equal
+pub wrote-once : {o p p′ xs : List ℕ} {a b b′ : ℕ} → Wrote o a xs p b → Wrote o a xs p′ b′ → (p ≡ p′) × (b ≡ b′)
+wrote-once f g = (f .holds ∙ sym (g .holds), f .ends ∙ sym (g .ends))
+
 pub wrote-none : (out : List ℕ) (at : ℕ) → length out < limit → Wrote out at [] out (min at limit)
 unfolding splice
 wrote-none out at h = record { room = h; holds = refl; ends = rw add-zero }

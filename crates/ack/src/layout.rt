@@ -147,7 +147,7 @@ fn put_code(out: &mut [u8], at: usize, d: Delims, code: u16) -> usize
 }
 
 // The ERR segment of a finding.
-pub fn put_err(out: &mut [u8], at: usize, d: Delims, finding: Finding) -> usize
+pub(crate) fn put_err(out: &mut [u8], at: usize, d: Delims, finding: Finding) -> usize
     ensures { λ r. ⌜ Wrote (now (out .entry)) at (ended (errLine d finding)) (now (out .exit)) r ⌝ }
 {
     let e = put_own(out, at, d, b"ERR||");
@@ -178,7 +178,7 @@ fn put_copy(
 }
 
 // The MSH segment; msh is the MSH of the message that is answered, its fields noted.
-pub fn put_msh(
+fn put_msh(
     out: &mut [u8],
     at: usize,
     d: Delims,
@@ -204,7 +204,7 @@ pub fn put_msh(
 }
 
 // The MSA segment; second is the second letter of MSA-1.
-pub fn put_msa(
+fn put_msa(
     out: &mut [u8],
     at: usize,
     d: Delims,
@@ -223,7 +223,7 @@ pub fn put_msa(
 }
 
 // The first two segments.
-pub fn put_heading(
+pub(crate) fn put_heading(
     out: &mut [u8],
     at: usize,
     d: Delims,
@@ -242,7 +242,7 @@ pub fn put_heading(
 }
 
 // The second letter of MSA-1.
-pub fn letter_of(header: bool, fault: bool) -> u8
+pub(crate) fn letter_of(header: bool, fault: bool) -> u8
     ensures { λ r. ⌜ r ≡ letter header fault ⌝ }
 {
     choose(header, b'R', choose(fault, b'E', b'A'))

@@ -26,7 +26,7 @@ fn copy_length(d: Delims, msh: &[u8], starts: &[usize], count: usize, k: usize) 
 }
 
 // How long the first two segments are, whatever MSA-1 is: their fixed bytes, and what stands between them.
-pub fn heading_length(
+pub(crate) fn heading_length(
     d: Delims,
     msh: &[u8],
     starts: &[usize],
@@ -106,7 +106,7 @@ fn code_length(code: u16) -> usize
 }
 
 // How long the ERR segment of a finding is.
-pub fn err_length(finding: Finding) -> usize
+pub(crate) fn err_length(finding: Finding) -> usize
     ensures { λ r. ⌜ ((d : Delims) → r ≡ length (ended (errLine d finding))) × (r ≤ 160) ⌝ }
 {
     13 + place_length(finding) + code_length(finding.code) + decimal_length(wide16(finding.rule))

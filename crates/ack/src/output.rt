@@ -11,7 +11,7 @@ ghost use Rattle.ack.specs.Decimal.{decimal, digit};
 const LIMIT: usize = 0x8000_0000_0000_0000;
 
 // The index so many bytes after at, counted up to LIMIT.
-pub fn advanced(at: usize, count: usize) -> usize
+pub(crate) fn advanced(at: usize, count: usize) -> usize
     requires { ⌜ count < limit ⌝ }
     ensures { λ r. ⌜ r ≡ min (at + count) limit ⌝ }
 {
@@ -24,7 +24,7 @@ pub fn advanced(at: usize, count: usize) -> usize
 }
 
 // How many of so many bytes lie within an output of this length, from at on.
-pub fn fitting(length: usize, at: usize, count: usize) -> usize
+pub(crate) fn fitting(length: usize, at: usize, count: usize) -> usize
     ensures { λ r. ⌜ r ≡ min count («length» - at) ⌝ }
 {
     if length <= at {
@@ -71,7 +71,7 @@ fn put_digit(out: &mut [u8], at: usize, d: usize) -> usize
 }
 
 // n in decimal notation.
-pub fn put_decimal(out: &mut [u8], at: usize, n: usize) -> usize
+fn put_decimal(out: &mut [u8], at: usize, n: usize) -> usize
     ensures { λ r. ⌜ Wrote (now (out .entry)) at (decimal n) (now (out .exit)) r ⌝ }
 {
     if n < 10 {
@@ -83,7 +83,7 @@ pub fn put_decimal(out: &mut [u8], at: usize, n: usize) -> usize
 }
 
 // A mark, and then all of bytes.
-pub fn put_field(out: &mut [u8], at: usize, mark: u8, bytes: &[u8]) -> usize
+pub(crate) fn put_field(out: &mut [u8], at: usize, mark: u8, bytes: &[u8]) -> usize
     ensures { λ r. ⌜ Wrote (now (out .entry)) at (mark ∷ now (bytes .entry)) (now (out .exit)) r ⌝ }
 {
     let next = put_byte(out, at, mark);
@@ -127,7 +127,7 @@ fn long_length(n: usize) -> usize
 }
 
 // How many digits n has: nearly every number is short.
-pub fn decimal_length(n: usize) -> usize
+pub(crate) fn decimal_length(n: usize) -> usize
     ensures { λ r. ⌜ (r ≡ length (decimal n)) × (r ≤ 20) ⌝ }
 {
     if n < 10 {
