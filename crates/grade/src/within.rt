@@ -28,7 +28,7 @@ ghost use Rattle.grade.specs.Limits.{fieldPlaces, ruleLimit, segmentCoun
 ghost use Rattle.grade.specs.Rule.{kindFits, noRule};
 ghost use Rattle.grade.specs.Standing.{Holds, Placed, rulesIn, setsIn};
 ghost use Rattle.grade.specs.Findings.{valueFinding, orderFinding};
-ghost use Rattle.grade.specs.Rest.{CodesStand, CodesAre, brokenFrom, NextValue, bytesOf, HereStands, Parted, Fielded, SpotStands, Given, segmentRest, NextOfRule, NextWithin};
+ghost use Rattle.grade.specs.Rest.{CodesStand, CodesAre, brokenFrom, NextValue, firstSpot, bytesOf, HereStands, Parted, Fielded, SpotStands, Given, segmentRest, NextOfRule, NextWithin};
 
 // The segment that is being judged: its bytes, its name, and its number among the segments of that name; how many of its parts are noted, and whether
 // it is known to have no tilde.
@@ -257,6 +257,22 @@ fn at_rule(
             )
         }
         Value::Fine => Judged::Nothing,
+    }
+}
+
+// Before the first repetition of a rule.
+pub(crate) fn first_spot(rule: usize) -> Spot
+    ensures { λ r. ⌜ r ≡ firstSpot rule ⌝ }
+{
+    Spot {
+        rule,
+        at: 0,
+        passed: 0,
+        field: Field {
+            codes: 0,
+            start: 0,
+            end: 0,
+        },
     }
 }
 
