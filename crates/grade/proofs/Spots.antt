@@ -161,31 +161,32 @@ module _ (d : Delims) (m b : List ℕ) (s : Section) (here : Here) where
           )
 
       -- the next rule about the segment
-      module _ {links : List ℕ} (linked : Linked (rulesIn b s) links) {k : ℕ} (is-link : k ≡ getD links (namePlaces + spot .rule) 0) where
+      module _ {links : List ℕ} (linked : Linked (rulesIn b s) links) {k : ℕ} (is-link : k ≡ getD links (namePlaces + spot .rule) 0) {next : Spot} (is : next ≡ firstSpot k) where
         next-is : k ≡ nextAbout (here .name) (spot .rule + 1) (drop (spot .rule + 1) (rulesIn b s))
         next-is = is-link ∙ linked .after (spot .rule) within ∙ ap (λ (name : ℕ). nextAbout name (spot .rule + 1) (drop (spot .rule + 1) (rulesIn b s))) (at .about few)
 
-        pub next-later : spot .rule < k
-        next-later = omega (arith, next-is, next-bounds (here .name) (rulesIn b s) (spot .rule + 1) .0)
+        pub next-later : spot .rule < next .rule
+        next-later = omega (arith, ap (λ (x : Spot). x .rule) is, next-is, next-bounds (here .name) (rulesIn b s) (spot .rule + 1) .0)
 
         next-about : k < length (rulesIn b s) → getD (rulesIn b s) k noRule .place .segment ≡ here .name
         next-about = rw next-is (about-next (here .name) (rulesIn b s) (spot .rule + 1))
 
-        pub next-stands : SpotStands d m b s starts here (firstSpot k)
-        next-stands = record { passed = omega arith; about = λ l. next-about (omega (arith, rules-length b s holds)); parted = λ l. at .parted few; known = λ l. absurd (omega arith) }
+        pub next-stands : SpotStands d m b s starts here next
+        next-stands = subst⁻¹ (SpotStands d m b s starts here) is (record { passed = omega arith; about = λ l. next-about (omega (arith, rules-length b s holds)); parted = λ l. at .parted few; known = λ l. absurd (omega arith) })
 
-        pub then-none : {r : Judged} → NextOfRule d m b s here spot r → r ≡ Judged.Nothing → restAt spot ≡ restAt (firstSpot k)
+        pub then-none : {r : Judged} → NextOfRule d m b s here spot r → r ≡ Judged.Nothing → restAt spot ≡ restAt next
         then-none h e =
             left-next spot within
             ∙ ap (λ (l : List Finding). l ++ rulesFrom d m b s here (spot .rule + 1)) (subst (NextOfRule d m b s here spot) e h)
             ∙ rules-skip d b s (here .name) (here .ordinal) (bytesOf m here) (spot .rule + 1)
             ∙ ap (rulesFrom d m b s here) (sym next-is)
             ∙ sym (spot-first k next-about)
+            ∙ ap restAt (sym is)
 
-        pub then-last : {l : List Finding} {r : Judged} → l ≡ restAt spot → NextOfRule d m b s here spot r → (f : Finding) → r ≡ Judged.Last f → NextWithin d m b s starts here l (Found f (firstSpot k))
+        pub then-last : {l : List Finding} {r : Judged} → l ≡ restAt spot → NextOfRule d m b s here spot r → (f : Finding) → r ≡ Judged.Last f → NextWithin d m b s starts here l (Found f next)
         then-last same h f e = (
           same ∙ left-next spot within
               ∙ ap (λ (l : List Finding). l ++ rulesFrom d m b s here (spot .rule + 1)) (subst (NextOfRule d m b s here spot) e h)
-              ∙ ap (λ (l : List Finding). f ∷ l) (rules-skip d b s (here .name) (here .ordinal) (bytesOf m here) (spot .rule + 1) ∙ ap (rulesFrom d m b s here) (sym next-is) ∙ sym (spot-first k next-about)),
+              ∙ ap (λ (l : List Finding). f ∷ l) (rules-skip d b s (here .name) (here .ordinal) (bytesOf m here) (spot .rule + 1) ∙ ap (rulesFrom d m b s here) (sym next-is) ∙ sym (spot-first k next-about) ∙ ap restAt (sym is)),
           next-stands,
         )

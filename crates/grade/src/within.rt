@@ -299,31 +299,10 @@ pub(crate) fn next_within(
                 return Within::Found(f, then);
             }
             Judged::Last(f) => {
-                return Within::Found(
-                    f,
-                    Spot {
-                        rule: link_at(links, NAME_PLACES + at.rule),
-                        at: 0,
-                        passed: 0,
-                        field: Field {
-                            codes: 0,
-                            start: 0,
-                            end: 0,
-                        },
-                    },
-                );
+                return Within::Found(f, first_spot(link_at(links, NAME_PLACES + at.rule)));
             }
             Judged::Nothing => {
-                at = Spot {
-                    rule: link_at(links, NAME_PLACES + at.rule),
-                    at: 0,
-                    passed: 0,
-                    field: Field {
-                        codes: 0,
-                        start: 0,
-                        end: 0,
-                    },
-                };
+                at = first_spot(link_at(links, NAME_PLACES + at.rule));
             }
         }
     }
