@@ -1,6 +1,6 @@
 -- The header's findings, one after the other: what the functions of `header` leave of their list. Assumes nothing.
 use Prim.Native.Nat.{_≤_}
-use mathlib.Core.Path.{_≡_, refl, sym, ap, ap₂, _∙_}
+use mathlib.Core.Path.{_≡_, refl, sym, ap, ap₂}
 use mathlib.Core.Bool.{Bool, true, false, _&&_, _||_, true≢false}
 use mathlib.Core.List.{List, [], _∷_, _++_}
 use native.Mathlib.Omega.{arith}
@@ -15,13 +15,16 @@ pub first-others : {A : Type 0} (l : List A) {x : A} {others : List A} → take 
 first-others [] e f = absurd (omega (arith, ap length e))
 first-others (y ∷ l) e f = ap₂ _∷_ (ap (λ l. getD l 0 y) e) (sym f)
 
+-- which of the four checks fail
+abbrev pub checks : (a b c e : Bool) → Header
+checks a b c e = record { «type_wrong» = a; «event_wrong» = b; «processing_wrong» = c; «version_wrong» = e }
+
 -- where no check fails there is none
 pub none-found : (h : Header) → anyWrong h ≡ false → headerFindings h ≡ []
 unfolding headerFindings
 none-found h = by (h .«type_wrong») (h .«event_wrong») (h .«processing_wrong») (h .«version_wrong»)
   where
-    by : (a b c e : Bool) → (a || b || c || e) ≡ false
-        → onlyIf a (headerFinding 200 9 1) ++ (onlyIf b (headerFinding 201 9 2) ++ (onlyIf c (headerFinding 202 11 1) ++ onlyIf e (headerFinding 203 12 1))) ≡ []
+    by : (a b c e : Bool) → anyWrong (checks a b c e) ≡ false → headerFindings (checks a b c e) ≡ []
     by true b c e h = absurd (true≢false h)
     by false true c e h = absurd (true≢false h)
     by false false true e h = absurd (true≢false h)
@@ -33,21 +36,13 @@ pub last-wrong : (h : Header) → h .«type_wrong» ≡ false → h .«event_wro
 last-wrong h a b c some = rw (a, b, c) at some
 
 -- the checks that fail after the first that does
-pub later-found : (h : Header)
-    → headerFindings (record { «type_wrong» = false; «event_wrong» = h .«type_wrong» && h .«event_wrong»; «processing_wrong» = (h .«type_wrong» || h .«event_wrong») && h .«processing_wrong»; «version_wrong» = (h .«type_wrong» || h .«event_wrong» || h .«processing_wrong») && h .«version_wrong» })
-    ≡ drop 1 (headerFindings h)
+pub later-found : (a b c e : Bool) → headerFindings (checks false (a && b) ((a || b) && c) ((a || b || c) && e)) ≡ drop 1 (headerFindings (checks a b c e))
 unfolding headerFindings
-later-found h = by (h .«type_wrong») (h .«event_wrong») (h .«processing_wrong») (h .«version_wrong»)
-  where
-    four : (a b c e : Bool) → List Finding
-    four a b c e = onlyIf a (headerFinding 200 9 1) ++ (onlyIf b (headerFinding 201 9 2) ++ (onlyIf c (headerFinding 202 11 1) ++ onlyIf e (headerFinding 203 12 1)))
-
-    by : (a b c e : Bool) → four false (a && b) ((a || b) && c) ((a || b || c) && e) ≡ drop 1 (four a b c e)
-    by true b c e = refl
-    by false true c e = refl
-    by false false true e = refl
-    by false false false true = refl
-    by false false false false = refl
+later-found true b c e = refl
+later-found false true c e = refl
+later-found false false true e = refl
+later-found false false false true = refl
+later-found false false false false = refl
 
 -- there are four at most
 pub header-few : (h : Header) → length (headerFindings h) ≤ 4

@@ -6,6 +6,7 @@ use mathlib.Core.List.{List, [], _∷_, _++_, append-nil}
 use native.Mathlib.Omega.{arith}
 use lib.ListN.{length, replicate}
 use Rattle.hl7.specs.Refusals.{messageLimit}
+use Rattle.hl7.specs.Place.{delimsOf}
 use Rattle.hl7.specs.declared.place.Delims.{Delims}
 use Rattle.grade.specs.Limits.{namePlaces}
 use Rattle.grade.specs.Rule.{otherNumber}
@@ -13,7 +14,7 @@ use Rattle.grade.specs.Standing.{Holds, rulesIn, setsIn}
 use Rattle.grade.specs.Order.{mayFollow, outOfOrder}
 use Rattle.grade.specs.Header.{headerFindings, anyWrong, headerOr}
 use Rattle.grade.specs.Findings.{findings}
-use Rattle.grade.specs.Rest.{gradeFrom, findingsIn, gradeRest, rest, Stands, Steps, betweenAt, startAt}
+use Rattle.grade.specs.Rest.{gradeFrom, findingsIn, rest, Stands, Steps, betweenAt, startAt}
 use Rattle.grade.specs.declared.header.Header.{Header}
 use Rattle.grade.specs.declared.walk.Section.{Section}
 use Rattle.grade.specs.declared.finding.Finding.{Finding}
@@ -23,7 +24,7 @@ use Rattle.grade.specs.declared.step.Step.the-variants.{Found, End}
 use Rattle.grade.proofs.Holding.{rules-length}
 use Rattle.grade.proofs.Few.{findings-few}
 use Rattle.grade.proofs.Heading.{none-found, header-few}
-use Rattle.grade.proofs.Segments.{between-list, between-stands, after-end, start-counts, counts-later}
+use Rattle.grade.proofs.Segments.{between-list, between-stands, after-end, start-counts, counts-later, list-as}
 
 module _ (follows : ℕ → ℕ → Bool) (d : Delims) (m b : List ℕ) (s : Section) where
   abbrev pub left : List ℕ → Cursor → List Finding
@@ -68,6 +69,11 @@ module _ (follows : ℕ → ℕ → Bool) (d : Delims) (m b : List ℕ) (s : Sec
     -- a loop over the steps ends
     pub step-less : {f : Finding} {c : Cursor} → r ≡ Found f c → length (left counts c) < length l
     step-less e = omega (arith, ap length (step-found e .0))
+
+-- ---- by the order's own table and the message's own delimiters, these are all
+pub start-all : (m b : List ℕ) (s : Section) (h : Header) {out : ℕ → ℕ → Bool} {d : Delims} → out ≡ outOfOrder mayFollow → d ≡ delimsOf m
+    → headerOr h (gradeFrom out d m b s 0 otherNumber (replicate namePlaces 0)) ≡ findingsIn b s h m
+start-all m b s h e f = ap (headerOr h) (list-as m b s mayFollow e f)
 
 -- ---- so many findings at most
 pub all-few : (m b : List ℕ) (s : Section) (h : Header) → length m ≤ messageLimit → Holds b s → length (findingsIn b s h m) ≤ 32769 * (257 * 32769)
