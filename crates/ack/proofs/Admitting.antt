@@ -12,15 +12,13 @@ use Rattle.hl7.proofs.Comparing.{and-both}
 use Rattle.hl7.specs.declared.place.Delims.{Delims}
 use Rattle.hl7.proofs.Refusing.{sound-short, sound-msh}
 use Rattle.grade.specs.Values.{isStamp}
-use Rattle.grade.specs.Header.{mshOf, anyWrong, headerFindings}
+use Rattle.grade.specs.Header.{mshOf}
 use Rattle.grade.specs.Admission.{admitRows, admittedTold}
-use Rattle.grade.specs.Order.{mayFollow}
-use Rattle.grade.specs.Findings.{findings}
 use Rattle.grade.specs.Grading.{findingsFor}
-use Rattle.grade.specs.Standing.{Admits, Holds, rulesIn, setsIn}
-use Rattle.grade.specs.declared.finding.Finding.{Finding}
+use Rattle.grade.specs.Standing.{Admits, Holds}
+use Rattle.grade.specs.Rest.{findingsIn}
 use Rattle.grade.proofs.Admitting.{admitted-none, admitted-by}
-use Rattle.grade.proofs.Grading.{listed-header, listed-graded}
+use Rattle.grade.proofs.Grading.{listed}
 use Rattle.grade.proofs.Stepping.{all-few}
 use Rattle.grade.specs.declared.header.Header.{Header}
 use Rattle.grade.specs.declared.walk.Section.{Section}
@@ -50,8 +48,8 @@ module _ (m b : List ℕ) {s : Section} {h : Header} (is : Admits m b (By s h)) 
   pub admitted-holds : Holds b s
   admitted-holds = admitted-by m b is .opens .holds
 
-  pub admitted-few : length (findings mayFollow (rulesIn b s) (setsIn b s) m) ≤ findingLimit
-  admitted-few = omega (arith, all-few m b s admitted-short admitted-holds)
+  pub admitted-few : length (findingsIn b s h m) ≤ findingLimit
+  admitted-few = omega (arith, all-few m b s h admitted-short admitted-holds)
 
 -- ---- the ways out of the call
 module _ (m b stamp : List ℕ) (control : ℕ) (out : List ℕ) where
@@ -69,18 +67,9 @@ module _ (m b stamp : List ℕ) (control : ℕ) (out : List ℕ) where
         ap (λ (t : Told). outcome t out) p ∙ sym (answer-admitted m b stamp control out (admitted-none m b is) ∙ write-stamp m (findingsFor m b) stamp control out e)
 
     -- refusal 11, or the ACK
-    last : {d : Delims} {msh after : List ℕ} {listed : List Finding} {a : Answer} → isStamp stamp ≡ true → d ≡ delimsOf m → msh ≡ mshOf m → listed ≡ findingsFor m b
-        → Gives a after (shortOr (ackBytes d msh stamp control listed) out) → Gives a after (answerOf m b stamp control out)
-    last e own first all w =
+    pub answer-listed : {d : Delims} {msh after : List ℕ} {a : Answer} → isStamp stamp ≡ true → d ≡ delimsOf m → msh ≡ mshOf m
+        → Gives a after (shortOr (ackBytes d msh stamp control (findingsIn b s h m)) out) → Gives a after (answerOf m b stamp control out)
+    answer-listed e own first w =
+        let by = admitted-by m b is in
+        let all = listed m b s (by .opens) (by .reads) in
         (rw (own, first, all) at w) ∙ sym (answer-admitted m b stamp control out (admitted-none m b is) ∙ write-right m (findingsFor m b) stamp control out e)
-
-    module _ {d : Delims} {msh after : List ℕ} {a : Answer} (right : isStamp stamp ≡ true) (own : d ≡ delimsOf m) (first : msh ≡ mshOf m) where
-      pub answer-by-header : anyWrong h ≡ true → Gives a after (shortOr (ackBytes d msh stamp control (headerFindings h)) out) → Gives a after (answerOf m b stamp control out)
-      answer-by-header wrong w =
-          let by = admitted-by m b is in
-          last right own first (ap headerFindings (by .reads) ∙ sym (listed-header m b s (by .opens) (rw (← by .reads) wrong))) w
-
-      pub answer-by-grading : anyWrong h ≡ false → Gives a after (shortOr (ackBytes d msh stamp control (findings mayFollow (rulesIn b s) (setsIn b s) m)) out) → Gives a after (answerOf m b stamp control out)
-      answer-by-grading fine w =
-          let by = admitted-by m b is in
-          last right own first (sym (listed-graded m b s (by .opens) (rw (← by .reads) fine))) w

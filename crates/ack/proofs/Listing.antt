@@ -1,33 +1,32 @@
 -- The ERRs of lists of findings, one after the other, and the loops that write them. Assumes nothing.
 use mathlib.Core.Path.{_≡_, refl, sym, ap, subst, subst⁻¹, _∙_}
-use mathlib.Core.Bool.{Bool, true, false, _||_, true≢false}
+use mathlib.Core.Bool.{Bool, true, false, cond, _||_}
 use mathlib.Core.List.{List, [], _∷_, _++_, map, flatMap, append-nil, append-assoc}
 use Prim.Native.Nat.{ℕ, zero, suc, _+_, _≤_, _<_, min}
 use native.Mathlib.Omega.{arith}
-use lib.ListN.{length, take, drop, length-append}
+use lib.ListN.{length, take, drop}
 use lib.Seq.{take-append-seam}
 use Prim.Native.Char.{code}
-use lib.Dec.{eqb, lit≤}
-use Rattle.hl7.specs.Bytes.{within}
 use Rattle.hl7.specs.declared.place.Delims.{Delims}
-use Rattle.grade.specs.Header.{headerFinding, onlyIf, headerFindings, anyWrong}
+use Rattle.grade.specs.Header.{headerFindings, anyWrong}
 use Rattle.grade.specs.declared.header.Header.{Header}
 use Rattle.grade.specs.Strict.{keep}
 use Rattle.grade.specs.Rule.{errorCode}
+use Rattle.grade.specs.Order.{mayFollow}
+use Rattle.grade.specs.Standing.{rulesIn, setsIn}
+use Rattle.grade.specs.Rest.{findingsIn}
 use Rattle.grade.specs.Findings.{Event, findings, findingOf, findingAt, ruleNumbered, breaks, places}
 use Rattle.grade.specs.declared.rule.Kind.{Kind}
 use Rattle.grade.specs.declared.rule.Rule.{Rule}
+use Rattle.grade.specs.declared.walk.Section.{Section}
 use Rattle.grade.specs.declared.finding.Finding.{Finding}
+use Rattle.grade.proofs.Heading.{checks}
 use Rattle.ack.specs.Splice.{Wrote, limit}
 use Rattle.ack.specs.Layout.{has, isHeader, isFault, letter, verdict, errLine, ended}
 use Rattle.ack.specs.Pieces.{findingLimit, errs, Puts}
 use Rattle.ack.specs.declared.errs.Put.{Put}
 use Rattle.ack.proofs.Sizes.{errs-short}
 use Rattle.ack.proofs.Writing.{_then_, wrote-none, wrote-as, wrote-length, wrote-at-start}
-
--- ---- what is still to come gets shorter
-pub shorter : {A : Type 0} {l rest : List A} {x : A} → l ≡ x ∷ rest → length rest < length l
-shorter e = omega (arith, ap length e)
 
 or-assoc : (a b c : Bool) → ((a || b) || c) ≡ (a || (b || c))
 or-assoc true b c = refl
@@ -80,8 +79,9 @@ module _ {d : Delims} {findings : List Finding} {o p : List ℕ} {r : Put} (w : 
       rw (whole-is, wrote-at-start (w .wrote) (omega (arith, whole-is, wrote-length (w .wrote))))
       (take-append-seam (errs d findings) (drop (length (errs d findings)) o))
 
-  pub verdict-is : has isHeader findings ≡ false → letter false (r .fault) ≡ verdict findings
-  verdict-is graded = rw (graded, w .faulty)
+  -- the letter, where it is known whether one is about the header
+  pub verdict-is : {wrong : Bool} → has isHeader findings ≡ wrong → letter wrong (r .fault) ≡ verdict findings
+  verdict-is told = rw (told, w .faulty)
 
 -- ---- what the grader finds is not about the header
 -- no rule has a header code
@@ -107,6 +107,29 @@ module _ (o : ℕ → ℕ → Bool) (rules : List Rule) (sets : List (List (List
       of n zero r = refl
       of n (suc i) r = rule-code (ruleNumbered o rules sets m i .kind)
 
+-- ---- one about the header is listed exactly where a header check fails
+pub header-told : (h : Header) → has isHeader (headerFindings h) ≡ anyWrong h
+unfolding headerFindings has
+header-told h = by (h .«type_wrong») (h .«event_wrong») (h .«processing_wrong») (h .«version_wrong»)
+  where
+    by : (a b c e : Bool) → has isHeader (headerFindings (checks a b c e)) ≡ anyWrong (checks a b c e)
+    by true b c e = refl
+    by false true c e = refl
+    by false false true e = refl
+    by false false false true = refl
+    by false false false false = refl
+
+pub listed-told : (b : List ℕ) (s : Section) (h : Header) (m : List ℕ) → has isHeader (findingsIn b s h m) ≡ anyWrong h
+listed-told b s h m = by (anyWrong h) refl
+  where
+    by : (wrong : Bool) → anyWrong h ≡ wrong → has isHeader (cond wrong (headerFindings h) (findings mayFollow (rulesIn b s) (setsIn b s) m)) ≡ wrong
+    by true e = header-told h ∙ e
+    by false e = graded-plain mayFollow (rulesIn b s) (setsIn b s) m
+
+-- which makes the answer AR
+pub header-verdict : (h : Header) → anyWrong h ≡ true → verdict (headerFindings h) ≡ code "R"
+header-verdict h e = rw (header-told h, e)
+
 -- ---- a loop over lists of findings: whatever puts what is still to come completes the whole
 abbrev pub Completes : Delims → (whole left : List Finding) → (o : List ℕ) → ℕ → (now : List ℕ) → ℕ → Bool → Type 0
 Completes d whole left o at now to fault = (after : List ℕ) (r : Put) → Puts d left now to after r → Puts d whole o at after (record { at = r .at; fault = fault || r .fault })
@@ -118,57 +141,3 @@ completes-more fault {put} inv split w after r others =
 
 pub completes-over : {d : Delims} {whole left : List Finding} {o now : List ℕ} {at to : ℕ} (fault : Bool) → Completes d whole left o at now to fault → left ≡ [] → length now < limit → to ≤ limit → Puts d whole o at now (record { at = to; fault = fault })
 completes-over {d} fault inv e room near = rw (or-none fault) at (inv _ _ (puts-as e (puts-none d room near)))
-
--- ---- the header's findings
-pub errs-if : (d : Delims) (f : Finding) → ended (errLine d f) ≡ errs d (onlyIf true f)
-unfolding errs flatMap
-errs-if d f = sym (append-nil (ended (errLine d f)))
-
-pub errs-none : (d : Delims) → [] ≡ errs d []
-unfolding errs flatMap
-errs-none d = refl
-
--- the four one after the other, as the code writes them
-pub header-errs : (d : Delims) (h : Header) {a b c e : Finding} → a ≡ headerFinding 200 9 1 → b ≡ headerFinding 201 9 2 → c ≡ headerFinding 202 11 1 → e ≡ headerFinding 203 12 1
-    → errs d (onlyIf (h .«type_wrong») a) ++ (errs d (onlyIf (h .«event_wrong») b) ++ (errs d (onlyIf (h .«processing_wrong») c) ++ errs d (onlyIf (h .«version_wrong») e)))
-    ≡ errs d (headerFindings h)
-unfolding headerFindings
-header-errs d h p q r s = rw (p, q, r, s, errs-append, errs-append, errs-append)
-
-pub header-few : (h : Header) → length (headerFindings h) ≤ 4
-unfolding headerFindings
-header-few h =
-    let a = onlyIf (h .«type_wrong») (headerFinding 200 9 1) in
-    let b = onlyIf (h .«event_wrong») (headerFinding 201 9 2) in
-    let c = onlyIf (h .«processing_wrong») (headerFinding 202 11 1) in
-    let e = onlyIf (h .«version_wrong») (headerFinding 203 12 1) in
-    omega (
-      arith,
-      length-append a (b ++ (c ++ e)),
-      length-append b (c ++ e),
-      length-append c e,
-      one (h .«type_wrong») (headerFinding 200 9 1),
-      one (h .«event_wrong») (headerFinding 201 9 2),
-      one (h .«processing_wrong») (headerFinding 202 11 1),
-      one (h .«version_wrong») (headerFinding 203 12 1),
-    )
-  where
-    one : (b : Bool) (f : Finding) → length (onlyIf b f) ≤ 1
-    one true f = lit≤ tt
-    one false f = lit≤ tt
-
-pub header-short : (d : Delims) (h : Header) → length (errs d (headerFindings h)) < limit
-header-short d h = omega (arith, errs-short d (headerFindings h), header-few h)
-
--- one of them makes the answer AR
-pub header-verdict : (h : Header) → anyWrong h ≡ true → verdict (headerFindings h) ≡ code "R"
-unfolding headerFindings has
-header-verdict h e = rw (wrong (h .«type_wrong») (h .«event_wrong») (h .«processing_wrong») (h .«version_wrong») e)
-  where
-    wrong : (a b c e : Bool) → (a || b || c || e) ≡ true
-        → has isHeader (onlyIf a (headerFinding 200 9 1) ++ (onlyIf b (headerFinding 201 9 2) ++ (onlyIf c (headerFinding 202 11 1) ++ onlyIf e (headerFinding 203 12 1)))) ≡ true
-    wrong true b c e h = refl
-    wrong false true c e h = refl
-    wrong false false true e h = refl
-    wrong false false false true h = refl
-    wrong false false false false h = absurd (true≢false (sym h))

@@ -29,21 +29,18 @@ use Rattle.grade.specs.Header.{mshOf, headerOf, anyWrong, headerFinding, onlyIf
 use Rattle.grade.specs.Admission.{bookRows, admitRows}
 use Rattle.grade.specs.Grading.{sectionFor, findingsBy, findingsFor}
 use Rattle.grade.specs.declared.rule.Severity.{Severity}
-use Rattle.grade.specs.Standing.{Admits}
 use Rattle.grade.specs.declared.rule.Rule.{Rule}
-use Rattle.grade.specs.declared.walk.Section.{Section}
-use Rattle.grade.specs.declared.admit.Admitted.the-variants.{By}
 use Rattle.grade.specs.declared.header.Header.{Header}
 use Rattle.grade.specs.declared.finding.Finding.{Finding}
 use Rattle.grade.proofs.Demand3.{findings-meet}
-use Rattle.grade.proofs.Grading.{listed-header, listed-graded}
+use Rattle.grade.proofs.Grading.{listed}
 use Rattle.grade.proofs.Admitting.{admitted-by, admits-passed, admit-bounded}
 use Rattle.ack.specs.Layout.{has, isHeader, isFault, mshLine, msaLine, errLine, ackLines}
 use Rattle.ack.specs.Answers.{Outcome, outcome, outcomeBy, ackFor, answerRows, answerOf}
 use Rattle.ack.specs.Pieces.{findingLimit, shortOr}
 use Rattle.ack.proofs.Sizes.{ack-short}
 use Rattle.ack.proofs.Admitting.{stamp-length, admitted-short, admitted-few}
-use Rattle.ack.proofs.Listing.{has-none, graded-plain, header-few, header-verdict}
+use Rattle.ack.proofs.Listing.{has-none, graded-plain, header-verdict}
 use Rattle.ack.proofs.Answering.{number-is, refused-is, written-is as ack-is, table-exactly, table-none, write-stamp, write-right, answer-admitted, answer-stopped}
 use Rattle.ack.proofs.Reading.{isNot, clean, Fine, Apart, part-without, ack-segments, ar-exactly, ae-exactly, aa-exactly}
 
@@ -267,11 +264,10 @@ msh-within m = part-short carriageReturn m 0
 module _ (m b stamp : List ℕ) (control : ℕ) (out : List ℕ) where
   -- a message that passes rows 1 to 9 is short, and its findings are few
   listed-few : firstRow (admitRows m b) .number ≡ 0 → length (findingsFor m b) ≤ findingLimit
-  listed-few e = let is = admits-passed m b e in by is (anyWrong (headerOf (delimsOf m) (mshOf m))) refl
-    where
-      by : {s : Section} {h : Header} → Admits m b (By s h) → (wrong : Bool) → anyWrong (headerOf (delimsOf m) (mshOf m)) ≡ wrong → length (findingsFor m b) ≤ findingLimit
-      by is true w = rw (listed-header m b _ (admitted-by m b is .opens) w) (omega (arith, header-few (headerOf (delimsOf m) (mshOf m))))
-      by is false w = rw (listed-graded m b _ (admitted-by m b is .opens) w) (admitted-few m b is)
+  listed-few e =
+      let is = admits-passed m b e in
+      let by = admitted-by m b is in
+      subst (λ (l : List Finding). length l ≤ findingLimit) (listed m b _ (by .opens) (by .reads)) (admitted-few m b is)
 
   -- no detail reaches 2 ^ 48, and no number 12
   pub answer-bounded : (answerOf m b stamp control out .told .number < 12) × (answerOf m b stamp control out .told .detail ≤ 2 ^ 48)

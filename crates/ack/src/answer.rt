@@ -1,7 +1,5 @@
 // The one call that answers: refusals in their order, then the length, then the bytes.
-use crate::errs::header_length;
 use crate::errs::put_errs;
-use crate::errs::put_header;
 use crate::layout::letter_of;
 use crate::layout::put_heading;
 use crate::measure::heading_length;
@@ -19,10 +17,9 @@ use grade::limits::LINKS;
 use grade::limits::SET_PLACES;
 use grade::lookup::links_of;
 use grade::lookup::sets_of;
+use grade::step::Terms;
 use grade::walk::Section;
 use hl7::bytes::front;
-use hl7::place::Delims;
-use hl7::place::MSH_PLACES;
 use hl7::place::delims_of;
 use hl7::place::note_fields;
 use hl7::place::segment;
@@ -32,13 +29,11 @@ ghost use Prim.Native.Nat.{_≤_};
 ghost use lib.ListN.{length, take};
 ghost use Rattle.hl7.specs.Place.{delimsOf, isMsh};
 ghost use Rattle.hl7.specs.Refusals.{messageLimit};
-ghost use Rattle.grade.specs.Header.{headerFindings, anyWrong};
 ghost use Rattle.grade.specs.declared.admit.Admitted.the-variants.{By};
-ghost use Rattle.grade.specs.Standing.{Admits, Holds, Placed, rulesIn, setsIn};
+ghost use Rattle.grade.specs.Standing.{Admits, Holds, Placed, rulesIn};
 ghost use Rattle.grade.specs.Limits.{fieldPlaces};
 ghost use Rattle.grade.specs.Linked.{Linked};
-ghost use Rattle.grade.specs.Order.{mayFollow};
-ghost use Rattle.grade.specs.Findings.{findings};
+ghost use Rattle.grade.specs.Rest.{findingsIn};
 ghost use Rattle.ack.specs.Layout.{ackBytes};
 ghost use Rattle.ack.specs.Pieces.{findingLimit, errs, shortOr};
 ghost use Rattle.ack.specs.Splice.{limit, Wrote};
@@ -47,113 +42,61 @@ ghost use Rattle.ack.specs.Answers.{answerOf, Gives};
 // So many bytes of ERRs are kept from the first run: a message is graded twice only where it has more.
 const KEPT: usize = 2048;
 
-// The ACK of a message whose header is wrong, where it fits.
-fn answer_header(
-    out: &mut [u8],
-    d: Delims,
-    msh: &[u8],
-    stamp: &[u8],
-    control: u32,
-    header: Header,
-) -> Answer
-    requires { ⌜ (length (now msh) ≤ messageLimit) × (length (now stamp) ≤ 19) × (anyWrong header ≡ true) × (isMsh (now msh) ≡ true) ⌝ }
-    ensures { λ r. ⌜ Gives r (now (out .exit)) (shortOr (ackBytes d (now (msh .entry)) (now (stamp .entry)) control (headerFindings header)) (now (out .entry))) ⌝ }
-{
-    let mut starts = [0usize; MSH_PLACES];
-    let count = note_fields(d, msh, &mut starts);
-    let whole = heading_length(d, msh, &starts, count, stamp, control) + header_length(d, header);
-    if out.len() < whole {
-        return Answer {
-            number: 11,
-            detail: whole,
-        };
-    }
-    let at = put_heading(out, 0, d, msh, &starts, count, stamp, control, b'R');
-    let end = put_header(out, at, d, header);
-    Answer {
-        number: 0,
-        detail: end,
-    }
-}
-
 // The ERRs of all findings: those that were kept, if they are all, or else of a second run.
-fn put_graded(
+fn put_listed(
     out: &mut [u8],
     at: usize,
     kept: &[u8],
-    whole: usize,
-    d: Delims,
+    all: usize,
+    by: Terms,
     m: &[u8],
     book: &[u8],
-    section: Section,
     sets: &[usize; SET_PLACES],
     links: &[u16; LINKS],
     starts: &mut [usize],
 ) -> usize
-    requires { ⌜ (at ≤ limit) × (length (now m) ≤ messageLimit) × Holds (now book) section × Placed (now book) section (now sets) × Linked (rulesIn (now book) section) (now links) × (fieldPlaces ≤ length (now starts)) × (d ≡ delimsOf (now m)) × (whole ≤ length (now kept) → take whole (now kept) ≡ errs d (findings mayFollow (rulesIn (now book) section) (setsIn (now book) section) (now m))) ⌝ }
-    ensures { λ r. ⌜ Wrote (now (out .entry)) at (errs d (findings mayFollow (rulesIn (now (book .entry)) section) (setsIn (now (book .entry)) section) (now (m .entry)))) (now (out .exit)) r ⌝ }
+    requires { ⌜ (at ≤ limit) × (length (now m) ≤ messageLimit) × Holds (now book) (by .section) × Placed (now book) (by .section) (now sets) × Linked (rulesIn (now book) (by .section)) (now links) × (fieldPlaces ≤ length (now starts)) × (by .d ≡ delimsOf (now m)) × (all ≤ length (now kept) → take all (now kept) ≡ errs (by .d) (findingsIn (now book) (by .section) (by .header) (now m))) ⌝ }
+    ensures { λ r. ⌜ Wrote (now (out .entry)) at (errs (by .d) (findingsIn (now (book .entry)) (by .section) (by .header) (now (m .entry)))) (now (out .exit)) r ⌝ }
 {
-    if whole <= kept.len() {
-        return put(out, at, front(kept, whole));
+    if all <= kept.len() {
+        return put(out, at, front(kept, all));
     }
-    let again = put_errs(out, at, d, m, book, section, sets, links, starts);
+    let again = put_errs(out, at, by, m, book, sets, links, starts);
     again.at
 }
 
-// The ACK of a message that is graded by a section, where it fits: the findings are gone through once to measure, and once more to write where there
-// are more than could be kept.
-fn answer_graded(
+// The ACK of a message that is graded, where it fits: the findings are gone through once to measure, and once more to write where there are more than
+// could be kept.
+fn answer_listed(
     out: &mut [u8],
-    d: Delims,
+    by: Terms,
     m: &[u8],
     book: &[u8],
-    section: Section,
     msh: &[u8],
     stamp: &[u8],
     control: u32,
 ) -> Answer
-    requires { ⌜ (length (now m) ≤ messageLimit) × Holds (now book) section × (length (now msh) ≤ messageLimit) × (length (now stamp) ≤ 19) × (length (findings mayFollow (rulesIn (now book) section) (setsIn (now book) section) (now m)) ≤ findingLimit) × (d ≡ delimsOf (now m)) × (isMsh (now msh) ≡ true) ⌝ }
-    ensures { λ r. ⌜ Gives r (now (out .exit)) (shortOr (ackBytes d (now (msh .entry)) (now (stamp .entry)) control (findings mayFollow (rulesIn (now (book .entry)) section) (setsIn (now (book .entry)) section) (now (m .entry)))) (now (out .entry))) ⌝ }
+    requires { ⌜ (length (now m) ≤ messageLimit) × Holds (now book) (by .section) × (length (now msh) ≤ messageLimit) × (length (now stamp) ≤ 19) × (length (findingsIn (now book) (by .section) (by .header) (now m)) ≤ findingLimit) × (by .d ≡ delimsOf (now m)) × (isMsh (now msh) ≡ true) ⌝ }
+    ensures { λ r. ⌜ Gives r (now (out .exit)) (shortOr (ackBytes (by .d) (now (msh .entry)) (now (stamp .entry)) control (findingsIn (now (book .entry)) (by .section) (by .header) (now (m .entry)))) (now (out .entry))) ⌝ }
 {
-    let sets = sets_of(book, section);
-    let links = links_of(book, section);
+    let sets = sets_of(book, by.section);
+    let links = links_of(book, by.section);
     let mut starts = [0usize; FIELD_PLACES];
     let mut kept = [0u8; KEPT];
-    let first = put_errs(
-        &mut kept,
-        0,
-        d,
-        m,
-        book,
-        section,
-        &sets,
-        &links,
-        &mut starts,
-    );
-    let whole = first.at;
+    let first = put_errs(&mut kept, 0, by, m, book, &sets, &links, &mut starts);
+    let all = first.at;
+    let d = by.d;
     let count = note_fields(d, msh, &mut starts);
-    let need = heading_length(d, msh, &starts, count, stamp, control) + whole;
+    let need = heading_length(d, msh, &starts, count, stamp, control) + all;
     if out.len() < need {
         return Answer {
             number: 11,
             detail: need,
         };
     }
-    let second = letter_of(false, first.fault);
+    let second = letter_of(any_wrong(by.header), first.fault);
     let at = put_heading(out, 0, d, msh, &starts, count, stamp, control, second);
-    let end = put_graded(
-        out,
-        at,
-        &kept,
-        whole,
-        d,
-        m,
-        book,
-        section,
-        &sets,
-        &links,
-        &mut starts,
-    );
+    let end = put_listed(out, at, &kept, all, by, m, book, &sets, &links, &mut starts);
     Answer {
         number: 0,
         detail: end,
@@ -175,11 +118,8 @@ fn answer_admitted(
 {
     if is_stamp(stamp) {
         let d = delims_of(m);
-        let msh = segment(m, 1);
-        if any_wrong(header) {
-            return answer_header(out, d, msh, stamp, control, header);
-        }
-        return answer_graded(out, d, m, book, section, msh, stamp, control);
+        let by = Terms { d, section, header };
+        return answer_listed(out, by, m, book, segment(m, 1), stamp, control);
     }
     refused(10)
 }

@@ -1,17 +1,16 @@
 -- Laws of `specs/Grading.antt`: what is listed depends on the book through the named section alone. Assumes nothing.
 use Prim.Native.Nat.{ℕ}
 use mathlib.Core.Path.{_≡_, ap}
-use mathlib.Core.Bool.{true, false}
 use mathlib.Core.List.{List, []}
 use lib.ListN.{getD}
 use Rattle.hl7.specs.Place.{delimsOf}
 use Rattle.grade.specs.Book.{Contents, decoded, under}
-use Rattle.grade.specs.Header.{mshOf, headerOf, anyWrong, headerFindings}
+use Rattle.grade.specs.Header.{mshOf, headerOf}
 use Rattle.grade.specs.Admission.{keyOf}
-use Rattle.grade.specs.Order.{mayFollow}
-use Rattle.grade.specs.Findings.{findings}
 use Rattle.grade.specs.Grading.{sectionFor, findingsBy, findingsFor}
 use Rattle.grade.specs.Standing.{rulesIn, setsIn}
+use Rattle.grade.specs.Rest.{findingsIn}
+use Rattle.grade.specs.declared.header.Header.{Header}
 use Rattle.grade.specs.declared.walk.Section.{Section}
 use Rattle.grade.proofs.Opening.{Under}
 
@@ -25,12 +24,7 @@ pub section-opened : (m b : List ℕ) (s : Section) → Under b (keyOf (delimsOf
 unfolding sectionFor
 section-opened m b s e = ap (λ (cs : List Contents). getD cs 0 (record { key = []; rules = []; sets = [] })) (e .only)
 
--- ---- what is listed, by the header
-module _ (m b : List ℕ) (s : Section) (found : Under b (keyOf (delimsOf m) (mshOf m)) s) where
-  pub listed-header : anyWrong (headerOf (delimsOf m) (mshOf m)) ≡ true → findingsFor m b ≡ headerFindings (headerOf (delimsOf m) (mshOf m))
-  unfolding findingsBy
-  listed-header e = rw e
-
-  pub listed-graded : anyWrong (headerOf (delimsOf m) (mshOf m)) ≡ false → findingsFor m b ≡ findings mayFollow (rulesIn b s) (setsIn b s) m
-  unfolding findingsBy
-  listed-graded e = rw (e, section-opened m b s found)
+-- ---- and what is found by it, with what was read of the header, is what is listed
+pub listed : (m b : List ℕ) (s : Section) {h : Header} → Under b (keyOf (delimsOf m) (mshOf m)) s → h ≡ headerOf (delimsOf m) (mshOf m) → findingsIn b s h m ≡ findingsFor m b
+unfolding findingsBy
+listed m b s found read = rw (read, section-opened m b s found)

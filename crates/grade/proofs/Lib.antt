@@ -15,6 +15,7 @@ pub mod Repetitions
 pub mod Judging
 pub mod Linking
 pub mod Spots
+pub mod Heading
 pub mod Segments
 pub mod Stepping
 pub mod Few

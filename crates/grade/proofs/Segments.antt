@@ -7,7 +7,7 @@ use native.Mathlib.Numerals.{add-one}
 use native.Mathlib.Omega.{arith}
 use borrow.Author.Tests.{ne-eqb}
 use lib.Dec.{eqb, lit≤}
-use lib.ListN.{length, getD, drop, set, replicate}
+use lib.ListN.{length, getD, take, drop, set, replicate}
 use lib.Seq.{drop-length}
 use Rattle.hl7.specs.Bytes.{same, begins}
 use Rattle.hl7.specs.Cut.{cut, endFrom, butLast}
@@ -20,10 +20,12 @@ use Rattle.grade.specs.Rule.{theEnd, msh, pid, counted, segmentNames, nu
 use Rattle.grade.specs.Standing.{Holds, rulesIn, setsIn}
 use Rattle.grade.specs.Linked.{nextAbout, Linked}
 use Rattle.grade.specs.Order.{nameOf, outOfOrder}
+use Rattle.grade.specs.Header.{headerFindings, anyWrong}
 use Rattle.grade.specs.Findings.{findings, orderFinding}
-use Rattle.grade.specs.Rest.{HereStands, Parted, segmentRest, rulesFrom, ofOrder, ofSegment, NextWithin, gradeSegments, gradeFrom, CountsStand, rest, Stands, betweenAt, endBy, endOpened, enteredAt, Enters, Opens, Steps}
+use Rattle.grade.specs.Rest.{HereStands, Parted, segmentRest, rulesFrom, ofOrder, ofSegment, NextWithin, gradeSegments, gradeFrom, CountsStand, gradeRest, rest, Stands, noneWrong, firstSpot, betweenAt, movedTo, endBy, endOpened, enteredAt, EnteredAt, Enters, Opens, Steps}
 use Rattle.grade.specs.declared.walk.Section.{Section}
 use Rattle.grade.specs.declared.finding.Finding.{Finding}
+use Rattle.grade.specs.declared.header.Header.{Header}
 use Rattle.grade.specs.declared.within.Here.{Here}
 use Rattle.grade.specs.declared.within.Spot.{Spot}
 use Rattle.grade.specs.declared.within.Within.{Within}
@@ -38,6 +40,7 @@ use Rattle.grade.proofs.Holding.{rules-length}
 use Rattle.grade.proofs.Linking.{about-next}
 use Rattle.grade.proofs.Spots.{left-over, spot-begin}
 use Rattle.grade.proofs.ByPlace.{walk-all, zeros}
+use Rattle.grade.proofs.Heading.{first-others, none-found}
 
 -- a segment is named MSH exactly where hl7 takes it for an MSH
 not-first : (name : List ℕ) → eqb (numberFrom pid name (drop 1 segmentNames)) msh ≡ false
@@ -66,6 +69,17 @@ set-bound (x ∷ l) (suc i) v most h all (suc k) = set-bound l i v most h (λ n.
 pub counts-later : {m : List ℕ} {at : ℕ} {counts : List ℕ} (later : ℕ) → CountsStand m at counts → at ≤ later → later ≤ length m → CountsStand m later counts
 counts-later later h p q = record { inside = q; counted = λ k. omega (arith, h .counted k) }
 
+-- a cursor before the first rule of a segment, as the code makes it
+pub entered : {d : Delims} {m starts : List ℕ} {rules first at stop name ordinal count : ℕ} {single : Bool} {none : Header} {spot : Spot} → none ≡ noneWrong → spot ≡ firstSpot first
+    → (first < rules → Parted d (between m at stop) starts count single)
+    → EnteredAt d m starts rules first at stop name ordinal (record { header = none; here = record { start = at; end = stop; name = name; ordinal = ordinal; count = count; single = single }; spot = spot; next = stop + 1; last = name })
+entered {at = at} {stop} {name} {ordinal} {count} {single} e f parted = record {
+  count = count;
+  single = single;
+  is = ap₂ (λ (header : Header) (x : Spot). record { header = header; here = record { start = at; end = stop; name = name; ordinal = ordinal; count = count; single = single }; spot = x; next = stop + 1; last = name }) e f;
+  parted = parted;
+}
+
 module _ (follows : ℕ → ℕ → Bool) (d : Delims) (m b : List ℕ) (s : Section) where
   abbrev out : ℕ → ℕ → Bool
   out = outOfOrder follows
@@ -74,13 +88,13 @@ module _ (follows : ℕ → ℕ → Bool) (d : Delims) (m b : List ℕ) (s : Sec
   from at last counts = gradeFrom out d m b s at last counts
 
   -- ---- between two segments
-  module _ (holds : Holds b s) (next last : ℕ) where
+  module _ (holds : Holds b s) (header : Header) (next last : ℕ) where
     abbrev cursor : Cursor
-    cursor = betweenAt (s .«rule_count») next last
+    cursor = betweenAt header (s .«rule_count») next last
 
-    pub between-list : (counts : List ℕ) → rest out d m b s counts cursor ≡ from next last counts
+    pub between-list : (counts : List ℕ) → rest out d m b s counts cursor ≡ headerFindings header ++ from next last counts
     between-list counts =
-        ap (λ (l : List Finding). l ++ from next last counts) (left-over d m b s (cursor .here) (cursor .spot) (omega (arith, rules-length b s holds)))
+        ap (λ (l : List Finding). headerFindings header ++ (l ++ from next last counts)) (left-over d m b s (cursor .here) (cursor .spot) (omega (arith, rules-length b s holds)))
 
     pub between-stands : (starts counts : List ℕ) → CountsStand m next counts → Stands d m b s starts counts cursor
     unfolding begins
@@ -91,7 +105,7 @@ module _ (follows : ℕ → ℕ → Bool) (d : Delims) (m b : List ℕ) (s : Sec
     }
 
   -- ---- the end
-  after-end : (counts : List ℕ) → from (length m) otherNumber counts ≡ []
+  pub after-end : (counts : List ℕ) → from (length m) otherNumber counts ≡ []
   unfolding gradeSegments cut butLast
   after-end counts = ap (λ (l : List ℕ). gradeSegments out d (rulesIn b s) (setsIn b s) counts otherNumber (butLast (cut carriageReturn l))) (drop-length m)
 
@@ -101,16 +115,17 @@ module _ (follows : ℕ → ℕ → Bool) (d : Delims) (m b : List ℕ) (s : Sec
 
   pub no-segment : (begin at last : ℕ) (starts counts : List ℕ) (l : List Finding) → Holds b s → CountsStand m at counts → l ≡ from at last counts → length m ≤ endFrom carriageReturn m at
       → (r : Opened) → r ≡ endOpened out (s .«rule_count») (length m) last → Opens out d m b s starts counts begin l r
+  unfolding headerFindings
   no-segment begin at last starts counts l holds stands passed h r e =
       subst⁻¹ (Opens out d m b s starts counts begin l) e (by (out last theEnd) refl)
     where
       c : Cursor
-      c = betweenAt (s .«rule_count») (length m) otherNumber
+      c = betweenAt noneWrong (s .«rule_count») (length m) otherNumber
 
       by : (broken : Bool) → out last theEnd ≡ broken → Opens out d m b s starts counts begin l (endBy broken c)
       by true e = (
-        passed ∙ walk-end at last counts h ∙ rw e (ap (λ (k : List Finding). orderFinding theEnd 0 ∷ k) (sym (between-list holds (length m) otherNumber counts ∙ after-end counts))),
-        between-stands holds (length m) otherNumber starts counts (counts-later (length m) stands (stands .inside) (omega arith)),
+        passed ∙ walk-end at last counts h ∙ rw e (ap (λ (k : List Finding). orderFinding theEnd 0 ∷ k) (sym (between-list holds noneWrong (length m) otherNumber counts ∙ after-end counts))),
+        between-stands holds noneWrong (length m) otherNumber starts counts (counts-later (length m) stands (stands .inside) (omega arith)),
       )
       by false e = passed ∙ walk-end at last counts h ∙ rw e
 
@@ -168,10 +183,10 @@ module _ (follows : ℕ → ℕ → Bool) (d : Delims) (m b : List ℕ) (s : Sec
         abbrev after : List ℕ
         after = set counts name ordinal
 
-        entered-list : (count : ℕ) (single : Bool) → rest out d m b s after (enteredAt at stop name ordinal first count single) ≡ rulesFrom d m b s (this count single) 0 ++ from (stop + 1) name after
+        entered-list : (count : ℕ) (single : Bool) → gradeRest out d m b s after (enteredAt at stop name ordinal first count single) ≡ rulesFrom d m b s (this count single) 0 ++ from (stop + 1) name after
         entered-list count single =
             ap (λ (k : List Finding). k ++ from (stop + 1) name after)
-            (ap (λ (i : ℕ). segmentRest d m b s (this count single) (record { rule = i; at = 0; passed = 0; field = record { codes = 0; start = 0; end = 0 } })) is-first ∙ spot-begin d m b s (this count single) holds (this-stands count single few))
+            (ap (λ (i : ℕ). segmentRest d m b s (this count single) (firstSpot i)) is-first ∙ spot-begin d m b s (this count single) holds (this-stands count single few))
 
         entered-stands : (count : ℕ) (single : Bool) → (first < s .«rule_count» → Parted d segment starts count single) → Stands d m b s starts after (enteredAt at stop name ordinal first count single)
         entered-stands count single parted = record {
@@ -181,22 +196,37 @@ module _ (follows : ℕ → ℕ → Bool) (d : Delims) (m b : List ℕ) (s : Sec
         }
 
         pub opened : (r : Opened) → Enters out d m starts (s .«rule_count») first at stop name ordinal last r → Opens out d m b s starts after begin l r
+        unfolding headerFindings
         opened (Opened.Order f c) (e, made, it) =
             subst⁻¹ (λ (x : Cursor). (l ≡ f ∷ rest out d m b s after x) × Stands d m b s starts after x) (it .is)
             (passed ∙ counted-one (it .count) (it .single) few ∙ rw e (λ i. sym made i ∷ sym (entered-list (it .count) (it .single)) i), entered-stands (it .count) (it .single) (it .parted))
         opened (Opened.Rules c) (e, it) =
-            subst⁻¹ (λ (x : Cursor). (l ≡ rest out d m b s after x) × Stands d m b s starts after x × (begin < x .next)) (it .is)
+            subst⁻¹ (λ (x : Cursor). (l ≡ gradeRest out d m b s after x) × Stands d m b s starts after x × (begin < x .next)) (it .is)
             (passed ∙ counted-one (it .count) (it .single) few ∙ rw e (sym (entered-list (it .count) (it .single))), entered-stands (it .count) (it .single) (it .parted), omega arith)
         opened Opened.End none = absurd none
 
+  -- ---- the header's findings come first
+  pub header-next : {starts counts : List ℕ} {c x : Cursor} {f : Finding} {left : Header} → Stands d m b s starts counts c → take 1 (headerFindings (c .header)) ≡ f ∷ []
+      → headerFindings left ≡ drop 1 (headerFindings (c .header)) → x ≡ movedTo c left (c .spot) → Steps out d m b s starts counts (rest out d m b s counts c) (Step.Found f x)
+  header-next {starts} {counts} {c} {f = f} stands first later is =
+      subst⁻¹ (λ (x : Cursor). (rest out d m b s counts c ≡ f ∷ rest out d m b s counts x) × Stands d m b s starts counts x) is
+      (ap (λ (l : List Finding). l ++ gradeRest out d m b s counts c) (first-others (headerFindings (c .header)) first later), record { here = stands .here; spot = stands .spot; passed = stands .passed })
+
+  pub header-over : (starts counts before : List ℕ) (c : Cursor) → anyWrong (c .header) ≡ false → (r : Step) → Steps out d m b s starts counts (gradeRest out d m b s before c) r
+      → Steps out d m b s starts counts (rest out d m b s before c) r
+  header-over starts counts before c fine r =
+      subst (λ (l : List Finding). Steps out d m b s starts counts l r) (ap (λ (l : List Finding). l ++ gradeRest out d m b s before c) (sym (none-found (c .header) fine)))
+
   -- ---- from a cursor on
-  module _ (starts counts : List ℕ) (c : Cursor) (stands : Stands d m b s starts counts c) (l : List Finding) (same : l ≡ rest out d m b s counts c) where
+  module _ (starts counts : List ℕ) (c : Cursor) (stands : Stands d m b s starts counts c) (l : List Finding) (same : l ≡ gradeRest out d m b s counts c) where
     abbrev of : Within → Type 0
     of w = NextWithin d m b s starts (c .here) (segmentRest d m b s (c .here) (c .spot)) w
 
-    pub cursor-found : {r : Within} → of r → (f : Finding) (then : Spot) → r ≡ Found f then → Steps out d m b s starts counts l (Step.Found f (record { here = c .here; spot = then; next = c .next; last = c .last }))
-    cursor-found h f then e =
-        let got = subst of e h in (
+    pub cursor-found : {r : Within} → of r → (f : Finding) (then : Spot) → r ≡ Found f then → {none : Header} → none ≡ noneWrong → {x : Cursor} → x ≡ movedTo c none then → Steps out d m b s starts counts l (Step.Found f x)
+    unfolding headerFindings
+    cursor-found h f then e fine is =
+        let got = subst of e h in
+        subst⁻¹ (λ (x : Cursor). (l ≡ f ∷ rest out d m b s counts x) × Stands d m b s starts counts x) (is ∙ ap (λ (header : Header). movedTo c header then) fine) (
           same ∙ ap (λ (k : List Finding). k ++ from (c .next) (c .last) counts) (got .0),
           record { here = stands .here; spot = got .1; passed = stands .passed },
         )

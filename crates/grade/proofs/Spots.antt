@@ -20,7 +20,7 @@ use Rattle.grade.specs.Rule.{ruleFits, kindFits, noRule}
 use Rattle.grade.specs.Standing.{Holds, rulesIn, setsIn}
 use Rattle.grade.specs.Linked.{nextAbout, Linked}
 use Rattle.grade.specs.Findings.{valueFinding}
-use Rattle.grade.specs.Rest.{CodesAre, brokenFrom, NextValue, ofRules, leftOf, leftFrom, bytesOf, HereStands, Fielded, SpotStands, rulesFrom, segmentRest, NextOfRule, NextWithin}
+use Rattle.grade.specs.Rest.{CodesAre, brokenFrom, NextValue, ofRules, leftOf, leftFrom, firstSpot, bytesOf, HereStands, Fielded, SpotStands, rulesFrom, segmentRest, NextOfRule, NextWithin}
 use Rattle.grade.specs.declared.rule.Rule.{Rule}
 use Rattle.grade.specs.declared.walk.Section.{Section}
 use Rattle.grade.specs.declared.finding.Finding.{Finding}
@@ -122,24 +122,21 @@ module _ (d : Delims) (m b : List ℕ) (s : Section) (here : Here) where
   unfolding leftFrom
   left-over spot h = ap (leftFrom d (setsIn b s) (here .name) (here .ordinal) (bytesOf m here) spot) (drop-of-length-le (rulesIn b s) h)
 
-  abbrev first : ℕ → Spot
-  first i = record { rule = i; at = 0; passed = 0; field = record { codes = 0; start = 0; end = 0 } }
-
   module _ (holds : Holds b s) (stands : HereStands m here) where
     -- before the first repetition of a rule all is left that the rules from it on give
-    pub spot-first : (i : ℕ) → (i < length (rulesIn b s) → getD (rulesIn b s) i noRule .place .segment ≡ here .name) → restAt (first i) ≡ rulesFrom d m b s here i
+    pub spot-first : (i : ℕ) → (i < length (rulesIn b s) → getD (rulesIn b s) i noRule .place .segment ≡ here .name) → restAt (firstSpot i) ≡ rulesFrom d m b s here i
     spot-first i about = by (decLt i (length (rulesIn b s)))
       where
-        by : Dec (i < length (rulesIn b s)) → restAt (first i) ≡ rulesFrom d m b s here i
+        by : Dec (i < length (rulesIn b s)) → restAt (firstSpot i) ≡ rulesFrom d m b s here i
         by (yes l) =
-            left-next (first i) l
+            left-next (firstSpot i) l
             ∙ ap (λ (k : List Finding). k ++ rulesFrom d m b s here (i + 1))
             (sym (rule-whole d b s (here .name) (here .ordinal) (bytesOf m here) (getD (rulesIn b s) i noRule) (stands .counts) (rule-fits b s holds i (omega (arith, rules-length b s holds))) (about l) (stands .named) i))
             ∙ sym (rules-next d b s (here .name) (here .ordinal) (bytesOf m here) i l)
-        by (no l) = left-over (first i) (omega arith) ∙ sym (rules-end d b s (here .name) (here .ordinal) (bytesOf m here) i (omega arith))
+        by (no l) = left-over (firstSpot i) (omega arith) ∙ sym (rules-end d b s (here .name) (here .ordinal) (bytesOf m here) i (omega arith))
 
     -- the first rule about the segment
-    pub spot-begin : restAt (first (nextAbout (here .name) 0 (rulesIn b s))) ≡ rulesFrom d m b s here 0
+    pub spot-begin : restAt (firstSpot (nextAbout (here .name) 0 (rulesIn b s))) ≡ rulesFrom d m b s here 0
     spot-begin =
         spot-first (nextAbout (here .name) 0 (rulesIn b s)) (about-next (here .name) (rulesIn b s) 0)
         ∙ sym (rules-skip d b s (here .name) (here .ordinal) (bytesOf m here) 0)
@@ -164,31 +161,32 @@ module _ (d : Delims) (m b : List ℕ) (s : Section) (here : Here) where
           )
 
       -- the next rule about the segment
-      module _ {links : List ℕ} (linked : Linked (rulesIn b s) links) {k : ℕ} (is-link : k ≡ getD links (namePlaces + spot .rule) 0) where
+      module _ {links : List ℕ} (linked : Linked (rulesIn b s) links) {k : ℕ} (is-link : k ≡ getD links (namePlaces + spot .rule) 0) {next : Spot} (is : next ≡ firstSpot k) where
         next-is : k ≡ nextAbout (here .name) (spot .rule + 1) (drop (spot .rule + 1) (rulesIn b s))
         next-is = is-link ∙ linked .after (spot .rule) within ∙ ap (λ (name : ℕ). nextAbout name (spot .rule + 1) (drop (spot .rule + 1) (rulesIn b s))) (at .about few)
 
-        pub next-later : spot .rule < k
-        next-later = omega (arith, next-is, next-bounds (here .name) (rulesIn b s) (spot .rule + 1) .0)
+        pub next-later : spot .rule < next .rule
+        next-later = omega (arith, ap (λ (x : Spot). x .rule) is, next-is, next-bounds (here .name) (rulesIn b s) (spot .rule + 1) .0)
 
         next-about : k < length (rulesIn b s) → getD (rulesIn b s) k noRule .place .segment ≡ here .name
         next-about = rw next-is (about-next (here .name) (rulesIn b s) (spot .rule + 1))
 
-        pub next-stands : SpotStands d m b s starts here (first k)
-        next-stands = record { passed = omega arith; about = λ l. next-about (omega (arith, rules-length b s holds)); parted = λ l. at .parted few; known = λ l. absurd (omega arith) }
+        pub next-stands : SpotStands d m b s starts here next
+        next-stands = subst⁻¹ (SpotStands d m b s starts here) is (record { passed = omega arith; about = λ l. next-about (omega (arith, rules-length b s holds)); parted = λ l. at .parted few; known = λ l. absurd (omega arith) })
 
-        pub then-none : {r : Judged} → NextOfRule d m b s here spot r → r ≡ Judged.Nothing → restAt spot ≡ restAt (first k)
+        pub then-none : {r : Judged} → NextOfRule d m b s here spot r → r ≡ Judged.Nothing → restAt spot ≡ restAt next
         then-none h e =
             left-next spot within
             ∙ ap (λ (l : List Finding). l ++ rulesFrom d m b s here (spot .rule + 1)) (subst (NextOfRule d m b s here spot) e h)
             ∙ rules-skip d b s (here .name) (here .ordinal) (bytesOf m here) (spot .rule + 1)
             ∙ ap (rulesFrom d m b s here) (sym next-is)
             ∙ sym (spot-first k next-about)
+            ∙ ap restAt (sym is)
 
-        pub then-last : {l : List Finding} {r : Judged} → l ≡ restAt spot → NextOfRule d m b s here spot r → (f : Finding) → r ≡ Judged.Last f → NextWithin d m b s starts here l (Found f (first k))
+        pub then-last : {l : List Finding} {r : Judged} → l ≡ restAt spot → NextOfRule d m b s here spot r → (f : Finding) → r ≡ Judged.Last f → NextWithin d m b s starts here l (Found f next)
         then-last same h f e = (
           same ∙ left-next spot within
               ∙ ap (λ (l : List Finding). l ++ rulesFrom d m b s here (spot .rule + 1)) (subst (NextOfRule d m b s here spot) e h)
-              ∙ ap (λ (l : List Finding). f ∷ l) (rules-skip d b s (here .name) (here .ordinal) (bytesOf m here) (spot .rule + 1) ∙ ap (rulesFrom d m b s here) (sym next-is) ∙ sym (spot-first k next-about)),
+              ∙ ap (λ (l : List Finding). f ∷ l) (rules-skip d b s (here .name) (here .ordinal) (bytesOf m here) (spot .rule + 1) ∙ ap (rulesFrom d m b s here) (sym next-is) ∙ sym (spot-first k next-about) ∙ ap restAt (sym is)),
           next-stands,
         )

@@ -6,7 +6,7 @@ use lib.ListN.{getD}
 use Rattle.hl7.specs.Place.{delimsOf}
 use Rattle.hl7.specs.Refusals.{Told, firstRow, passes}
 use Rattle.grade.specs.Book.{Contents, decoded, under}
-use Rattle.grade.specs.Header.{mshOf, headerOf, anyWrong, headerFindings}
+use Rattle.grade.specs.Header.{mshOf, headerOf, headerOr}
 use Rattle.grade.specs.Admission.{keyOf, admitRows}
 use Rattle.grade.specs.Order.{mayFollow}
 use Rattle.grade.specs.Findings.{findings}
@@ -18,10 +18,7 @@ sectionFor m b = getD (under (keyOf (delimsOf m) (mshOf m)) (decoded b)) 0 (reco
 
 -- header findings alone, if there are any; otherwise those of the order and of the section's rules
 unfoldable pub findingsBy : Contents → List ℕ → List Finding
-findingsBy section m =
-    cond (anyWrong (headerOf (delimsOf m) (mshOf m)))
-    (headerFindings (headerOf (delimsOf m) (mshOf m)))
-    (findings mayFollow (section .rules) (section .sets) m)
+findingsBy section m = headerOr (headerOf (delimsOf m) (mshOf m)) (findings mayFollow (section .rules) (section .sets) m)
 
 -- what the ACK of a message lists
 abbrev pub findingsFor : List ℕ → List ℕ → List Finding

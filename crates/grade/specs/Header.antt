@@ -51,3 +51,7 @@ headerFindings h =
 
 abbrev pub anyWrong : Header → Bool
 anyWrong h = h .«type_wrong» || h .«event_wrong» || h .«processing_wrong» || h .«version_wrong»
+
+-- header findings alone, if there are any; otherwise the others
+abbrev pub headerOr : Header → List Finding → List Finding
+headerOr h others = cond (anyWrong h) (headerFindings h) others

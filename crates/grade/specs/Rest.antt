@@ -17,14 +17,16 @@ use Rattle.hl7.specs.declared.place.Delims.{Delims}
 use Rattle.grade.specs.Rule.{theEnd, msh, pid, counted, otherNumber, noRule}
 use Rattle.grade.specs.Standing.{rulesIn, setsIn, Holds, Placed, SetStands, codesAt}
 use Rattle.grade.specs.Linked.{Linked}
-use Rattle.grade.specs.Order.{nameOf}
+use Rattle.grade.specs.Order.{nameOf, mayFollow}
 use Rattle.grade.specs.Broken.{judges, broken, breaksRule}
-use Rattle.grade.specs.Findings.{isAbout, valueIn, valuesOf, orderFinding, valueFinding}
+use Rattle.grade.specs.Findings.{isAbout, valueIn, valuesOf, orderFinding, valueFinding, findings}
+use Rattle.grade.specs.Header.{anyWrong, headerFindings, headerOr}
 use Rattle.grade.specs.declared.rule.Kind.{Kind}
 use Rattle.grade.specs.declared.rule.Kind.the-variants.{Required, Length, Number, Date, Time, Code}
 use Rattle.grade.specs.declared.rule.Rule.{Rule}
 use Rattle.grade.specs.declared.walk.Section.{Section}
 use Rattle.grade.specs.declared.finding.Finding.{Finding}
+use Rattle.grade.specs.declared.header.Header.{Header}
 use Rattle.grade.specs.declared.within.Here.{Here}
 use Rattle.grade.specs.declared.within.Field.{Field}
 use Rattle.grade.specs.declared.within.Spot.{Spot}
@@ -101,6 +103,10 @@ unfoldable pub leftFrom : Delims → List (List (List ℕ)) → ℕ → ℕ → 
 leftFrom d sets name ordinal segment spot [] = []
 leftFrom d sets name ordinal segment spot (rule ∷ rules) =
     leftOf d sets name ordinal segment spot rule ++ ofRules d sets name ordinal segment (spot .rule + 1) rules
+
+-- before the first repetition of rule i
+abbrev pub firstSpot : ℕ → Spot
+firstSpot i = record { rule = i; at = 0; passed = 0; field = record { codes = 0; start = 0; end = 0 } }
 
 -- ---- one segment
 abbrev pub bytesOf : List ℕ → Here → List ℕ
@@ -188,10 +194,23 @@ pub record CountsStand (m : List ℕ) (at : ℕ) (counts : List ℕ) : Type 0 wh
   pub inside : at ≤ length m
   pub counted : (k : ℕ) → getD counts k 0 ≤ at
 
+-- ---- all findings
+-- by a section of a book, where the header says h
+abbrev pub findingsIn : List ℕ → Section → Header → List ℕ → List Finding
+findingsIn b s h m = headerOr h (findings mayFollow (rulesIn b s) (setsIn b s) m)
+
 -- ---- the cursor
--- what is still to come: of the present segment, then of the segments after it, those before having been counted
+-- what grading still gives: of the present segment, then of the segments after it, those before having been counted
+abbrev pub gradeRest : (ℕ → ℕ → Bool) → Delims → List ℕ → List ℕ → Section → List ℕ → Cursor → List Finding
+gradeRest out d m b s counts c = segmentRest d m b s (c .here) (c .spot) ++ gradeFrom out d m b s (c .next) (c .last) counts
+
+-- what is still to come: of the header, then of that
 abbrev pub rest : (ℕ → ℕ → Bool) → Delims → List ℕ → List ℕ → Section → List ℕ → Cursor → List Finding
-rest out d m b s counts c = segmentRest d m b s (c .here) (c .spot) ++ gradeFrom out d m b s (c .next) (c .last) counts
+rest out d m b s counts c = headerFindings (c .header) ++ gradeRest out d m b s counts c
+
+-- no header check fails
+abbrev pub noneWrong : Header
+noneWrong = record { «type_wrong» = false; «event_wrong» = false; «processing_wrong» = false; «version_wrong» = false }
 
 -- a cursor that `start` and `next` hand out, with what they leave in what is lent to them
 pub record Stands (d : Delims) (m b : List ℕ) (s : Section) (starts counts : List ℕ) (c : Cursor) : Type 0 where
@@ -200,14 +219,23 @@ pub record Stands (d : Delims) (m b : List ℕ) (s : Section) (starts counts : L
   pub passed : CountsStand m (c .next) counts
 
 -- a cursor between two segments: nothing is left of the one before, all of whose `count` rules were judged
-abbrev pub betweenAt : ℕ → ℕ → ℕ → Cursor
-betweenAt count next last =
+abbrev pub betweenAt : Header → ℕ → ℕ → ℕ → Cursor
+betweenAt header count next last =
     record {
+      header = header;
       here = record { start = 0; end = 0; name = pid; ordinal = 0; count = 0; single = false };
-      spot = record { rule = count; at = 0; passed = 0; field = record { codes = 0; start = 0; end = 0 } };
+      spot = firstSpot count;
       next = next;
       last = last;
     }
+
+-- before the first finding: where the header is wrong, behind the last segment, with no counted name before, so that nothing follows its findings
+abbrev pub startAt : Header → ℕ → ℕ → Cursor
+startAt header count end = betweenAt header count (cond (anyWrong header) end 0) otherNumber
+
+-- the cursor at a spot of its segment, with the header checks that are left
+abbrev pub movedTo : Cursor → Header → Spot → Cursor
+movedTo c header spot = record { header = header; here = c .here; spot = spot; next = c .next; last = c .last }
 
 -- what opening gives at the end of the message, after the counted name `last`
 abbrev pub endBy : Bool → Cursor → Opened
@@ -215,14 +243,15 @@ endBy true c = Opened.Order (orderFinding theEnd 0) c
 endBy false c = Opened.End
 
 abbrev pub endOpened : (ℕ → ℕ → Bool) → ℕ → ℕ → ℕ → Opened
-endOpened out count at last = endBy (out last theEnd) (betweenAt count at otherNumber)
+endOpened out count at last = endBy (out last theEnd) (betweenAt noneWrong count at otherNumber)
 
 -- a cursor in the segment from `at` to `stop`, before its first rule
 abbrev pub enteredAt : ℕ → ℕ → ℕ → ℕ → ℕ → ℕ → Bool → Cursor
 enteredAt at stop name ordinal first count single =
     record {
+      header = noneWrong;
       here = record { start = at; end = stop; name = name; ordinal = ordinal; count = count; single = single };
-      spot = record { rule = first; at = 0; passed = 0; field = record { codes = 0; start = 0; end = 0 } };
+      spot = firstSpot first;
       next = stop + 1;
       last = name;
     }
@@ -243,7 +272,7 @@ Enters out d m starts rules first at stop name ordinal last Opened.End = ⊥
 -- the next counted segment after `from` was opened, or the end, where l is still to come
 abbrev pub Opens : (ℕ → ℕ → Bool) → Delims → List ℕ → List ℕ → Section → List ℕ → List ℕ → ℕ → List Finding → Opened → Type 0
 Opens out d m b s starts counts from l (Opened.Order f c) = (l ≡ f ∷ rest out d m b s counts c) × Stands d m b s starts counts c
-Opens out d m b s starts counts from l (Opened.Rules c) = (l ≡ rest out d m b s counts c) × Stands d m b s starts counts c × (from < c .next)
+Opens out d m b s starts counts from l (Opened.Rules c) = (l ≡ gradeRest out d m b s counts c) × Stands d m b s starts counts c × (from < c .next)
 Opens out d m b s starts counts from l Opened.End = l ≡ []
 
 -- a step from a cursor at which l is still to come

@@ -1,14 +1,19 @@
-// The header: what MSH-9, MSH-11 and MSH-12 say of the message.
+// The header: what MSH-9, MSH-11 and MSH-12 say of the message, and its findings.
+use crate::finding::Finding;
 use hl7::bytes::same_bytes;
 use hl7::place::Delims;
 use hl7::place::component;
 use hl7::place::noted_field;
 use hl7::place::repetition;
 ghost use mathlib.Core.Path.{_≡_};
+ghost use mathlib.Core.Bool.{true};
+ghost use mathlib.Core.List.{[], _∷_};
 ghost use Prim.Native.Nat.{_<_, _≤_};
+ghost use lib.ListN.{take, drop};
 ghost use Rattle.hl7.specs.Bytes.{same};
 ghost use Rattle.hl7.specs.Noted.{MshNoted};
-ghost use Rattle.grade.specs.Header.{mshAt, isProcessingId, headerOf, anyWrong};
+ghost use Rattle.grade.specs.Header.{mshAt, isProcessingId, headerOf, headerFinding, headerFindings, anyWrong};
+ghost use Rattle.grade.specs.Rest.{noneWrong};
 
 // Which of the four header checks fail.
 pub struct Header {
@@ -81,4 +86,64 @@ pub fn any_wrong(header: Header) -> bool
     ensures { λ r. ⌜ r ≡ anyWrong header ⌝ }
 {
     header.type_wrong | header.event_wrong | header.processing_wrong | header.version_wrong
+}
+
+// No header check fails.
+pub(crate) fn none_wrong() -> Header
+    ensures { λ r. ⌜ r ≡ noneWrong ⌝ }
+{
+    Header {
+        type_wrong: false,
+        event_wrong: false,
+        processing_wrong: false,
+        version_wrong: false,
+    }
+}
+
+// A finding about the header: an E at the first MSH.
+fn header_finding(code: u16, field: u8, component: u8) -> Finding
+    ensures { λ r. ⌜ r ≡ headerFinding code field component ⌝ }
+{
+    Finding {
+        name: 1,
+        ordinal: 1,
+        field,
+        repetition: 1,
+        component,
+        rule: 0,
+        code,
+        severity: b'E',
+    }
+}
+
+// The finding of the first header check that fails, where one does.
+pub(crate) fn first_wrong(header: Header) -> Finding
+    requires { ⌜ anyWrong header ≡ true ⌝ }
+    ensures { λ r. ⌜ take 1 (headerFindings header) ≡ r ∷ [] ⌝ }
+{
+    if header.type_wrong {
+        return header_finding(200, 9, 1);
+    }
+    if header.event_wrong {
+        return header_finding(201, 9, 2);
+    }
+    if header.processing_wrong {
+        return header_finding(202, 11, 1);
+    }
+    header_finding(203, 12, 1)
+}
+
+// The header checks that fail after it.
+pub(crate) fn later_wrong(header: Header) -> Header
+    ensures { λ r. ⌜ headerFindings r ≡ drop 1 (headerFindings header) ⌝ }
+{
+    let one = header.type_wrong;
+    let two = one | header.event_wrong;
+    let three = two | header.processing_wrong;
+    Header {
+        type_wrong: false,
+        event_wrong: one & header.event_wrong,
+        processing_wrong: two & header.processing_wrong,
+        version_wrong: three & header.version_wrong,
+    }
 }

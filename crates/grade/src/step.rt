@@ -1,5 +1,10 @@
 // The grader: where it stands, and the next finding.
 use crate::finding::Finding;
+use crate::header::Header;
+use crate::header::any_wrong;
+use crate::header::first_wrong;
+use crate::header::later_wrong;
+use crate::header::none_wrong;
 use crate::limits::LINKS;
 use crate::limits::NAME_PLACES;
 use crate::limits::SET_PLACES;
@@ -7,13 +12,14 @@ use crate::lookup::link_at;
 use crate::order::out_of_order;
 use crate::rule::name_of_letters;
 use crate::walk::Section;
-use crate::within::Field;
 use crate::within::Here;
 use crate::within::Spot;
 use crate::within::Within;
+use crate::within::first_spot;
 use crate::within::next_within;
 use crate::within::order_finding;
 use hl7::bytes::byte_at;
+use hl7::bytes::pick;
 use hl7::bytes::wide;
 use hl7::cut::find_far;
 use hl7::cut::none_is;
@@ -24,15 +30,23 @@ ghost use mathlib.Core.Bool.{true};
 ghost use Prim.Native.Nat.{_+_, _≤_, _<_};
 ghost use lib.ListN.{length};
 ghost use Rattle.hl7.specs.Refusals.{messageLimit};
-ghost use Rattle.grade.specs.Rule.{otherNumber};
 ghost use Rattle.grade.specs.Limits.{fieldPlaces, segmentCount};
 ghost use Rattle.grade.specs.Standing.{Holds, rulesIn};
 ghost use Rattle.grade.specs.Linked.{Linked};
 ghost use Rattle.grade.specs.Order.{nameOf, outOfOrder, tableSays};
-ghost use Rattle.grade.specs.Rest.{Given, Parted, gradeFrom, CountsStand, rest, Stands, betweenAt, endOpened, Enters, Opens, Steps};
+ghost use Rattle.grade.specs.Rest.{Given, Parted, gradeFrom, CountsStand, gradeRest, rest, Stands, betweenAt, startAt, movedTo, endOpened, Enters, Opens, Steps};
 
-// Where the grader stands: in a segment, at a spot of it; then where the next segment begins, and the last counted name.
+// By what a message is graded: its delimiters, the section of the book that it names, and what its header says.
+pub struct Terms {
+    pub d: Delims,
+    pub section: Section,
+    pub header: Header,
+}
+
+// Where the grader stands: the header checks whose findings are still to come; in a segment, at a spot of it; then where the next segment begins, and the
+// last counted name.
 pub struct Cursor {
+    pub header: Header,
     pub here: Here,
     pub spot: Spot,
     pub next: usize,
@@ -66,10 +80,11 @@ fn name_of(seg: &[u8]) -> usize
 }
 
 // A cursor between two segments: nothing is left of the one before.
-fn between(section: Section, next: usize, last: usize) -> Cursor
-    ensures { λ r. ⌜ r ≡ betweenAt (section .«rule_count») next last ⌝ }
+fn between(header: Header, section: Section, next: usize, last: usize) -> Cursor
+    ensures { λ r. ⌜ r ≡ betweenAt header (section .«rule_count») next last ⌝ }
 {
     Cursor {
+        header,
         here: Here {
             start: 0,
             end: 0,
@@ -78,26 +93,18 @@ fn between(section: Section, next: usize, last: usize) -> Cursor
             count: 0,
             single: false,
         },
-        spot: Spot {
-            rule: section.rule_count,
-            at: 0,
-            passed: 0,
-            field: Field {
-                codes: 0,
-                start: 0,
-                end: 0,
-            },
-        },
+        spot: first_spot(section.rule_count),
         next,
         last,
     }
 }
 
-// Before the first finding.
-pub fn start(section: Section) -> Cursor
-    ensures { λ r. ⌜ r ≡ betweenAt (section .«rule_count») 0 otherNumber ⌝ }
+// Before the first finding. Behind the last segment and with no name before, nothing follows the header's findings.
+pub fn start(by: Terms, m: &[u8]) -> Cursor
+    ensures { λ r. ⌜ r ≡ startAt (by .header) (by .section .«rule_count») (length (now (m .entry))) ⌝ }
 {
-    between(section, 0, 11)
+    let next = pick(any_wrong(by.header), m.len(), 0);
+    between(by.header, by.section, next, 11)
 }
 
 // The end of the message. No name comes after it, so that its finding comes once.
@@ -105,7 +112,7 @@ fn finish(table: &[[bool; 11]; 10], section: Section, end: usize, last: usize) -
     ensures { λ r. ⌜ r ≡ endOpened (outOfOrder (tableSays (now (table .entry)))) (section .«rule_count») end last ⌝ }
 {
     if out_of_order(table, last, 0) {
-        return Opened::Order(order_finding(0, 0), between(section, end, 11));
+        return Opened::Order(order_finding(0, 0), between(none_wrong(), section, end, 11));
     }
     Opened::End
 }
@@ -131,9 +138,8 @@ fn note_segment(d: Delims, seg: &[u8], some: bool, starts: &mut [usize]) -> Mark
 // The segment of a counted name from at to stop, after the counted name last: its parts are noted once, and only if it has rules, of which first is the first.
 fn enter(
     table: &[[bool; 11]; 10],
-    d: Delims,
+    by: Terms,
     m: &[u8],
-    rules: usize,
     first: usize,
     starts: &mut [usize],
     at: usize,
@@ -143,10 +149,12 @@ fn enter(
     last: usize,
 ) -> Opened
     requires { ⌜ (at ≤ stop) × (stop < length (now m)) × (1 ≤ length (now starts)) × (name ≤ segmentCount) ⌝ }
-    ensures { λ r. ⌜ Enters (outOfOrder (tableSays (now (table .entry)))) d (now (m .entry)) (now (starts .exit)) rules first at stop name ordinal last r ⌝ }
+    ensures { λ r. ⌜ Enters (outOfOrder (tableSays (now (table .entry)))) (by .d) (now (m .entry)) (now (starts .exit)) (by .section .«rule_count») first at stop name ordinal last r ⌝ }
 {
-    let marks = note_segment(d, &m[at..stop], first < rules, starts);
+    let some = first < by.section.rule_count;
+    let marks = note_segment(by.d, &m[at..stop], some, starts);
     let cursor = Cursor {
+        header: none_wrong(),
         here: Here {
             start: at,
             end: stop,
@@ -155,16 +163,7 @@ fn enter(
             count: marks.count,
             single: marks.single,
         },
-        spot: Spot {
-            rule: first,
-            at: 0,
-            passed: 0,
-            field: Field {
-                codes: 0,
-                start: 0,
-                end: 0,
-            },
-        },
+        spot: first_spot(first),
         next: stop + 1,
         last: name,
     };
@@ -177,96 +176,75 @@ fn enter(
 // The next segment of a counted name, from a position on, after the counted name last; or the end.
 fn open_segment(
     table: &[[bool; 11]; 10],
-    d: Delims,
+    by: Terms,
     m: &[u8],
     book: &[u8],
-    section: Section,
     links: &[u16; LINKS],
     starts: &mut [usize],
     counts: &mut [u32; NAME_PLACES],
     from: usize,
     last: usize,
 ) -> Opened
-    requires { ⌜ (length (now m) ≤ messageLimit) × Holds (now book) section × Linked (rulesIn (now book) section) (now links) × CountsStand (now m) from (now counts) × (fieldPlaces ≤ length (now starts)) ⌝ }
-    ensures { λ r. ⌜ Opens (outOfOrder (tableSays (now (table .entry)))) d (now (m .entry)) (now (book .entry)) section (now (starts .exit)) (now (counts .exit)) from (gradeFrom (outOfOrder (tableSays (now (table .entry)))) d (now (m .entry)) (now (book .entry)) section from last (now (counts .entry))) r ⌝ }
+    requires { ⌜ (length (now m) ≤ messageLimit) × Holds (now book) (by .section) × Linked (rulesIn (now book) (by .section)) (now links) × CountsStand (now m) from (now counts) × (fieldPlaces ≤ length (now starts)) ⌝ }
+    ensures { λ r. ⌜ Opens (outOfOrder (tableSays (now (table .entry)))) (by .d) (now (m .entry)) (now (book .entry)) (by .section) (now (starts .exit)) (now (counts .exit)) from (gradeFrom (outOfOrder (tableSays (now (table .entry)))) (by .d) (now (m .entry)) (now (book .entry)) (by .section) from last (now (counts .entry))) r ⌝ }
 {
     let end = m.len();
     let mut at = from;
     loop {
         let stop = find_far(m, b'\r', at);
         if end <= stop {
-            return finish(table, section, end, last);
+            return finish(table, by.section, end, last);
         }
         let name = name_of(&m[at..stop]);
         if name <= 10 {
             let ordinal = counts[name] + 1;
             counts[name] = ordinal;
             let first = link_at(links, name);
-            return enter(
-                table,
-                d,
-                m,
-                section.rule_count,
-                first,
-                starts,
-                at,
-                stop,
-                name,
-                ordinal,
-                last,
-            );
+            return enter(table, by, m, first, starts, at, stop, name, ordinal, last);
         }
         at = stop + 1;
     }
 }
 
-// The next finding by a follow table and delimiters, or the end. The section's sets stand at the places that `sets_of` gave, and its rules are linked as
-// `links_of` did. The parts of the present segment are noted in starts, and the segments of each name are counted, from zeros at the start.
-pub fn next(
+// The cursor at a spot of its segment, with the header checks that are left.
+fn moved(c: Cursor, header: Header, spot: Spot) -> Cursor
+    ensures { λ r. ⌜ r ≡ movedTo c header spot ⌝ }
+{
+    let here = c.here;
+    Cursor {
+        header,
+        here,
+        spot,
+        next: c.next,
+        last: c.last,
+    }
+}
+
+// The next finding of the order and of the rules, or the end.
+fn next_graded(
     table: &[[bool; 11]; 10],
-    d: Delims,
+    by: Terms,
     m: &[u8],
     book: &[u8],
-    section: Section,
     sets: &[usize; SET_PLACES],
     links: &[u16; LINKS],
     starts: &mut [usize],
     counts: &mut [u32; NAME_PLACES],
     cursor: Cursor,
 ) -> Step
-    requires { ⌜ Given (now m) (now book) section (now sets) (now links) × Stands d (now m) (now book) section (now starts) (now counts) cursor × (fieldPlaces ≤ length (now starts)) ⌝ }
-    ensures { λ r. ⌜ Steps (outOfOrder (tableSays (now (table .entry)))) d (now (m .entry)) (now (book .entry)) section (now (starts .exit)) (now (counts .exit)) (rest (outOfOrder (tableSays (now (table .entry)))) d (now (m .entry)) (now (book .entry)) section (now (counts .entry)) cursor) r ⌝ }
+    requires { ⌜ Given (now m) (now book) (by .section) (now sets) (now links) × Stands (by .d) (now m) (now book) (by .section) (now starts) (now counts) cursor × (fieldPlaces ≤ length (now starts)) ⌝ }
+    ensures { λ r. ⌜ Steps (outOfOrder (tableSays (now (table .entry)))) (by .d) (now (m .entry)) (now (book .entry)) (by .section) (now (starts .exit)) (now (counts .exit)) (gradeRest (outOfOrder (tableSays (now (table .entry)))) (by .d) (now (m .entry)) (now (book .entry)) (by .section) (now (counts .entry)) cursor) r ⌝ }
 {
     let mut c = cursor;
     loop {
         let here = c.here;
-        let spot = c.spot;
-        match next_within(d, m, book, section, sets, links, starts, here, spot) {
+        match next_within(by.d, m, book, by.section, sets, links, starts, here, c.spot) {
             Within::Found(f, then) => {
-                return Step::Found(
-                    f,
-                    Cursor {
-                        here,
-                        spot: then,
-                        next: c.next,
-                        last: c.last,
-                    },
-                );
+                return Step::Found(f, moved(c, none_wrong(), then));
             }
             Within::Nothing => {}
         }
-        match open_segment(
-            table,
-            d,
-            m,
-            book,
-            section,
-            links,
-            starts,
-            counts,
-            c.next,
-            c.last,
-        ) {
+        match open_segment(table, by, m, book, links, starts, counts, c.next, c.last) {
             Opened::Order(f, then) => {
                 return Step::Found(f, then);
             }
@@ -278,4 +256,29 @@ pub fn next(
             }
         }
     }
+}
+
+// The next finding by a follow table, or the end: of the header first, one test that fails nearly always. The section's sets stand at the places that
+// `sets_of` gave, and its rules are linked as `links_of` did. The parts of the present segment are noted in starts, and the segments of each name are
+// counted, from zeros at the start.
+pub fn next(
+    table: &[[bool; 11]; 10],
+    by: Terms,
+    m: &[u8],
+    book: &[u8],
+    sets: &[usize; SET_PLACES],
+    links: &[u16; LINKS],
+    starts: &mut [usize],
+    counts: &mut [u32; NAME_PLACES],
+    cursor: Cursor,
+) -> Step
+    requires { ⌜ Given (now m) (now book) (by .section) (now sets) (now links) × Stands (by .d) (now m) (now book) (by .section) (now starts) (now counts) cursor × (fieldPlaces ≤ length (now starts)) ⌝ }
+    ensures { λ r. ⌜ Steps (outOfOrder (tableSays (now (table .entry)))) (by .d) (now (m .entry)) (now (book .entry)) (by .section) (now (starts .exit)) (now (counts .exit)) (rest (outOfOrder (tableSays (now (table .entry)))) (by .d) (now (m .entry)) (now (book .entry)) (by .section) (now (counts .entry)) cursor) r ⌝ }
+{
+    if any_wrong(cursor.header) {
+        let finding = first_wrong(cursor.header);
+        let left = later_wrong(cursor.header);
+        return Step::Found(finding, moved(cursor, left, cursor.spot));
+    }
+    next_graded(table, by, m, book, sets, links, starts, counts, cursor)
 }

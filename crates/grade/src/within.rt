@@ -28,7 +28,7 @@ ghost use Rattle.grade.specs.Limits.{fieldPlaces, ruleLimit, segmentCoun
 ghost use Rattle.grade.specs.Rule.{kindFits, noRule};
 ghost use Rattle.grade.specs.Standing.{Holds, Placed, rulesIn, setsIn};
 ghost use Rattle.grade.specs.Findings.{valueFinding, orderFinding};
-ghost use Rattle.grade.specs.Rest.{CodesStand, CodesAre, brokenFrom, NextValue, bytesOf, HereStands, Parted, Fielded, SpotStands, Given, segmentRest, NextOfRule, NextWithin};
+ghost use Rattle.grade.specs.Rest.{CodesStand, CodesAre, brokenFrom, NextValue, firstSpot, bytesOf, HereStands, Parted, Fielded, SpotStands, Given, segmentRest, NextOfRule, NextWithin};
 
 // The segment that is being judged: its bytes, its name, and its number among the segments of that name; how many of its parts are noted, and whether
 // it is known to have no tilde.
@@ -260,6 +260,22 @@ fn at_rule(
     }
 }
 
+// Before the first repetition of a rule.
+pub(crate) fn first_spot(rule: usize) -> Spot
+    ensures { λ r. ⌜ r ≡ firstSpot rule ⌝ }
+{
+    Spot {
+        rule,
+        at: 0,
+        passed: 0,
+        field: Field {
+            codes: 0,
+            start: 0,
+            end: 0,
+        },
+    }
+}
+
 // The next finding of a segment: of the rule at the spot, then of the rules after it.
 pub(crate) fn next_within(
     d: Delims,
@@ -283,31 +299,10 @@ pub(crate) fn next_within(
                 return Within::Found(f, then);
             }
             Judged::Last(f) => {
-                return Within::Found(
-                    f,
-                    Spot {
-                        rule: link_at(links, NAME_PLACES + at.rule),
-                        at: 0,
-                        passed: 0,
-                        field: Field {
-                            codes: 0,
-                            start: 0,
-                            end: 0,
-                        },
-                    },
-                );
+                return Within::Found(f, first_spot(link_at(links, NAME_PLACES + at.rule)));
             }
             Judged::Nothing => {
-                at = Spot {
-                    rule: link_at(links, NAME_PLACES + at.rule),
-                    at: 0,
-                    passed: 0,
-                    field: Field {
-                        codes: 0,
-                        start: 0,
-                        end: 0,
-                    },
-                };
+                at = first_spot(link_at(links, NAME_PLACES + at.rule));
             }
         }
     }

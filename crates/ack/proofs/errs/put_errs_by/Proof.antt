@@ -7,6 +7,7 @@ use lib.ListN.{length, replicate}
 use Rattle.grade.specs.Order.{outOfOrder, tableSays}
 use Rattle.grade.specs.Limits.{namePlaces}
 use Rattle.grade.specs.Rule.{otherNumber}
+use Rattle.grade.specs.Header.{headerOr}
 use Rattle.grade.specs.Rest.{gradeFrom, rest, Stands}
 use Rattle.grade.proofs.Stepping.{start-left, start-stands, step-found, step-end, step-less}
 use Rattle.ack.specs.Splice.{limit}
@@ -16,13 +17,13 @@ use Rattle.ack.proofs.errs.put_errs_by.Statement.{statement}
 use Rattle.ack.proofs.errs.put_errs_by.Tie as tie
 
 abbrev Inv-loop : tie.InvT-loop
-Inv-loop table out₀ from d m book section sets links starts₀ counts₀ cursor₀ to₀ fault₀ out starts counts cursor to fault =
-    (length out < limit) × (to ≤ limit) × (length starts ≡ length starts₀) × Stands d m book section starts counts cursor
-    × Completes d (gradeFrom (outOfOrder (tableSays table)) d m book section 0 otherNumber (replicate namePlaces 0)) (rest (outOfOrder (tableSays table)) d m book section counts cursor) out₀ from out to fault
+Inv-loop table out₀ from by m book sets links starts₀ counts₀ cursor₀ to₀ fault₀ out starts counts cursor to fault =
+    (length out < limit) × (to ≤ limit) × (length starts ≡ length starts₀) × Stands (by .d) m book (by .section) starts counts cursor
+    × Completes (by .d) (headerOr (by .header) (gradeFrom (outOfOrder (tableSays table)) (by .d) m book (by .section) 0 otherNumber (replicate namePlaces 0))) (rest (outOfOrder (tableSays table)) (by .d) m book (by .section) counts cursor) out₀ from out to fault
 
 abbrev μ-loop : tie.MeasureT-loop
-μ-loop table out₀ from d m book section sets links starts₀ counts₀ cursor₀ to₀ fault₀ out starts counts cursor to fault =
-    length (rest (outOfOrder (tableSays table)) d m book section counts cursor)
+μ-loop table out₀ from by m book sets links starts₀ counts₀ cursor₀ to₀ fault₀ out starts counts cursor to fault =
+    length (rest (outOfOrder (tableSays table)) (by .d) m book (by .section) counts cursor)
 
 start-requires : tie.Need-start-requires Inv-loop μ-loop
 start-requires c κs = tt
@@ -32,7 +33,7 @@ loop-holds c =
     let begin = c .before .before .before .before .before in
     let a = begin .args in
     let p = begin .pre in
-    (omega arith, p .0, refl, start-stands (tableSays (a .table .now)) (a .d) (a .m .now) (a .book .now) (a .section) (p .2) (c .start .ensures) _, λ after r w. puts-as (sym (start-left (tableSays (a .table .now)) (a .d) (a .m .now) (a .book .now) (a .section) (p .2) (c .start .ensures))) w)
+    (omega arith, p .0, refl, start-stands (tableSays (a .table .now)) (a .by .d) (a .m .now) (a .book .now) (a .by .section) (p .2) (a .by .header) (c .start .ensures) _, λ after r w. puts-as (sym (start-left (tableSays (a .table .now)) (a .by .d) (a .m .now) (a .book .now) (a .by .section) (p .2) (a .by .header) (c .start .ensures))) w)
 
 next-requires : tie.Need-next-requires Inv-loop μ-loop
 next-requires c κs =
@@ -59,7 +60,7 @@ loop-less c =
     let a = begin .args in
     let p = begin .pre in
     let l = at-loop .loop in
-    step-less (tableSays (a .table .now)) (a .d) (a .m .now) (a .book .now) (a .section) _ _ _ (c .before .before .before .before .before .before .before .before .before .before .next .result) (c .before .before .before .before .before .before .before .before .before .before .next .ensures) (c .before .before .before .before .before .before .finding .given .1)
+    step-less (tableSays (a .table .now)) (a .by .d) (a .m .now) (a .book .now) (a .by .section) _ _ _ (c .before .before .before .before .before .before .before .before .before .before .next .result) (c .before .before .before .before .before .before .before .before .before .before .next .ensures) (c .before .before .before .before .before .before .finding .given .1)
 
 loop-again : tie.Need-loop-again Inv-loop μ-loop
 loop-again c =
@@ -68,11 +69,11 @@ loop-again c =
     let a = begin .args in
     let p = begin .pre in
     let l = at-loop .loop in
-    let found = step-found (tableSays (a .table .now)) (a .d) (a .m .now) (a .book .now) (a .section) _ _ _ (c .before .before .before .before .before .before .before .before .before .before .next .result) (c .before .before .before .before .before .before .before .before .before .before .next .ensures) (c .before .before .before .before .before .before .finding .given .1) in
+    let found = step-found (tableSays (a .table .now)) (a .by .d) (a .m .now) (a .book .now) (a .by .section) _ _ _ (c .before .before .before .before .before .before .before .before .before .before .next .result) (c .before .before .before .before .before .before .before .before .before .before .next .ensures) (c .before .before .before .before .before .before .finding .given .1) in
     let wrote = c .before .before .before .put-finding .ensures in (
       omega (arith, wrote-length wrote, l .inv .0),
       omega (arith, wrote .ends),
-      c .before .before .before .before .before .before .before .before .before .before .next .kept .1 .1 .1 .1 .1 .1 .1 .0 ∙ l .inv .2,
+      c .before .before .before .before .before .before .before .before .before .before .next .kept .1 .1 .1 .1 .1 .1 .0 ∙ l .inv .2,
       found .1,
       completes-more (l .fault) (l .inv .4) (found .0) (puts-one wrote (c .is-fault .ensures)),
     )
@@ -87,13 +88,13 @@ returns c =
     let a = begin .args in
     let p = begin .pre in
     let l = at-loop .loop in
-    completes-over (l .fault) (l .inv .4) (step-end (tableSays (a .table .now)) (a .d) (a .m .now) (a .book .now) (a .section) _ _ _ (c .before .before .before .before .next .result) (c .before .before .before .before .next .ensures) (c .enum-told .given .1)) (l .inv .0) (l .inv .1)
+    completes-over (l .fault) (l .inv .4) (step-end (tableSays (a .table .now)) (a .by .d) (a .m .now) (a .book .now) (a .by .section) _ _ _ (c .before .before .before .before .next .result) (c .before .before .before .before .next .ensures) (c .enum-told .given .1)) (l .inv .0) (l .inv .1)
 
 same-length : tie.Need-same-length Inv-loop μ-loop
 same-length c = wrote-length (returns c .wrote)
 
 same-length-2 : tie.Need-same-length-2 Inv-loop μ-loop
-same-length-2 c = c .before .before .before .before .next .kept .1 .1 .1 .1 .1 .1 .1 .0 ∙ c .before .before .before .before .before .before .before .loop .inv .2
+same-length-2 c = c .before .before .before .before .next .kept .1 .1 .1 .1 .1 .1 .0 ∙ c .before .before .before .before .before .before .before .loop .inv .2
 
 pub put-errs-by-spec : {M : Type 1} → statement M
 put-errs-by-spec =

@@ -11,12 +11,12 @@ use Rattle.grade.proofs.step.open_segment.Statement.{statement}
 use Rattle.grade.proofs.step.open_segment.Tie as tie
 
 abbrev Inv-loop : tie.InvT-loop
-Inv-loop table d m book section links starts₀ counts₀ from last end at₀ starts counts at =
+Inv-loop table by m book links starts₀ counts₀ from last end at₀ starts counts at =
     (length starts ≡ length starts₀) × (counts ≡ counts₀) × CountsStand m at counts × (end ≡ length m) × (from ≤ at)
-    × (gradeFrom (outOfOrder (tableSays table)) d m book section from last counts₀ ≡ gradeFrom (outOfOrder (tableSays table)) d m book section at last counts)
+    × (gradeFrom (outOfOrder (tableSays table)) (by .d) m book (by .section) from last counts₀ ≡ gradeFrom (outOfOrder (tableSays table)) (by .d) m book (by .section) at last counts)
 
 abbrev μ-loop : tie.MeasureT-loop
-μ-loop table d m book section links starts₀ counts₀ from last end at₀ starts counts at = end - at
+μ-loop table by m book links starts₀ counts₀ from last end at₀ starts counts at = end - at
 
 loop-holds : tie.Need-loop-holds Inv-loop μ-loop
 loop-holds c = (refl, refl, c .before .before .before .pre .3, refl, omega arith, refl)
@@ -38,7 +38,7 @@ returns c =
     let p = begin .pre in
     let l = at-loop .loop in
     let far = c .before .before .find-far in
-    no-segment (tableSays (a .table .now)) (a .d) (a .m .now) (a .book .now) (a .section) (a .from) (l .at) (a .last) (l .starts) (l .counts) _ (p .1) (l .inv .2) (l .inv .5) (omega (arith, far .ensures)) (c .finish .result) (c .finish .ensures)
+    no-segment (tableSays (a .table .now)) (a .by .d) (a .m .now) (a .book .now) (a .by .section) (a .from) (l .at) (a .last) (l .starts) (l .counts) _ (p .1) (l .inv .2) (l .inv .5) (omega (arith, far .ensures)) (c .finish .result) (c .finish .ensures)
 
 sub-name-of : tie.Need-sub-name-of Inv-loop μ-loop
 sub-name-of c = search needs
@@ -86,7 +86,7 @@ enter-requires c κs =
     (omega (arith, c .before .before .before .before .before .before .before .find-far .ensures), omega (arith, l .inv .3, c .before .before .before .before .before .before .if1 .left), omega (arith, p .4, l .inv .0), omega arith)
 
 same-length-2 : tie.Need-same-length-2 Inv-loop μ-loop
-same-length-2 c = c .before .before .enter .kept .1 .1 .1 .1 .1 .0 ∙ c .before .before .before .before .before .before .before .before .before .before .before .loop .inv .0
+same-length-2 c = c .before .before .enter .kept .1 .1 .1 .1 .0 ∙ c .before .before .before .before .before .before .before .before .before .before .before .loop .inv .0
 
 returns-2 : tie.Need-returns-2 Inv-loop μ-loop
 returns-2 c =
@@ -96,7 +96,7 @@ returns-2 c =
     let p = begin .pre in
     let l = at-loop .loop in
     let far = c .before .before .before .before .before .before .before .before .before .before .find-far in
-    opened (tableSays (a .table .now)) (a .d) (a .m .now) (a .book .now) (a .section) (l .at) (a .last) (l .counts) (l .inv .2) (far .result) (far .ensures) (omega (arith, l .inv .3, c .before .before .before .before .before .before .before .before .before .if1 .left)) (c .before .before .before .before .before .before .before .name-of .result) (c .before .before .before .before .before .before .before .name-of .ensures) (a .from) _ (l .inv .5) (l .inv .4) (p .1) (p .2) _ (omega (arith, c .before .before .before .before .before .before .if2 .taken)) (c .before .before .before .before .link-at .result) (c .before .before .before .before .link-at .ensures) (c .before .before .enter .result) (c .before .before .enter .ensures)
+    opened (tableSays (a .table .now)) (a .by .d) (a .m .now) (a .book .now) (a .by .section) (l .at) (a .last) (l .counts) (l .inv .2) (far .result) (far .ensures) (omega (arith, l .inv .3, c .before .before .before .before .before .before .before .before .before .if1 .left)) (c .before .before .before .before .before .before .before .name-of .result) (c .before .before .before .before .before .before .before .name-of .ensures) (a .from) _ (l .inv .5) (l .inv .4) (p .1) (p .2) _ (omega (arith, c .before .before .before .before .before .before .if2 .taken)) (c .before .before .before .before .link-at .result) (c .before .before .before .before .link-at .ensures) (c .before .before .enter .result) (c .before .before .enter .ensures)
 
 add-at : tie.Need-add-at Inv-loop μ-loop
 add-at c = search needs
@@ -117,7 +117,7 @@ loop-again c =
       counts-later (far .result + 1) (l .inv .2) (omega (arith, far .ensures)) (omega arith),
       l .inv .3,
       omega (arith, l .inv .4, far .ensures),
-      l .inv .5 ∙ other-one (tableSays (a .table .now)) (a .d) (a .m .now) (a .book .now) (a .section) (l .at) (a .last) (l .counts) (l .inv .2) (far .result) (far .ensures) (omega arith) (c .before .name-of .result) (c .before .name-of .ensures) (omega arith),
+      l .inv .5 ∙ other-one (tableSays (a .table .now)) (a .by .d) (a .m .now) (a .book .now) (a .by .section) (l .at) (a .last) (l .counts) (l .inv .2) (far .result) (far .ensures) (omega arith) (c .before .name-of .result) (c .before .name-of .ensures) (omega arith),
     )
 
 pub open-segment-spec : {M : Type 1} → statement M

@@ -63,12 +63,12 @@ link-at-requires c κs =
 
 returns-2 : tie.Need-returns-2 Inv-loop μ-loop
 returns-2 c =
-    let at-loop = c .before .before .before .before .before .before .before .before in
+    let at-loop = c .before .before .before .before .before .before .before .before .before in
     let begin = at-loop .before .before .before .before in
     let a = begin .args in
     let p = begin .pre in
     let l = at-loop .loop in
-    then-last (a .d) (a .m .now) (a .book .now) (a .section) (a .here) (p .0 .holds) (p .1) (l .at) (l .inv .1) (omega (arith, l .inv .0, c .before .before .before .before .before .before .if1 .taken)) (p .0 .linked) (c .link-at .ensures) (l .inv .2) (c .before .before .before .before .before .at-rule .ensures) _ (c .before .before .before .f2 .given .1)
+    then-last (a .d) (a .m .now) (a .book .now) (a .section) (a .here) (p .0 .holds) (p .1) (l .at) (l .inv .1) (omega (arith, l .inv .0, c .before .before .before .before .before .before .before .if1 .taken)) (p .0 .linked) (c .before .link-at .ensures) (c .first-spot .ensures) (l .inv .2) (c .before .before .before .before .before .before .at-rule .ensures) _ (c .before .before .before .before .f2 .given .1)
 
 enum-told : tie.Need-enum-told Inv-loop μ-loop
 enum-told c = search needs
@@ -93,21 +93,21 @@ link-at-requires-2 c κs =
 
 loop-less : tie.Need-loop-less Inv-loop μ-loop
 loop-less c =
-    let at-loop = c .before .before .before .before .before .before .before in
+    let at-loop = c .before .before .before .before .before .before .before .before in
     let begin = at-loop .before .before .before .before in
     let a = begin .args in
     let p = begin .pre in
     let l = at-loop .loop in
-    omega (arith, l .inv .0, c .before .before .before .before .before .if1 .taken, next-later (a .d) (a .m .now) (a .book .now) (a .section) (a .here) (p .0 .holds) (p .1) (l .at) (l .inv .1) (omega (arith, l .inv .0, c .before .before .before .before .before .if1 .taken)) (p .0 .linked) (c .link-at2 .ensures))
+    omega (arith, l .inv .0, c .before .before .before .before .before .before .if1 .taken, next-later (a .d) (a .m .now) (a .book .now) (a .section) (a .here) (p .0 .holds) (p .1) (l .at) (l .inv .1) (omega (arith, l .inv .0, c .before .before .before .before .before .before .if1 .taken)) (p .0 .linked) (c .before .link-at2 .ensures) (c .first-spot2 .ensures))
 
 loop-again : tie.Need-loop-again Inv-loop μ-loop
 loop-again c =
-    let at-loop = c .before .before .before .before .before .before .before in
+    let at-loop = c .before .before .before .before .before .before .before .before in
     let begin = at-loop .before .before .before .before in
     let a = begin .args in
     let p = begin .pre in
     let l = at-loop .loop in
-    (l .inv .0, next-stands (a .d) (a .m .now) (a .book .now) (a .section) (a .here) (p .0 .holds) (p .1) (l .at) (l .inv .1) (omega (arith, l .inv .0, c .before .before .before .before .before .if1 .taken)) (p .0 .linked) (c .link-at2 .ensures), l .inv .2 ∙ then-none (a .d) (a .m .now) (a .book .now) (a .section) (a .here) (p .0 .holds) (p .1) (l .at) (l .inv .1) (omega (arith, l .inv .0, c .before .before .before .before .before .if1 .taken)) (p .0 .linked) (c .link-at2 .ensures) (c .before .before .before .before .at-rule .ensures) (c .before .before .enum-told .given .1))
+    (l .inv .0, next-stands (a .d) (a .m .now) (a .book .now) (a .section) (a .here) (p .0 .holds) (p .1) (l .at) (l .inv .1) (omega (arith, l .inv .0, c .before .before .before .before .before .before .if1 .taken)) (p .0 .linked) (c .before .link-at2 .ensures) (c .first-spot2 .ensures), l .inv .2 ∙ then-none (a .d) (a .m .now) (a .book .now) (a .section) (a .here) (p .0 .holds) (p .1) (l .at) (l .inv .1) (omega (arith, l .inv .0, c .before .before .before .before .before .before .if1 .taken)) (p .0 .linked) (c .before .link-at2 .ensures) (c .first-spot2 .ensures) (c .before .before .before .before .before .at-rule .ensures) (c .before .before .before .enum-told .given .1))
 
 returns-3 : tie.Need-returns-3 Inv-loop μ-loop
 returns-3 c =
@@ -131,10 +131,12 @@ next-within-spec =
     enum-known-f-2
     add-link-at
     link-at-requires
+    (λ c κs. tt)
     returns-2
     enum-told
     add-link-at-2
     link-at-requires-2
+    (λ c κs. tt)
     loop-less
     loop-again
     returns-3)

@@ -1,10 +1,10 @@
--- `ack::answer::put_graded` meets its contract. Assumes nothing.
+-- `ack::answer::put_listed` meets its contract. Assumes nothing.
 use mathlib.Core.Path.{_∙_}
 use native.Mathlib.Omega.{arith}
 use borrow.Author.Needs.{needs}
 use Rattle.ack.proofs.Writing.{wrote-as}
-use Rattle.ack.proofs.answer.put_graded.Statement.{statement}
-use Rattle.ack.proofs.answer.put_graded.Tie as tie
+use Rattle.ack.proofs.answer.put_listed.Statement.{statement}
+use Rattle.ack.proofs.answer.put_listed.Tie as tie
 
 returns : tie.Need-returns
 returns c =
@@ -12,8 +12,8 @@ returns c =
     let begin = at-put .before .before .before .before .before .before .before .before .before in
     wrote-as (at-put .put .ensures) (at-put .before .front .ensures ∙ begin .pre .7 (omega arith))
 
-pub put-graded-spec : {M : Type 1} → statement M
-put-graded-spec =
+pub put-listed-spec : {M : Type 1} → statement M
+put-listed-spec =
     tie.close
     (tie.spec
     (λ c κs. tt)
