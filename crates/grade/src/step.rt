@@ -12,6 +12,7 @@ use crate::lookup::link_at;
 use crate::order::out_of_order;
 use crate::rule::name_of_letters;
 use crate::walk::Section;
+use crate::within::Field;
 use crate::within::Here;
 use crate::within::Spot;
 use crate::within::Within;
@@ -163,7 +164,17 @@ fn enter(
             count: marks.count,
             single: marks.single,
         },
-        spot: first_spot(first),
+        // written out: a call here would send every finding's cursor through memory
+        spot: Spot {
+            rule: first,
+            at: 0,
+            passed: 0,
+            field: Field {
+                codes: 0,
+                start: 0,
+                end: 0,
+            },
+        },
         next: stop + 1,
         last: name,
     };
@@ -240,7 +251,16 @@ fn next_graded(
         let here = c.here;
         match next_within(by.d, m, book, by.section, sets, links, starts, here, c.spot) {
             Within::Found(f, then) => {
-                return Step::Found(f, moved(c, none_wrong(), then));
+                return Step::Found(
+                    f,
+                    Cursor {
+                        header: none_wrong(),
+                        here,
+                        spot: then,
+                        next: c.next,
+                        last: c.last,
+                    },
+                );
             }
             Within::Nothing => {}
         }

@@ -1,5 +1,5 @@
 -- `grade::step::enter` meets its contract. Assumes nothing.
-use mathlib.Core.Path.{sym, _∙_}
+use mathlib.Core.Path.{refl, sym, _∙_}
 use borrow.Author.Tests.{lt-ltb}
 use borrow.Author.Needs.{needs}
 use Rattle.grade.proofs.Segments.{entered}
@@ -21,9 +21,6 @@ note-segment-requires c κs = search needs
 none-wrong-requires : tie.Need-none-wrong-requires
 none-wrong-requires c κs = tt
 
-first-spot-requires : tie.Need-first-spot-requires
-first-spot-requires c κs = tt
-
 add-t15 : tie.Need-add-t15
 add-t15 c = search needs
 
@@ -39,8 +36,8 @@ same-length c = search needs
 returns : tie.Need-returns
 returns c =
     let at-cursor = c .before .before .before in
-    let at-note = at-cursor .before .before .before .before in
-    (sym (c .before .before .out-of-order .ensures) ∙ c .before .if1 .taken, c .order-finding .ensures, entered (at-cursor .before .none-wrong .ensures) (at-cursor .first-spot .ensures) (λ l. at-note .note-segment .ensures (lt-ltb _ _ l)))
+    let at-note = at-cursor .before .before .before in
+    (sym (c .before .before .out-of-order .ensures) ∙ c .before .if1 .taken, c .order-finding .ensures, entered (at-cursor .none-wrong .ensures) refl (λ l. at-note .note-segment .ensures (lt-ltb _ _ l)))
 
 same-length-2 : tie.Need-same-length-2
 same-length-2 c = search needs
@@ -48,8 +45,8 @@ same-length-2 c = search needs
 returns-2 : tie.Need-returns-2
 returns-2 c =
     let at-cursor = c .before .before in
-    let at-note = at-cursor .before .before .before .before in
-    (sym (c .before .out-of-order .ensures) ∙ c .if1 .left, entered (at-cursor .before .none-wrong .ensures) (at-cursor .first-spot .ensures) (λ l. at-note .note-segment .ensures (lt-ltb _ _ l)))
+    let at-note = at-cursor .before .before .before in
+    (sym (c .before .out-of-order .ensures) ∙ c .if1 .left, entered (at-cursor .none-wrong .ensures) refl (λ l. at-note .note-segment .ensures (lt-ltb _ _ l)))
 
 pub enter-spec : {M : Type 1} → statement M
 enter-spec =
@@ -60,7 +57,6 @@ enter-spec =
     part-note-segment-end
     note-segment-requires
     none-wrong-requires
-    first-spot-requires
     add-t15
     out-of-order-requires
     order-finding-requires

@@ -34,16 +34,16 @@ enum-known-f : tie.Need-enum-known-f Inv-loop μ-loop
 enum-known-f c = search needs
 
 same-length : tie.Need-same-length Inv-loop μ-loop
-same-length c = c .before .before .before .before .before .before .before .before .loop .inv .0
+same-length c = c .before .before .before .before .before .before .before .loop .inv .0
 
 returns : tie.Need-returns Inv-loop μ-loop
 returns c =
-    let at-loop = c .before .before .before .before .before .before .before .before in
+    let at-loop = c .before .before .before .before .before .before .before in
     let begin = at-loop .before .before .before .before in
     let a = begin .args in
     let p = begin .pre in
     let l = at-loop .loop in
-    cursor-found (tableSays (a .table .now)) (a .by .d) (a .m .now) (a .book .now) (a .by .section) (l .starts) (l .counts) (l .c) (l .inv .1) _ (l .inv .2) (c .before .before .before .before .before .next-within .ensures) _ _ (c .before .before .before .f .given .1) (c .before .none-wrong .ensures) (c .moved .ensures)
+    cursor-found (tableSays (a .table .now)) (a .by .d) (a .m .now) (a .book .now) (a .by .section) (l .starts) (l .counts) (l .c) (l .inv .1) _ (l .inv .2) (c .before .before .before .before .next-within .ensures) _ _ (c .before .before .f .given .1) (c .none-wrong .ensures) refl
 
 enum-told : tie.Need-enum-told Inv-loop μ-loop
 enum-told c = search needs
@@ -119,7 +119,6 @@ next-graded-spec =
     loop-holds
     next-within-requires
     enum-known-f
-    (λ c κs. tt)
     (λ c κs. tt)
     same-length
     returns
