@@ -8,9 +8,9 @@ use mathlib.Core.List.{List, [], _∷_, map}
 use borrow.Author.Tests.{eqb-true}
 use lib.Dec.{eqb, leb, lit<}
 use lib.ListN.{length, getD, take}
-use lib.Seq.{slice, getD-drop, getD-take}
-use Rattle.hl7.specs.Bytes.{within, all}
-use Rattle.hl7.proofs.Comparing.{and-both}
+use lib.Seq.{slice, length-slice, getD-drop, getD-take}
+use Rattle.hl7.specs.Bytes.{within, all, same}
+use Rattle.hl7.proofs.Comparing.{and-both, same-lengths}
 use Rattle.grade.specs.declared.walk.Section.{Section}
 use Rattle.grade.specs.declared.walk.Next.{Next}
 use Rattle.grade.specs.declared.rule.Place.{Place}
@@ -67,6 +67,10 @@ text-inside limit b at end h =
     let w = ended (text limit b at) end h in
     let t = text-read limit b at (w .0) end (w .1) in
     omega (arith, t .ends, t .fits .ends)
+
+-- a value of another length than its length byte says is not the text
+pub text-other : (b : List ℕ) (at : ℕ) (value : List ℕ) (size : ℕ) → TextFits b at → size ≡ getD b at 0 → (size ≡ length value → ⊥) → same value (textAt b at) ≡ false
+text-other b at value size f e h = same-lengths value (textAt b at) (λ l. h (omega (arith, l, e, length-slice (at + 1) (textEnd b at) b (f .ends))))
 
 -- ---- sets
 

@@ -18,6 +18,7 @@ use Rattle.grade.specs.Admission.{keyOf, admitRows, openedTold, admitted
 use Rattle.grade.specs.declared.rule.Rule.{Rule}
 use Rattle.grade.specs.declared.walk.Next.{Next}
 use Rattle.grade.specs.declared.walk.Section.{Section}
+use Rattle.grade.specs.declared.lookup.Looked.{Looked}
 use Rattle.grade.specs.declared.book.Opened.{Opened}
 use Rattle.grade.specs.declared.admit.Admitted.{Admitted}
 use Rattle.grade.specs.declared.admit.Admitted.the-variants.{By}
@@ -70,6 +71,11 @@ textAt b at = slice (at + 1) (textEnd b at) b
 pub record TextFits (b : List ℕ) (at : ℕ) : Type 0 where
   pub starts : at < length b
   pub ends : textEnd b at ≤ length b
+
+-- a look at it tells that it is the value, or else where it ends
+abbrev pub Looks : List ℕ → ℕ → List ℕ → Looked → Type 0
+Looks b at value Looked.Same = same value (textAt b at) ≡ true
+Looks b at value (Looked.After next) = (same value (textAt b at) ≡ false) × (next ≡ textEnd b at)
 
 -- ---- sections
 

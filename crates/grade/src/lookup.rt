@@ -8,7 +8,7 @@ ghost use Rattle.grade.specs.Limits.{codeLimit, linkLimit, namePlaces, s
 ghost use Rattle.grade.specs.Reader.{isFound, itemsOf, times};
 ghost use Rattle.grade.specs.Book.{text, codeSet};
 ghost use Rattle.grade.specs.Rule.{noRule};
-ghost use Rattle.grade.specs.Standing.{endOf, rulesIn, Holds, SetStands, codesAt, NotedSets, Placed};
+ghost use Rattle.grade.specs.Standing.{endOf, TextFits, Looks, rulesIn, Holds, SetStands, codesAt, NotedSets, Placed};
 ghost use Rattle.grade.specs.Linked.{Linked};
 ghost use Rattle.grade.specs.declared.walk.Next.{Next};
 use crate::limits::LINKS;
@@ -131,6 +131,27 @@ pub(crate) fn place_at(places: &[usize; SET_PLACES], k: usize) -> usize
     places[k]
 }
 
+// Whether the code at a position is the value, or where the next one stands.
+enum Looked {
+    Same,
+    After(usize),
+}
+
+// Looks at one code. One as long as the value ends where the value's length says, so that the next look does not wait for this one's length byte.
+fn look(book: &[u8], at: usize, value: &[u8]) -> Looked
+    requires { ⌜ TextFits (now book) at ⌝ }
+    ensures { λ r. ⌜ Looks (now (book .entry)) at (now (value .entry)) r ⌝ }
+{
+    let n = value.len();
+    if wide(book[at]) == n {
+        if same_bytes(value, text_part(book, at)) {
+            return Looked::Same;
+        }
+        return Looked::After(at + 1 + n);
+    }
+    Looked::After(text_after(book, at))
+}
+
 // The value is one of count codes that stand at a position.
 fn among_codes(book: &[u8], at: usize, count: usize, value: &[u8]) -> bool
     requires { ⌜ isFound (times count (text codeLimit) (now book) at) ≡ true ⌝ }
@@ -139,10 +160,10 @@ fn among_codes(book: &[u8], at: usize, count: usize, value: &[u8]) -> bool
     let mut left = count;
     let mut from = at;
     while 0 < left {
-        if same_bytes(value, text_part(book, from)) {
-            return true;
+        match look(book, from, value) {
+            Looked::Same => return true,
+            Looked::After(next) => from = next,
         }
-        from = text_after(book, from);
         left -= 1;
     }
     false

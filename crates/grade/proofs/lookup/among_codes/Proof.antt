@@ -43,25 +43,23 @@ abbrev μ-loop : tie.MeasureT-loop
 loop-holds : tie.Need-loop-holds Inv-loop μ-loop
 loop-holds c = (c .before .before .pre, refl)
 
-text-part-requires : tie.Need-text-part-requires Inv-loop μ-loop
-text-part-requires c κs =
+look-requires : tie.Need-look-requires Inv-loop μ-loop
+look-requires c κs =
     let l = c .before .loop in
     code-fits (now (c .before .before .before .before .args .book)) (l .left) (l .from) (omega arith) (l .inv .0)
 
-same-bytes-requires : tie.Need-same-bytes-requires Inv-loop μ-loop
-same-bytes-requires c κs = search needs
+enum-told : tie.Need-enum-told Inv-loop μ-loop
+enum-told c = search needs
 
 returns : tie.Need-returns Inv-loop μ-loop
 returns c =
     let a = c .before .before .before .before .before .before .before .args in
     let l = c .before .before .before .before .loop in
-    let t = rw (c .before .before .text-part .ensures) at (sym (c .before .same-bytes .ensures) ∙ c .if1 .taken) in
+    let t = rw (c .enum-told .given .1) at (c .before .before .look .ensures) in
     sym (stop (now (a .book)) (now (a .value)) (l .left) (l .from) (omega arith) (l .inv .0) t) ∙ l .inv .1
 
-text-after-requires : tie.Need-text-after-requires Inv-loop μ-loop
-text-after-requires c κs =
-    let l = c .before .before .before .before .loop in
-    code-fits (now (c .before .before .before .before .before .before .before .args .book)) (l .left) (l .from) (omega arith) (l .inv .0)
+enum-known-next : tie.Need-enum-known-next Inv-loop μ-loop
+enum-known-next c = search needs
 
 sub-left : tie.Need-sub-left Inv-loop μ-loop
 sub-left c = search needs
@@ -73,8 +71,8 @@ loop-again : tie.Need-loop-again Inv-loop μ-loop
 loop-again c =
     let a = c .before .before .before .before .before .before .before .before .args in
     let l = c .before .before .before .before .before .loop in
-    let t = rw (c .before .before .before .text-part .ensures) at (sym (c .before .before .same-bytes .ensures) ∙ c .before .if1 .left) in
-    let w = more (now (a .book)) (now (a .value)) (l .left) (l .from) (omega arith) (l .inv .0) _ (c .text-after .ensures) t in
+    let t = rw (c .before .next .given .1) at (c .before .before .before .look .ensures) in
+    let w = more (now (a .book)) (now (a .value)) (l .left) (l .from) (omega arith) (l .inv .0) _ (t .1) (t .0) in
     (w .0, w .1 ∙ l .inv .1)
 
 returns-2 : tie.Need-returns-2 Inv-loop μ-loop
@@ -90,10 +88,10 @@ among-codes-spec =
     Inv-loop
     μ-loop
     loop-holds
-    text-part-requires
-    same-bytes-requires
+    look-requires
+    enum-told
     returns
-    text-after-requires
+    enum-known-next
     sub-left
     loop-less
     loop-again
