@@ -17,7 +17,7 @@ use crate::limits::RULE_SIZE;
 use crate::limits::SET_PLACES;
 use crate::rule::Rule;
 use crate::rule::RuleRead;
-use crate::rule::name_of_letters;
+use crate::rule::name_at;
 use crate::rule::no_rule;
 use crate::rule::rule_said;
 use crate::walk::Section;
@@ -34,7 +34,8 @@ pub(crate) fn rule_at(book: &[u8], section: Section, i: usize) -> Rule
     ensures { λ r. ⌜ r ≡ getD (rulesIn (now (book .entry)) section) i noRule ⌝ }
 {
     let rules_at = section.rules_at;
-    let RuleRead::Is(rule) = rule_said(book, rules_at + RULE_SIZE * i) else {
+    let at = rules_at + RULE_SIZE * i;
+    let RuleRead::Is(rule) = rule_said(book, at, name_at(book, at)) else {
         return no_rule();
     };
     rule
@@ -47,7 +48,7 @@ fn name_of_rule(book: &[u8], section: Section, i: usize) -> usize
 {
     let rules_at = section.rules_at;
     let at = rules_at + RULE_SIZE * i;
-    wide(name_of_letters(book[at], book[at + 1], book[at + 2]))
+    wide(name_at(book, at))
 }
 
 // For each name the first rule about it, and behind the names for each rule the next one about its segment: the rules' number where there is none.

@@ -1,7 +1,7 @@
 // One rule: a place, a severity and one of six kinds, and the ten bytes that say it.
 ghost use mathlib.Core.Path.{_≡_};
 ghost use Prim.Native.Nat.{_+_, _<_, _≤_};
-ghost use lib.ListN.{length};
+ghost use lib.ListN.{length, getD};
 ghost use lib.Seq.{slice};
 ghost use Rattle.grade.specs.Limits.{ruleSize};
 ghost use Rattle.grade.specs.Standing.{lettersNumber, lettersOf};
@@ -238,13 +238,22 @@ pub(crate) fn no_rule() -> Rule
     }
 }
 
-// The place, the severity and the kind that the ten bytes at a position say.
-pub(crate) fn rule_said(book: &[u8], at: usize) -> RuleRead
+// The number of the name with which a rule's ten bytes at a position begin.
+pub(crate) fn name_at(book: &[u8], at: usize) -> u8
     requires { ⌜ at + ruleSize ≤ length (now book) ⌝ }
+    ensures { λ r. ⌜ r ≡ nameOfLetters (getD (now (book .entry)) at 0) (getD (now (book .entry)) (at + 1) 0) (getD (now (book .entry)) (at + 2) 0) ⌝ }
+{
+    name_of_letters(book[at], book[at + 1], book[at + 2])
+}
+
+// The place, the severity and the kind that the ten bytes at a position say, whose name is known: with the name left to its callers it is small enough to
+// be inlined in both.
+pub(crate) fn rule_said(book: &[u8], at: usize, segment: u8) -> RuleRead
+    requires { ⌜ (at + ruleSize ≤ length (now book)) × (segment ≡ nameOfLetters (getD (now book) at 0) (getD (now book) (at + 1) 0) (getD (now book) (at + 2) 0)) ⌝ }
     ensures { λ r. ⌜ r ≡ ruleSaid (slice at (at + ruleSize) (now (book .entry))) ⌝ }
 {
     let place = Place {
-        segment: name_of_letters(book[at], book[at + 1], book[at + 2]),
+        segment,
         field: book[at + 3],
         component: book[at + 4],
     };
@@ -266,7 +275,7 @@ pub(crate) fn rule_stands(book: &[u8], at: usize, sets: u8) -> bool
     requires { ⌜ at + ruleSize ≤ length (now book) ⌝ }
     ensures { λ r. ⌜ r ≡ isRule (ruleOf sets (slice at (at + ruleSize) (now (book .entry)))) ⌝ }
 {
-    let RuleRead::Is(rule) = rule_said(book, at) else {
+    let RuleRead::Is(rule) = rule_said(book, at, name_at(book, at)) else {
         return false;
     };
     let place = rule.place;

@@ -20,60 +20,20 @@ add-at c =
     let w = its-bytes (now (s .args .book)) (s .args .section) (s .pre .0) (s .args .i) (s .pre .1) in
     omega (arith, w .0)
 
-shared-slice-read-name-of-letters : tie.Need-shared-slice-read-name-of-letters
-shared-slice-read-name-of-letters c =
-    let s = c .before .before in
-    let w = its-bytes (now (s .args .book)) (s .args .section) (s .pre .0) (s .args .i) (s .pre .1) in
-    omega (arith, w .0)
-
-add-name-of-letters : tie.Need-add-name-of-letters
-add-name-of-letters c =
-    let s = c .before .before in
-    let w = its-bytes (now (s .args .book)) (s .args .section) (s .pre .0) (s .args .i) (s .pre .1) in
-    omega (arith, w .0)
-
-shared-slice-read-name-of-letters-2 : tie.Need-shared-slice-read-name-of-letters-2
-shared-slice-read-name-of-letters-2 c =
-    let s = c .before .before .before in
-    let w = its-bytes (now (s .args .book)) (s .args .section) (s .pre .0) (s .args .i) (s .pre .1) in
-    omega (arith, w .0)
-
-add-name-of-letters-2 : tie.Need-add-name-of-letters-2
-add-name-of-letters-2 c =
-    let s = c .before .before .before in
-    let w = its-bytes (now (s .args .book)) (s .args .section) (s .pre .0) (s .args .i) (s .pre .1) in
-    omega (arith, w .0)
-
-shared-slice-read-name-of-letters-3 : tie.Need-shared-slice-read-name-of-letters-3
-shared-slice-read-name-of-letters-3 c =
-    let s = c .before .before .before .before in
-    let w = its-bytes (now (s .args .book)) (s .args .section) (s .pre .0) (s .args .i) (s .pre .1) in
-    omega (arith, w .0)
-
-name-of-letters-requires : tie.Need-name-of-letters-requires
-name-of-letters-requires c κs = search needs
+name-at-requires : tie.Need-name-at-requires
+name-at-requires c κs =
+    let s = c .before in
+    its-bytes (now (s .args .book)) (s .args .section) (s .pre .0) (s .args .i) (s .pre .1) .0
 
 wide-requires : tie.Need-wide-requires
 wide-requires c κs = search needs
 
 returns : tie.Need-returns
 returns c =
-    let s = c .before .before .before .before .before .before in
+    let s = c .before .before .before in
     let rule = getD (rulesIn (now (s .args .book)) (s .args .section)) (s .args .i) noRule in
-    let named = c .wide .ensures .0 ∙ c .before .name-of-letters .ensures .0 ∙ its-name (now (s .args .book)) (s .args .section) (s .pre .0) (s .args .i) (s .pre .1) in
+    let named = c .wide .ensures .0 ∙ c .before .name-at .ensures ∙ its-name (now (s .args .book)) (s .args .section) (s .pre .0) (s .args .i) (s .pre .1) in
     (named, omega (arith, named, counted-bounds (rule .place .segment) (place-limits (s .args .section .«set_count») rule (rule-fits (now (s .args .book)) (s .args .section) (s .pre .0) (s .args .i) (s .pre .1)) .segment)))
 
 pub name-of-rule-spec : {M : Type 1} → statement M
-name-of-rule-spec =
-    tie.close
-    (tie.spec
-    mul-at
-    add-at
-    shared-slice-read-name-of-letters
-    add-name-of-letters
-    shared-slice-read-name-of-letters-2
-    add-name-of-letters-2
-    shared-slice-read-name-of-letters-3
-    name-of-letters-requires
-    wide-requires
-    returns)
+name-of-rule-spec = tie.close (tie.spec mul-at add-at name-at-requires wide-requires returns)

@@ -10,19 +10,24 @@ use borrow.Author.Needs.{needs}
 use Rattle.grade.proofs.lookup.rule_at.Statement.{statement}
 use Rattle.grade.proofs.lookup.rule_at.Tie as tie
 
-mul-rule-said : tie.Need-mul-rule-said
-mul-rule-said c = search needs
+mul-at : tie.Need-mul-at
+mul-at c = search needs
 
-add-rule-said : tie.Need-add-rule-said
-add-rule-said c =
+add-at : tie.Need-add-at
+add-at c =
     let s = c .before in
     let w = its-bytes (now (s .args .book)) (s .args .section) (s .pre .0) (s .args .i) (s .pre .1) in
     omega (arith, w .0)
 
-rule-said-requires : tie.Need-rule-said-requires
-rule-said-requires c κs =
+name-at-requires : tie.Need-name-at-requires
+name-at-requires c κs =
     let s = c .before in
     its-bytes (now (s .args .book)) (s .args .section) (s .pre .0) (s .args .i) (s .pre .1) .0
+
+rule-said-requires : tie.Need-rule-said-requires
+rule-said-requires c κs =
+    let s = c .before .before in
+    (its-bytes (now (s .args .book)) (s .args .section) (s .pre .0) (s .args .i) (s .pre .1) .0, c .name-at .ensures)
 
 enum-known-rule : tie.Need-enum-known-rule
 enum-known-rule c = search needs
@@ -44,22 +49,23 @@ returns : tie.Need-returns
 returns c =
     let v = c .before in
     let s = v .before .before in
-    let begin = s .before .before in
+    let begin = s .before .before .before in
     absurd (no-fault (s .rule-said .result) _ (s .rule-said .ensures ∙ its-said (now (begin .args .book)) (begin .args .section) (begin .pre .0) (begin .args .i) (begin .pre .1)) (v .enum-told .given .1))
 
 returns-2 : tie.Need-returns-2
 returns-2 c =
     let v = c .before in
     let s = v .before .before in
-    let begin = s .before .before in
+    let begin = s .before .before .before in
     is-said (s .rule-said .result) _ _ (s .rule-said .ensures ∙ its-said (now (begin .args .book)) (begin .args .section) (begin .pre .0) (begin .args .i) (begin .pre .1)) (v .rule .given .1)
 
 pub rule-at-spec : {M : Type 1} → statement M
 rule-at-spec =
     tie.close
     (tie.spec
-    mul-rule-said
-    add-rule-said
+    mul-at
+    add-at
+    name-at-requires
     rule-said-requires
     enum-known-rule
     enum-told

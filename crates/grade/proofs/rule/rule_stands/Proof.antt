@@ -6,6 +6,9 @@ use borrow.Author.Needs.{needs}
 use Rattle.grade.proofs.rule.rule_stands.Statement.{statement}
 use Rattle.grade.proofs.rule.rule_stands.Tie as tie
 
+name-at-requires : tie.Need-name-at-requires
+name-at-requires c κs = search needs
+
 rule-said-requires : tie.Need-rule-said-requires
 rule-said-requires c κs = search needs
 
@@ -18,7 +21,7 @@ enum-told c = search needs
 returns : tie.Need-returns
 returns c =
     let s = c .before .before in
-    let a = s .before .before .args in
+    let a = s .before .before .before .args in
     rule-faults (a .sets) (now (a .book)) (a .at) (sym (s .rule-said .ensures) ∙ c .enum-told .given .1)
 
 place-fits-requires : tie.Need-place-fits-requires
@@ -53,7 +56,7 @@ returns-2 c =
     let f = c .before .before .before .before in
     let v = f .before .before .before .before in
     let s = v .before .before in
-    let a = s .before .before .args in
+    let a = s .before .before .before .args in
     rw (f .before .place-fits .ensures, f .kind-fits .ensures, c .unused-zero .ensures)
     (rule-stands (a .sets) (now (a .book)) (a .at) _ (sym (s .rule-said .ensures) ∙ v .rule .given .1))
 
@@ -61,6 +64,7 @@ pub rule-stands-spec : {M : Type 1} → statement M
 rule-stands-spec =
     tie.close
     (tie.spec
+    name-at-requires
     rule-said-requires
     enum-known-rule
     enum-told
