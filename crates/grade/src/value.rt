@@ -1,8 +1,7 @@
 // Digits, and whether a value has a LENGTH or is a NUMBER.
 ghost use mathlib.Core.Path.{_≡_};
 ghost use Prim.Native.Nat.{_≤_};
-ghost use lib.ListN.{length};
-ghost use Rattle.grade.specs.Digits.{isSign, countWithin, digitRun, digitAt};
+ghost use Rattle.grade.specs.Digits.{isSign, digitRun, digitAt};
 ghost use Rattle.grade.specs.Values.{hasLength, isUnsigned, isNumber};
 use hl7::bytes::after;
 use hl7::bytes::byte_at;
@@ -15,19 +14,6 @@ pub(crate) fn is_sign(b: u8) -> bool
     ensures { λ r. ⌜ r ≡ isSign b ⌝ }
 {
     (b == b'+') | (b == b'-')
-}
-
-// How many bytes are from low to high.
-fn count_within(v: &[u8], low: u8, high: u8) -> usize
-    ensures { λ r. ⌜ (r ≡ countWithin low high (now (v .entry))) × (r ≤ length (now (v .entry))) ⌝ }
-{
-    let mut n: usize = 0;
-    let mut i: usize = 0;
-    while i < v.len() {
-        n += pick(is_within(v[i], low, high), 1, 0);
-        i += 1;
-    }
-    n
 }
 
 // How many digits a value begins with.
@@ -66,9 +52,17 @@ pub(crate) fn has_length(v: &[u8], low: usize, high: usize) -> bool
 fn is_unsigned(v: &[u8]) -> bool
     ensures { λ r. ⌜ r ≡ isUnsigned (now (v .entry)) ⌝ }
 {
-    let digits = count_within(v, b'0', b'9');
-    let points = count_within(v, b'.', b'.');
-    (digits + points == v.len()) & (points <= 1) & (1 <= digits)
+    let mut points: usize = 0;
+    let mut i: usize = 0;
+    while i < v.len() {
+        let point = v[i] == b'.';
+        if !(is_within(v[i], b'0', b'9') | point) {
+            return false;
+        }
+        points += pick(point, 1, 0);
+        i += 1;
+    }
+    (points <= 1) & (points < v.len())
 }
 
 pub(crate) fn is_number(v: &[u8]) -> bool
