@@ -1,10 +1,10 @@
 -- What a caller of the grader knows of its steps: the laws that upper crates cite. Assumes nothing.
 use Prim.Native.Nat.{ℕ, _*_, _≤_, _<_}
-use mathlib.Core.Path.{_≡_, refl, ap, subst, subst⁻¹, _∙_}
+use mathlib.Core.Path.{_≡_, refl, sym, ap, subst, subst⁻¹, _∙_}
 use mathlib.Core.Bool.{Bool, true, false, cond}
 use mathlib.Core.List.{List, [], _∷_, _++_, append-nil}
 use native.Mathlib.Omega.{arith}
-use lib.ListN.{length, replicate}
+use lib.ListN.{length, getD, drop, replicate}
 use Rattle.hl7.specs.Refusals.{messageLimit}
 use Rattle.hl7.specs.Place.{delimsOf}
 use Rattle.hl7.specs.declared.place.Delims.{Delims}
@@ -14,7 +14,7 @@ use Rattle.grade.specs.Standing.{Holds, rulesIn, setsIn}
 use Rattle.grade.specs.Order.{mayFollow, outOfOrder}
 use Rattle.grade.specs.Header.{headerFindings, anyWrong, headerOr}
 use Rattle.grade.specs.Findings.{findings}
-use Rattle.grade.specs.Rest.{gradeFrom, findingsIn, rest, Stands, Steps, betweenAt, startAt}
+use Rattle.grade.specs.Rest.{gradeFrom, findingsIn, rest, Stands, Steps, betweenAt, cursorAtStart}
 use Rattle.grade.specs.declared.header.Header.{Header}
 use Rattle.grade.specs.declared.walk.Section.{Section}
 use Rattle.grade.specs.declared.finding.Finding.{Finding}
@@ -31,7 +31,7 @@ module _ (follows : ℕ → ℕ → Bool) (d : Delims) (m b : List ℕ) (s : Sec
   left counts c = rest (outOfOrder follows) d m b s counts c
 
   -- ---- before the first step
-  module _ (holds : Holds b s) (h : Header) {c : Cursor} (begins : c ≡ startAt h (s .«rule_count») (length m)) where
+  module _ (holds : Holds b s) (h : Header) {c : Cursor} (begins : c ≡ cursorAtStart h (s .«rule_count») (length m)) where
     abbrev at : Bool → Cursor
     at wrong = betweenAt h (s .«rule_count») (cond wrong (length m) 0) otherNumber
 
@@ -69,6 +69,21 @@ module _ (follows : ℕ → ℕ → Bool) (d : Delims) (m b : List ℕ) (s : Sec
     -- a loop over the steps ends
     pub step-less : {f : Finding} {c : Cursor} → r ≡ Found f c → length (left counts c) < length l
     step-less e = omega (arith, ap length (step-found e .0))
+
+  -- what two steps have in common: the finding and what is still to come, or that both are at the end
+  abbrev pub SameStep : (counts counts′ : List ℕ) → Step → Step → Type 0
+  SameStep counts counts′ (Found f c) (Found f′ c′) = (f ≡ f′) × (left counts c ≡ left counts′ c′)
+  SameStep counts counts′ (Found f c) End = ⊥
+  SameStep counts counts′ End (Found f c) = ⊥
+  SameStep counts counts′ End End = Unit {0}
+
+  -- any two steps that the contract of `next` allows, where l is still to come
+  pub step-once : (starts starts′ counts counts′ : List ℕ) (l : List Finding) (r r′ : Step) → Steps (outOfOrder follows) d m b s starts counts l r → Steps (outOfOrder follows) d m b s starts′ counts′ l r′
+      → SameStep counts counts′ r r′
+  step-once starts starts′ counts counts′ l (Found f c) (Found f′ c′) h h′ = let same = sym (h .0) ∙ h′ .0 in (ap (λ (k : List Finding). getD k 0 f) same, ap (drop 1) same)
+  step-once starts starts′ counts counts′ l (Found f c) End h h′ = let z : _≡_ {A = ℕ} 0 1 = cc (sym (h .0) ∙ h′) in omega arith
+  step-once starts starts′ counts counts′ l End (Found f c) h h′ = let z : _≡_ {A = ℕ} 0 1 = cc (sym (h′ .0) ∙ h) in omega arith
+  step-once starts starts′ counts counts′ l End End h h′ = tt
 
 -- ---- by the order's own table and the message's own delimiters, these are all
 pub start-all : (m b : List ℕ) (s : Section) (h : Header) {out : ℕ → ℕ → Bool} {d : Delims} → out ≡ outOfOrder mayFollow → d ≡ delimsOf m

@@ -1,4 +1,4 @@
--- Demand 3: which findings a message has, by place, and the list of them. Assumes nothing.
+-- To be believed. Demand 3: which findings a message has, by place, and the list of them. Assumes nothing.
 use Prim.Native.Nat.{ℕ, zero, suc, _≤_, _<_}
 use mathlib.Core.Path.{_≡_}
 use mathlib.Core.Bool.{Bool, cond, _&&_}

@@ -1,4 +1,4 @@
--- What grading a message gives: refusals 1 to 9, or the findings by the section of the book that it names. Assumes nothing.
+-- To be believed. What grading a message gives: refusals 1 to 9, or the findings by the section of the book that it names. Assumes nothing.
 use Prim.Native.Nat.{ℕ}
 use mathlib.Core.Bool.{cond}
 use mathlib.Core.List.{List, []}

@@ -1,4 +1,4 @@
--- The header's findings: MSH-9.1 is not VXU (200), MSH-9.2 is not V04 (201), MSH-11.1 is not P, T or D (202), MSH-12.1 is not 2.5.1 (203).
+-- To be believed. The header's findings: MSH-9.1 is not VXU (200), MSH-9.2 is not V04 (201), MSH-11.1 is not P, T or D (202), MSH-12.1 is not 2.5.1 (203).
 -- Assumes nothing.
 use Prim.Native.Nat.{ℕ}
 use Prim.Native.Char.{code}

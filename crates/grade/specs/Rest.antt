@@ -1,5 +1,6 @@
--- What is still to come at a place of the walk: the names that the stepper's contracts are stated with. Each level is the list of what remains,
--- read from the position that the cursor holds. Nothing here has to be believed: `start` ties it to `findings`. Assumes nothing.
+-- Inner: only contracts inside the crates use these names; nothing here has to be believed.
+-- What is still to come at a place of the walk, with which the stepper's contracts are stated: each level is the list of what remains, read from the
+-- position that the cursor holds. `start-left` and `start-all` (proofs/Stepping.antt) tie it to the findings. Assumes nothing.
 use Prim.Native.Nat.{ℕ, suc, _+_, _-_, _≤_, _<_}
 use mathlib.Core.Path.{_≡_}
 use mathlib.Core.Bool.{Bool, true, false, cond, _&&_}
@@ -230,8 +231,8 @@ betweenAt header count next last =
     }
 
 -- before the first finding: where the header is wrong, behind the last segment, with no counted name before, so that nothing follows its findings
-abbrev pub startAt : Header → ℕ → ℕ → Cursor
-startAt header count end = betweenAt header count (cond (anyWrong header) end 0) otherNumber
+abbrev pub cursorAtStart : Header → ℕ → ℕ → Cursor
+cursorAtStart header count end = betweenAt header count (cond (anyWrong header) end 0) otherNumber
 
 -- the cursor at a spot of its segment, with the header checks that are left
 abbrev pub movedTo : Cursor → Header → Spot → Cursor

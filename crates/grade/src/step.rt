@@ -35,7 +35,7 @@ ghost use Rattle.grade.specs.Limits.{fieldPlaces, segmentCount};
 ghost use Rattle.grade.specs.Standing.{Holds, rulesIn};
 ghost use Rattle.grade.specs.Linked.{Linked};
 ghost use Rattle.grade.specs.Order.{nameOf, outOfOrder, tableSays};
-ghost use Rattle.grade.specs.Rest.{Given, Parted, gradeFrom, CountsStand, gradeRest, rest, Stands, betweenAt, startAt, movedTo, endOpened, Enters, Opens, Steps};
+ghost use Rattle.grade.specs.Rest.{Given, Parted, gradeFrom, CountsStand, gradeRest, rest, Stands, betweenAt, cursorAtStart, movedTo, endOpened, Enters, Opens, Steps};
 
 // By what a message is graded: its delimiters, the section of the book that it names, and what its header says.
 pub struct Terms {
@@ -102,7 +102,7 @@ fn between(header: Header, section: Section, next: usize, last: usize) -> Cursor
 
 // Before the first finding. Behind the last segment and with no name before, nothing follows the header's findings.
 pub fn start(by: Terms, m: &[u8]) -> Cursor
-    ensures { λ r. ⌜ r ≡ startAt (by .header) (by .section .«rule_count») (length (now (m .entry))) ⌝ }
+    ensures { λ r. ⌜ r ≡ cursorAtStart (by .header) (by .section .«rule_count») (length (now (m .entry))) ⌝ }
 {
     let next = pick(any_wrong(by.header), m.len(), 0);
     between(by.header, by.section, next, 11)
