@@ -13,6 +13,7 @@ use grade::step::next;
 use grade::step::start;
 use hl7::place::Delims;
 ghost use mathlib.Core.Path.{_≡_};
+ghost use mathlib.Core.Bool.{_||_};
 ghost use Prim.Native.Nat.{_≤_};
 ghost use lib.ListN.{length, replicate};
 ghost use Rattle.hl7.specs.Place.{delimsOf};
@@ -41,6 +42,16 @@ fn is_fault(finding: Finding) -> bool
     (finding.severity == b'E') | (finding.severity == b'W')
 }
 
+// Whether there was a fault so far, or the finding is one: once there is one, no severity is asked.
+fn still_fault(fault: bool, finding: Finding) -> bool
+    ensures { λ r. ⌜ r ≡ (fault || isFault finding) ⌝ }
+{
+    if fault {
+        return true;
+    }
+    is_fault(finding)
+}
+
 // The ERR of a finding; where nothing of it would fit, its length is all that is asked.
 fn put_finding(out: &mut [u8], at: usize, d: Delims, finding: Finding) -> usize
     ensures { λ r. ⌜ Wrote (now (out .entry)) at (ended (errLine d finding)) (now (out .exit)) r ⌝ }
@@ -48,7 +59,10 @@ fn put_finding(out: &mut [u8], at: usize, d: Delims, finding: Finding) -> usize
     if out.len() <= at {
         return advanced(at, err_length(finding));
     }
-    put_err(out, at, d, finding)
+    // copied only here, so that a finding which is only measured does not go through memory
+    let marks = d;
+    let found = finding;
+    put_err(out, at, marks, found)
 }
 
 // The ERRs of all findings of a message by a follow table: one for each.
@@ -74,7 +88,7 @@ fn put_errs_by(
         match next(table, by, m, book, sets, links, starts, &mut counts, cursor) {
             Step::Found(finding, then) => {
                 to = put_finding(out, to, by.d, finding);
-                fault = fault | is_fault(finding);
+                fault = still_fault(fault, finding);
                 cursor = then;
             }
             Step::End => {
@@ -85,7 +99,7 @@ fn put_errs_by(
 }
 
 // The ERRs of all findings of a message.
-pub fn put_errs(
+pub(crate) fn put_errs(
     out: &mut [u8],
     at: usize,
     by: Terms,

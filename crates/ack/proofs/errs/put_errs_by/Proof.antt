@@ -50,8 +50,8 @@ enum-known-finding c = search needs
 put-finding-requires : tie.Need-put-finding-requires Inv-loop μ-loop
 put-finding-requires c κs = tt
 
-is-fault-requires : tie.Need-is-fault-requires Inv-loop μ-loop
-is-fault-requires c κs = tt
+still-fault-requires : tie.Need-still-fault-requires Inv-loop μ-loop
+still-fault-requires c κs = tt
 
 loop-less : tie.Need-loop-less Inv-loop μ-loop
 loop-less c =
@@ -75,7 +75,7 @@ loop-again c =
       omega (arith, wrote .ends),
       c .before .before .before .before .before .before .before .before .before .before .next .kept .1 .1 .1 .1 .1 .1 .0 ∙ l .inv .2,
       found .1,
-      completes-more (l .fault) (l .inv .4) (found .0) (puts-one wrote (c .is-fault .ensures)),
+      rw (c .still-fault .ensures) (completes-more (l .fault) (l .inv .4) (found .0) (puts-one wrote refl)),
     )
 
 enum-told : tie.Need-enum-told Inv-loop μ-loop
@@ -107,7 +107,7 @@ put-errs-by-spec =
     next-requires
     enum-known-finding
     put-finding-requires
-    is-fault-requires
+    still-fault-requires
     loop-less
     loop-again
     enum-told
