@@ -1,13 +1,14 @@
--- The worked example of 01 and the two short forms of ERR-2, as the definitions give them. Assumes nothing.
+-- The worked example of 01, a refused header and the two short forms of ERR-2, as the definitions give them. Assumes nothing.
 use Prim.Native.Nat.{ℕ}
 use Prim.Native.Char.{code}
 use mathlib.Core.Path.{_≡_, refl}
 use mathlib.Core.List.{List, [], _∷_, map, flatMap}
 use Rattle.hl7.specs.Text.{bytes}
-use Rattle.hl7.specs.Bytes.{begins}
+use Rattle.hl7.specs.Bytes.{same, begins}
 use Rattle.hl7.specs.Cut.{cut, ahead, startAt}
-use Rattle.hl7.specs.Place.{delimsOf, partOfField}
+use Rattle.hl7.specs.Place.{delimsOf, nthOf, cutUnless, partOfField, neverCut, componentOf, inField, inSegment}
 use Rattle.grade.specs.Rule.{theEnd, pid, orc, segmentNames, nameBytes}
+use Rattle.grade.specs.Header.{mshAt, isProcessingId, headerOf, headerFindings}
 use Rattle.grade.specs.declared.finding.Finding.{Finding}
 use Rattle.ack.specs.Decimal.{decimal, lastDigits}
 use Rattle.ack.specs.Layout.{ownByte, marked, joined, copied, mshLine, msaLine, has, componentParts, valueParts, placeParts, codeText, errLine, ackBytes}
@@ -26,6 +27,15 @@ end = record { name = theEnd; ordinal = 0; field = 0; repetition = 0; component 
 
 msh : List ℕ
 msh = bytes "MSH|^~\\&|CAB|C1|REG|AX|20250113115900+0000||VXU^V04^VXU_V04|M1|P|2.5.1"
+
+-- its header is refused in all four points
+other : List ℕ
+other = bytes "MSH|^~\\&|CAB|C1|REG|AX|20250113115900+0000||ADT^A01|M1|X|2.3"
+
+refused : ackBytes (delimsOf other) other (bytes "20250113120000+0000") 7 (headerFindings (headerOf (delimsOf other) other))
+    ≡ bytes "MSH|^~\\&|REG|AX|CAB|C1|20250113120000+0000||ACK^V04^ACK|7|X|2.5.1|||NE|NE|||||Z23^CDCPHINVS\rMSA|AR|M1\rERR||MSH^1^9^1^1|200^Unsupported message type^HL70357|E|0^^L\rERR||MSH^1^9^1^2|201^Unsupported event code^HL70357|E|0^^L\rERR||MSH^1^11^1^1|202^Unsupported processing id^HL70357|E|0^^L\rERR||MSH^1^12^1^1|203^Unsupported version id^HL70357|E|0^^L\r"
+unfolding ackBytes copied mshLine msaLine errLine placeParts valueParts componentParts codeText has joined marked ownByte decimal lastDigits nameBytes segmentNames flatMap other partOfField begins cut ahead startAt delimsOf headerFindings headerOf mshAt isProcessingId inSegment inField componentOf neverCut nthOf cutUnless same
+refused = refl
 
 samples :
     ackBytes (delimsOf msh) msh (bytes "20250113120000+0000") 7 (birth ∷ sex ∷ []) ∷ errLine (delimsOf msh) order ∷ errLine (delimsOf msh) end ∷ decimal 0 ∷ decimal 4294967295 ∷ decimal 18446744073709551615 ∷ []
