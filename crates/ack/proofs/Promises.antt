@@ -24,7 +24,7 @@ use Rattle.grade.specs.Values.{isStamp}
 use Rattle.grade.specs.Rule.{severityLetter}
 use Rattle.grade.specs.Strict.{keep}
 use Rattle.grade.specs.Order.{mayFollow}
-use Rattle.grade.specs.Findings.{Event, ruleNumbered, findingAt, findingOf, breaks, places, findings, Demand3}
+use Rattle.grade.specs.Findings.{ruleNumbered, findingAt, findingOf, breaks, places, findings, Demand3}
 use Rattle.grade.specs.Header.{mshOf, headerOf, anyWrong, headerFinding, onlyIf, headerFindings}
 use Rattle.grade.specs.Admission.{bookRows, admitRows}
 use Rattle.grade.specs.Grading.{sectionFor, findingsBy, findingsFor}

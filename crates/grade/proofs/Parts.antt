@@ -19,11 +19,11 @@ use Rattle.grade.specs.declared.rule.SeverityRead.{SeverityRead}
 use Rattle.grade.specs.declared.rule.Rule.{Rule}
 use Rattle.grade.specs.declared.rule.RuleRead.{RuleRead}
 use Rattle.grade.specs.Limits.{headSize, sectionLimit, keyLimit, ruleLimit, ruleSize, setLimit, codeLimit, codeCountLimit}
-use Rattle.grade.specs.Reader.{Parsed, fault, found, isFound, itemsOf, check, times, byte, run, pair, twoBytes}
+use Rattle.grade.specs.Reader.{Parsed, found, isFound, itemsOf, check, times, byte, run, pair, twoBytes}
 use Rattle.grade.specs.Rule.{nameOfLetters, severityOf, kindOf, unusedZero, placeOf, noRule, ruleWith, ruleSaid, ruleFits, ruleWithin, ruleOf, isRule}
 use Rattle.grade.specs.Book.{plain, keys, text, section, ruleIn, codeSet, Contents, ruleRead, distinct, nothingAfter, sections}
 use Rattle.grade.specs.Standing.{endOf, mapped, textEnd, textAt, TextFits, standsAt, contentsOf, contentsAt, siteAt, starting, SetStands}
-use Rattle.grade.proofs.Readings.{then-found, found-same, check-found, byte-found, run-found, two-found, ended, is-found, row-end, row-inside, row-found, cond-gave, starts-say}
+use Rattle.grade.proofs.Readings.{then-found, found-same, check-found, byte-found, run-found, two-found, ended, is-found, row-end, row-inside, row-found, starts-say}
 
 -- ---- texts
 

@@ -8,6 +8,7 @@ pub mod header;
 pub mod limits;
 pub mod lookup;
 pub mod order;
+mod plain;
 pub mod rule;
 pub mod step;
 pub mod value;

@@ -4,7 +4,7 @@ use mathlib.Core.Bool.{Bool, true, false}
 use mathlib.Core.List.{List}
 use Prim.Native.Nat.{ℕ, _+_, _-_, _*_, _/_, _%_, _^_, _≤_, _<_}
 use native.Mathlib.Omega.{arith}
-use lib.ListN.{length, take, drop, length-take, length-drop}
+use lib.ListN.{length, drop, length-take, length-drop}
 use Rattle.hl7.specs.Cut.{Piece}
 use Rattle.hl7.specs.Spans.{Spans}
 use Rattle.hl7.specs.Refusals.{messageLimit, Told, firstRow, messageRows, isSound, located}

@@ -12,7 +12,7 @@ use Rattle.ack.proofs.Writing.{splice-at-start}
 use Rattle.ack.proofs.Promises.{output-length}
 use Rattle.show.specs.Shown.{refusalRoom, printedIn, printedLength, Printed}
 use Rattle.show.proofs.Showing.{printed-shown}
-use Rattle.relay.specs.Line.{lineOf, Said, said, badLine, goodLine}
+use Rattle.relay.specs.Line.{Said, badLine, goodLine}
 use Rattle.relay.specs.Fed.{headLength, Fed, shortened, heard, Says}
 use Rattle.relay.specs.Reply.{badText, printedFor, Replies}
 use Rattle.relay.specs.declared.line.Line.{Line}

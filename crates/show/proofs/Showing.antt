@@ -13,7 +13,7 @@ use borrow.Author.Tests.{eq-eqb, ne-eqb, ltb-true, ltb-false}
 use Rattle.hl7.specs.Refusals.{Told}
 use Rattle.ack.specs.Splice.{splice, Wrote}
 use Rattle.ack.proofs.Decimals.{decimal-short}
-use Rattle.ack.proofs.Writing.{splice-at-start, wrote-at-start}
+use Rattle.ack.proofs.Writing.{splice-at-start}
 use Rattle.show.specs.Shown.{lineFeed, lineFeeds, refusal, refusalRoom, printedIn, printedLength, Printed, shown}
 
 -- ---- line feeds for CRs, in place
