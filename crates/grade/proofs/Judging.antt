@@ -8,7 +8,7 @@ use borrow.Author.Tests.{eq-eqb, eqb-true}
 use lib.Dec.{eqb, leb}
 use lib.ListN.{length, getD, drop, drop-of-length-le}
 use lib.Seq.{drop-cons}
-use Rattle.hl7.specs.Walk.{partsFrom}
+use Rattle.hl7.specs.Spans.{partsFrom}
 use Rattle.hl7.specs.Place.{isMsh, neverCut, fieldOf, cutUnless, repetitionsOf}
 use Rattle.hl7.specs.declared.place.Delims.{Delims}
 use Rattle.hl7.proofs.Walking.{parts-start}

@@ -7,8 +7,8 @@ use native.Mathlib.Numerals.{add-one}
 use native.Mathlib.Omega.{arith}
 use borrow.Author.Tests.{ne-eqb}
 use lib.ListN.{length, take, drop}
+use Rattle.hl7.specs.Spans.{partsFrom}
 use Rattle.hl7.specs.Cut.{endFrom}
-use Rattle.hl7.specs.Walk.{partsFrom}
 use Rattle.hl7.specs.declared.place.Delims.{Delims}
 use Rattle.hl7.proofs.Walking.{parts-step, parts-done}
 use Rattle.grade.specs.Broken.{isRequired, judges}

@@ -22,7 +22,7 @@ use Rattle.grade.specs.Linked.{nextAbout, Linked}
 use Rattle.grade.specs.Order.{nameOf, outOfOrder}
 use Rattle.grade.specs.Header.{headerFindings, anyWrong}
 use Rattle.grade.specs.Findings.{findings, orderFinding}
-use Rattle.grade.specs.Rest.{HereStands, Parted, segmentRest, rulesFrom, ofOrder, ofSegment, NextWithin, gradeSegments, gradeFrom, CountsStand, gradeRest, rest, Stands, noneWrong, firstSpot, betweenAt, movedTo, endBy, endOpened, enteredAt, EnteredAt, Enters, Opens, Steps}
+use Rattle.grade.specs.Rest.{HereStands, Parted, segmentRest, rulesFrom, ofOrder, ofSegment, NextWithin, gradeSegments, gradeFrom, CountsStand, gradeRest, rest, Stands, noneWrong, firstSpot, betweenAt, movedTo, endBy, endEntered, enteredAt, EnteredAt, Enters, Opens, Steps}
 use Rattle.grade.specs.declared.walk.Section.{Section}
 use Rattle.grade.specs.declared.finding.Finding.{Finding}
 use Rattle.grade.specs.declared.header.Header.{Header}
@@ -31,8 +31,8 @@ use Rattle.grade.specs.declared.within.Spot.{Spot}
 use Rattle.grade.specs.declared.within.Within.{Within}
 use Rattle.grade.specs.declared.within.Within.the-variants.{Found, Nothing}
 use Rattle.grade.specs.declared.step.Cursor.{Cursor}
-use Rattle.grade.specs.declared.step.Opened.{Opened}
-use Rattle.grade.specs.declared.step.Opened.the-variants as Opened
+use Rattle.grade.specs.declared.step.Entered.{Entered}
+use Rattle.grade.specs.declared.step.Entered.the-variants as Entered
 use Rattle.grade.specs.declared.step.Step.{Step}
 use Rattle.grade.specs.declared.step.Step.the-variants as Step
 use Rattle.grade.proofs.Naming.{is-counted, not-counted, number-bounds, name-bounds}
@@ -114,7 +114,7 @@ module _ (follows : ℕ → ℕ → Bool) (d : Delims) (m b : List ℕ) (s : Sec
   walk-end at last counts h = ap (gradeSegments out d (rulesIn b s) (setsIn b s) counts last) (ended-stop carriageReturn m at h)
 
   pub no-segment : (begin at last : ℕ) (starts counts : List ℕ) (l : List Finding) → Holds b s → CountsStand m at counts → l ≡ from at last counts → length m ≤ endFrom carriageReturn m at
-      → (r : Opened) → r ≡ endOpened out (s .«rule_count») (length m) last → Opens out d m b s starts counts begin l r
+      → (r : Entered) → r ≡ endEntered out (s .«rule_count») (length m) last → Opens out d m b s starts counts begin l r
   unfolding headerFindings
   no-segment begin at last starts counts l holds stands passed h r e =
       subst⁻¹ (Opens out d m b s starts counts begin l) e (by (out last theEnd) refl)
@@ -195,15 +195,15 @@ module _ (follows : ℕ → ℕ → Bool) (d : Delims) (m b : List ℕ) (s : Sec
           passed = counts-more;
         }
 
-        pub opened : (r : Opened) → Enters out d m starts (s .«rule_count») first at stop name ordinal last r → Opens out d m b s starts after begin l r
+        pub opened : (r : Entered) → Enters out d m starts (s .«rule_count») first at stop name ordinal last r → Opens out d m b s starts after begin l r
         unfolding headerFindings
-        opened (Opened.Order f c) (e, made, it) =
+        opened (Entered.Order f c) (e, made, it) =
             subst⁻¹ (λ (x : Cursor). (l ≡ f ∷ rest out d m b s after x) × Stands d m b s starts after x) (it .is)
             (passed ∙ counted-one (it .count) (it .single) few ∙ rw e (λ i. sym made i ∷ sym (entered-list (it .count) (it .single)) i), entered-stands (it .count) (it .single) (it .parted))
-        opened (Opened.Rules c) (e, it) =
+        opened (Entered.Rules c) (e, it) =
             subst⁻¹ (λ (x : Cursor). (l ≡ gradeRest out d m b s after x) × Stands d m b s starts after x × (begin < x .next)) (it .is)
             (passed ∙ counted-one (it .count) (it .single) few ∙ rw e (sym (entered-list (it .count) (it .single))), entered-stands (it .count) (it .single) (it .parted), omega arith)
-        opened Opened.End none = absurd none
+        opened Entered.End none = absurd none
 
   -- ---- the header's findings come first
   pub header-next : {starts counts : List ℕ} {c x : Cursor} {f : Finding} {left : Header} → Stands d m b s starts counts c → take 1 (headerFindings (c .header)) ≡ f ∷ []
@@ -235,17 +235,17 @@ module _ (follows : ℕ → ℕ → Bool) (d : Delims) (m b : List ℕ) (s : Sec
     cursor-fine h e = same ∙ ap (λ (k : List Finding). k ++ from (c .next) (c .last) counts) (subst of e h)
 
   -- ---- and from the next segment on
-  module _ (starts counts : List ℕ) (begin : ℕ) {l k : List Finding} (r : Opened) (h : Opens out d m b s starts counts begin k r) (same : l ≡ k) where
-    abbrev opens : Opened → Type 0
+  module _ (starts counts : List ℕ) (begin : ℕ) {l k : List Finding} (r : Entered) (h : Opens out d m b s starts counts begin k r) (same : l ≡ k) where
+    abbrev opens : Entered → Type 0
     opens = Opens out d m b s starts counts begin k
 
-    pub then-order : {f : Finding} {c : Cursor} → r ≡ Opened.Order f c → Steps out d m b s starts counts l (Step.Found f c)
+    pub then-order : {f : Finding} {c : Cursor} → r ≡ Entered.Order f c → Steps out d m b s starts counts l (Step.Found f c)
     then-order e = let got = subst opens e h in (same ∙ got .0, got .1)
 
-    pub then-rules : {c : Cursor} → r ≡ Opened.Rules c → Opens out d m b s starts counts begin l (Opened.Rules c)
+    pub then-rules : {c : Cursor} → r ≡ Entered.Rules c → Opens out d m b s starts counts begin l (Entered.Rules c)
     then-rules e = let got = subst opens e h in (same ∙ got .0, got .1, got .2)
 
-    pub then-end : r ≡ Opened.End → l ≡ []
+    pub then-end : r ≡ Entered.End → l ≡ []
     then-end e = same ∙ subst opens e h
 
 -- ---- before the first segment

@@ -8,9 +8,8 @@ use mathlib.Core.List.{List, [], _∷_, _++_, map}
 use lib.Dec.{eqb}
 use lib.ListN.{length, getD, drop, set}
 use Rattle.hl7.specs.Cut.{cut, butLast}
-use Rattle.hl7.specs.Walk.{partsFrom}
 use Rattle.hl7.specs.Noted.{Noted}
-use Rattle.hl7.specs.Spans.{between}
+use Rattle.hl7.specs.Spans.{between, partsFrom}
 use Rattle.hl7.specs.Bytes.{all, differs}
 use Rattle.hl7.specs.Place.{carriageReturn, isMsh, fieldOf}
 use Rattle.hl7.specs.Refusals.{messageLimit}
@@ -38,8 +37,8 @@ use Rattle.grade.specs.declared.within.Judged.the-variants as Judged
 use Rattle.grade.specs.declared.within.Within.{Within}
 use Rattle.grade.specs.declared.within.Within.the-variants.{Found, Nothing}
 use Rattle.grade.specs.declared.step.Cursor.{Cursor}
-use Rattle.grade.specs.declared.step.Opened.{Opened}
-use Rattle.grade.specs.declared.step.Opened.the-variants as Opened
+use Rattle.grade.specs.declared.step.Entered.{Entered}
+use Rattle.grade.specs.declared.step.Entered.the-variants as Entered
 use Rattle.grade.specs.declared.step.Step.{Step}
 use Rattle.grade.specs.declared.step.Step.the-variants as Step
 
@@ -239,12 +238,12 @@ abbrev pub movedTo : Cursor → Header → Spot → Cursor
 movedTo c header spot = record { header = header; here = c .here; spot = spot; next = c .next; last = c .last }
 
 -- what opening gives at the end of the message, after the counted name `last`
-abbrev pub endBy : Bool → Cursor → Opened
-endBy true c = Opened.Order (orderFinding theEnd 0) c
-endBy false c = Opened.End
+abbrev pub endBy : Bool → Cursor → Entered
+endBy true c = Entered.Order (orderFinding theEnd 0) c
+endBy false c = Entered.End
 
-abbrev pub endOpened : (ℕ → ℕ → Bool) → ℕ → ℕ → ℕ → Opened
-endOpened out count at last = endBy (out last theEnd) (betweenAt noneWrong count at otherNumber)
+abbrev pub endEntered : (ℕ → ℕ → Bool) → ℕ → ℕ → ℕ → Entered
+endEntered out count at last = endBy (out last theEnd) (betweenAt noneWrong count at otherNumber)
 
 -- a cursor in the segment from `at` to `stop`, before its first rule
 abbrev pub enteredAt : ℕ → ℕ → ℕ → ℕ → ℕ → ℕ → Bool → Cursor
@@ -264,17 +263,17 @@ pub record EnteredAt (d : Delims) (m starts : List ℕ) (rules first at stop nam
   pub is : c ≡ enteredAt at stop name ordinal first count single
   pub parted : first < rules → Parted d (between m at stop) starts count single
 
-abbrev pub Enters : (ℕ → ℕ → Bool) → Delims → List ℕ → List ℕ → ℕ → ℕ → ℕ → ℕ → ℕ → ℕ → ℕ → Opened → Type 0
-Enters out d m starts rules first at stop name ordinal last (Opened.Order f c) =
+abbrev pub Enters : (ℕ → ℕ → Bool) → Delims → List ℕ → List ℕ → ℕ → ℕ → ℕ → ℕ → ℕ → ℕ → ℕ → Entered → Type 0
+Enters out d m starts rules first at stop name ordinal last (Entered.Order f c) =
     (out last name ≡ true) × (f ≡ orderFinding name ordinal) × EnteredAt d m starts rules first at stop name ordinal c
-Enters out d m starts rules first at stop name ordinal last (Opened.Rules c) = (out last name ≡ false) × EnteredAt d m starts rules first at stop name ordinal c
-Enters out d m starts rules first at stop name ordinal last Opened.End = ⊥
+Enters out d m starts rules first at stop name ordinal last (Entered.Rules c) = (out last name ≡ false) × EnteredAt d m starts rules first at stop name ordinal c
+Enters out d m starts rules first at stop name ordinal last Entered.End = ⊥
 
 -- the next counted segment after `from` was opened, or the end, where l is still to come
-abbrev pub Opens : (ℕ → ℕ → Bool) → Delims → List ℕ → List ℕ → Section → List ℕ → List ℕ → ℕ → List Finding → Opened → Type 0
-Opens out d m b s starts counts from l (Opened.Order f c) = (l ≡ f ∷ rest out d m b s counts c) × Stands d m b s starts counts c
-Opens out d m b s starts counts from l (Opened.Rules c) = (l ≡ gradeRest out d m b s counts c) × Stands d m b s starts counts c × (from < c .next)
-Opens out d m b s starts counts from l Opened.End = l ≡ []
+abbrev pub Opens : (ℕ → ℕ → Bool) → Delims → List ℕ → List ℕ → Section → List ℕ → List ℕ → ℕ → List Finding → Entered → Type 0
+Opens out d m b s starts counts from l (Entered.Order f c) = (l ≡ f ∷ rest out d m b s counts c) × Stands d m b s starts counts c
+Opens out d m b s starts counts from l (Entered.Rules c) = (l ≡ gradeRest out d m b s counts c) × Stands d m b s starts counts c × (from < c .next)
+Opens out d m b s starts counts from l Entered.End = l ≡ []
 
 -- a step from a cursor at which l is still to come
 abbrev pub Steps : (ℕ → ℕ → Bool) → Delims → List ℕ → List ℕ → Section → List ℕ → List ℕ → List Finding → Step → Type 0

@@ -35,7 +35,7 @@ ghost use Rattle.grade.specs.Limits.{fieldPlaces, segmentCount};
 ghost use Rattle.grade.specs.Standing.{Holds, rulesIn};
 ghost use Rattle.grade.specs.Linked.{Linked};
 ghost use Rattle.grade.specs.Order.{nameOf, outOfOrder, tableSays};
-ghost use Rattle.grade.specs.Rest.{Given, Parted, gradeFrom, CountsStand, gradeRest, rest, Stands, betweenAt, cursorAtStart, movedTo, endOpened, Enters, Opens, Steps};
+ghost use Rattle.grade.specs.Rest.{Given, Parted, gradeFrom, CountsStand, gradeRest, rest, Stands, betweenAt, cursorAtStart, movedTo, endEntered, Enters, Opens, Steps};
 
 // By what a message is graded: its delimiters, the section of the book that it names, and what its header says.
 pub struct Terms {
@@ -61,7 +61,7 @@ pub enum Step {
 }
 
 // The next segment of a counted name: what its order gives, if it is broken there, and where its rules are judged.
-pub enum Opened {
+pub enum Entered {
     Order(Finding, Cursor),
     Rules(Cursor),
     End,
@@ -109,13 +109,13 @@ pub fn start(by: Terms, m: &[u8]) -> Cursor
 }
 
 // The end of the message. No name comes after it, so that its finding comes once.
-fn finish(table: &[[bool; 11]; 10], section: Section, end: usize, last: usize) -> Opened
-    ensures { λ r. ⌜ r ≡ endOpened (outOfOrder (tableSays (now (table .entry)))) (section .«rule_count») end last ⌝ }
+fn finish(table: &[[bool; 11]; 10], section: Section, end: usize, last: usize) -> Entered
+    ensures { λ r. ⌜ r ≡ endEntered (outOfOrder (tableSays (now (table .entry)))) (section .«rule_count») end last ⌝ }
 {
     if out_of_order(table, last, 0) {
-        return Opened::Order(order_finding(0, 0), between(none_wrong(), section, end, 11));
+        return Entered::Order(order_finding(0, 0), between(none_wrong(), section, end, 11));
     }
-    Opened::End
+    Entered::End
 }
 
 // Notes where the parts of a segment begin, if it has rules.
@@ -148,7 +148,7 @@ fn enter(
     name: usize,
     ordinal: u32,
     last: usize,
-) -> Opened
+) -> Entered
     requires { ⌜ (at ≤ stop) × (stop < length (now m)) × (1 ≤ length (now starts)) × (name ≤ segmentCount) ⌝ }
     ensures { λ r. ⌜ Enters (outOfOrder (tableSays (now (table .entry)))) (by .d) (now (m .entry)) (now (starts .exit)) (by .section .«rule_count») first at stop name ordinal last r ⌝ }
 {
@@ -179,9 +179,9 @@ fn enter(
         last: name,
     };
     if out_of_order(table, last, name) {
-        return Opened::Order(order_finding(name, ordinal), cursor);
+        return Entered::Order(order_finding(name, ordinal), cursor);
     }
-    Opened::Rules(cursor)
+    Entered::Rules(cursor)
 }
 
 // The next segment of a counted name, from a position on, after the counted name last; or the end.
@@ -195,7 +195,7 @@ fn open_segment(
     counts: &mut [u32; NAME_PLACES],
     from: usize,
     last: usize,
-) -> Opened
+) -> Entered
     requires { ⌜ (length (now m) ≤ messageLimit) × Holds (now book) (by .section) × Linked (rulesIn (now book) (by .section)) (now links) × CountsStand (now m) from (now counts) × (fieldPlaces ≤ length (now starts)) ⌝ }
     ensures { λ r. ⌜ Opens (outOfOrder (tableSays (now (table .entry)))) (by .d) (now (m .entry)) (now (book .entry)) (by .section) (now (starts .exit)) (now (counts .exit)) from (gradeFrom (outOfOrder (tableSays (now (table .entry)))) (by .d) (now (m .entry)) (now (book .entry)) (by .section) from last (now (counts .entry))) r ⌝ }
 {
@@ -265,13 +265,13 @@ fn next_graded(
             Within::Nothing => {}
         }
         match open_segment(table, by, m, book, links, starts, counts, c.next, c.last) {
-            Opened::Order(f, then) => {
+            Entered::Order(f, then) => {
                 return Step::Found(f, then);
             }
-            Opened::Rules(then) => {
+            Entered::Rules(then) => {
                 c = then;
             }
-            Opened::End => {
+            Entered::End => {
                 return Step::End;
             }
         }

@@ -9,9 +9,8 @@ use native.Mathlib.Numerals.{add-one}
 use lib.ListN.{length, getD, set, length-set}
 use lib.Seq.{getD-set-same, getD-set-other, ext-getD}
 use Rattle.hl7.specs.Cut.{cut, endFrom, pieceAt, missing}
-use Rattle.hl7.specs.Spans.{between, pieceFrom, Spans}
+use Rattle.hl7.specs.Spans.{between, pieceFrom, Spans, partsFrom}
 use Rattle.hl7.specs.Noted.{Noted, Notes}
-use Rattle.hl7.specs.Walk.{partsFrom}
 use Rattle.hl7.specs.declared.cut.Span.{Span}
 use Rattle.hl7.proofs.Cutting.{end-within, piece-from-start, piece-here, piece-next, piece-none, spans-as, spans-between, spans-one}
 use Rattle.hl7.proofs.Comparing.{none-of}

@@ -1,4 +1,4 @@
--- Laws of `specs/Walk.antt`: the first of the parts from a position on, and those after it. Assumes nothing.
+-- Laws of `partsFrom`: the first of the parts from a position on, and those after it. Assumes nothing.
 use mathlib.Core.Path.{_≡_, refl, sym, ap, _∙_}
 use mathlib.Core.List.{List, [], _∷_}
 use mathlib.Core.Logic.{⊎-elim}
@@ -7,8 +7,8 @@ use native.Mathlib.Omega.{arith}
 use native.Mathlib.Nat.{eq-or-lt-of-le}
 use lib.ListN.{length, take, drop}
 use borrow.Author.Tests.{le-leb, lt-leb}
+use Rattle.hl7.specs.Spans.{partsFrom}
 use Rattle.hl7.specs.Cut.{cut, partAt, endFrom, butLast}
-use Rattle.hl7.specs.Walk.{partsFrom}
 use Rattle.hl7.proofs.Cutting.{first, first-at, cut-some, parts-more, parts-last, end-within}
 
 pub parts-start : (d : ℕ) (s : List ℕ) → partsFrom d s 0 ≡ cut d s

@@ -4,5 +4,4 @@ pub mod Cut
 pub mod Place
 pub mod Refusals
 pub mod Spans
-pub mod Walk
 pub mod Noted

@@ -1,10 +1,10 @@
 -- Inner: only contracts inside the crates use these names; nothing here has to be believed.
--- Where a piece stands in some bytes, by its start and its end. Assumes nothing.
+-- Where a piece stands in some bytes, by its start and its end, and the parts of a cut from a position on. Assumes nothing.
 use Prim.Native.Nat.{ℕ, _+_, _-_, _≤_}
 use mathlib.Core.Path.{_≡_}
 use mathlib.Core.Bool.{cond}
 use mathlib.Core.List.{List, [], _∷_}
-use lib.Dec.{eqb}
+use lib.Dec.{eqb, leb}
 use lib.ListN.{length, take, drop}
 use Rattle.hl7.specs.declared.cut.Span.{Span}
 use Rattle.hl7.specs.Cut.{cut, partAt, startAt, Piece}
@@ -28,3 +28,7 @@ pub record Spans (s : List ℕ) (p : Piece) (r : Span) : Type 0 where
   pub bytes : between s (r .start) (r .end) ≡ p .bytes
   pub forward : r .start ≤ r .end
   pub inside : r .end ≤ length s
+
+-- the parts that begin at `at` or later, a part beginning there; past the end there is none
+unfoldable pub partsFrom : ℕ → List ℕ → ℕ → List (List ℕ)
+partsFrom d s at = cond (leb at (length s)) (cut d (drop at s)) []

@@ -2,7 +2,7 @@
 use mathlib.Core.Path.{sym, ap, _∙_}
 use Rattle.grade.specs.Rule.{otherNumber}
 use Rattle.grade.specs.Rest.{noneWrong, endBy, betweenAt}
-use Rattle.grade.specs.declared.step.Opened.the-variants as Opened
+use Rattle.grade.specs.declared.step.Entered.the-variants as Entered
 use borrow.Author.Needs.{needs}
 use Rattle.grade.proofs.step.finish.Statement.{statement}
 use Rattle.grade.proofs.step.finish.Tie as tie
@@ -22,7 +22,7 @@ between-requires c κs = search needs
 returns : tie.Need-returns
 returns c =
     let a = c .before .before .before .before .before .args in
-    (λ i. Opened.Order (c .before .before .order-finding .ensures i) ((c .between .ensures ∙ ap (λ h. betweenAt h (a .section .«rule_count») (a .end) otherNumber) (c .before .none-wrong .ensures)) i)) ∙ ap (λ b. endBy b (betweenAt noneWrong (a .section .«rule_count») (a .end) otherNumber)) (sym (sym (c .before .before .before .before .out-of-order .ensures) ∙ c .before .before .before .if1 .taken))
+    (λ i. Entered.Order (c .before .before .order-finding .ensures i) ((c .between .ensures ∙ ap (λ h. betweenAt h (a .section .«rule_count») (a .end) otherNumber) (c .before .none-wrong .ensures)) i)) ∙ ap (λ b. endBy b (betweenAt noneWrong (a .section .«rule_count») (a .end) otherNumber)) (sym (sym (c .before .before .before .before .out-of-order .ensures) ∙ c .before .before .before .if1 .taken))
 
 returns-2 : tie.Need-returns-2
 returns-2 c =
