@@ -33,6 +33,7 @@ use Rattle.grade.specs.declared.rule.Rule.{Rule}
 use Rattle.grade.specs.declared.header.Header.{Header}
 use Rattle.grade.specs.declared.finding.Finding.{Finding}
 use Rattle.grade.proofs.Demand3.{findings-meet}
+use Rattle.grade.proofs.Heading.{checks}
 use Rattle.grade.proofs.Grading.{listed}
 use Rattle.grade.proofs.Admitting.{admitted-by, admits-passed, admit-bounded}
 use Rattle.ack.specs.Layout.{has, isHeader, isFault, mshLine, msaLine, errLine, ackLines}
@@ -60,41 +61,33 @@ module _ (o : ℕ → ℕ → Bool) (rules : List Rule) (sets : List (List (List
       of n zero r = refl
       of n (suc i) r = severity-letter (ruleNumbered o rules sets m i .severity)
 
-module _ (a b c e : Bool) where
-  four : List Finding
-  four = onlyIf a (headerFinding 200 9 1) ++ (onlyIf b (headerFinding 201 9 2) ++ (onlyIf c (headerFinding 202 11 1) ++ onlyIf e (headerFinding 203 12 1)))
-
 only-letters : (b : Bool) (f : Finding) (l : List Finding) → eqb (f .severity) carriageReturn ≡ false → has (λ g. eqb (g .severity) carriageReturn) l ≡ false
     → has (λ g. eqb (g .severity) carriageReturn) (onlyIf b f ++ l) ≡ false
 unfolding has
 only-letters true f l e h = rw e h
 only-letters false f l e h = h
 
-four-letters : (a b c e : Bool) → has (λ f. eqb (f .severity) carriageReturn) (four a b c e) ≡ false
-unfolding has four
-four-letters a b c e =
-    only-letters a (headerFinding 200 9 1) _ refl (only-letters b (headerFinding 201 9 2) _ refl (only-letters c (headerFinding 202 11 1) _ refl (last e)))
+header-letters : (h : Header) → has (λ f. eqb (f .severity) carriageReturn) (headerFindings h) ≡ false
+unfolding headerFindings has
+header-letters h =
+    only-letters (h .«type_wrong») (headerFinding 200 9 1) _ refl
+    (only-letters (h .«event_wrong») (headerFinding 201 9 2) _ refl (only-letters (h .«processing_wrong») (headerFinding 202 11 1) _ refl (last (h .«version_wrong»))))
   where
     last : (e : Bool) → has (λ f. eqb (f .severity) carriageReturn) (onlyIf e (headerFinding 203 12 1)) ≡ false
     last true = refl
     last false = refl
 
 -- a finding about the header is an E
-four-errors : (a b c e : Bool) → has isHeader (four a b c e) ≡ true → has isFault (four a b c e) ≡ true
-unfolding has four
-four-errors true b c e h = refl
-four-errors false true c e h = refl
-four-errors false false true e h = refl
-four-errors false false false true h = refl
-four-errors false false false false h = absurd (true≢false (sym h))
-
-header-letters : (h : Header) → has (λ f. eqb (f .severity) carriageReturn) (headerFindings h) ≡ false
-unfolding headerFindings four
-header-letters h = four-letters (h .«type_wrong») (h .«event_wrong») (h .«processing_wrong») (h .«version_wrong»)
-
 header-errors : (h : Header) → has isHeader (headerFindings h) ≡ true → has isFault (headerFindings h) ≡ true
-unfolding headerFindings four
-header-errors h = four-errors (h .«type_wrong») (h .«event_wrong») (h .«processing_wrong») (h .«version_wrong»)
+unfolding headerFindings has
+header-errors h = by (h .«type_wrong») (h .«event_wrong») (h .«processing_wrong») (h .«version_wrong»)
+  where
+    by : (a b c e : Bool) → has isHeader (headerFindings (checks a b c e)) ≡ true → has isFault (headerFindings (checks a b c e)) ≡ true
+    by true b c e h = refl
+    by false true c e h = refl
+    by false false true e h = refl
+    by false false false true h = refl
+    by false false false false h = absurd (true≢false (sym h))
 
 module _ (m b : List ℕ) where
   listed-letters : has (λ f. eqb (f .severity) carriageReturn) (findingsFor m b) ≡ false
