@@ -214,10 +214,3 @@ begins-long (x ∷ p) (y ∷ s) e = longer (eqb y x) (begins-long p s) e
     longer : (b : Bool) → (begins p s ≡ true → length p ≤ length s) → (b && begins p s) ≡ true → length (x ∷ p) ≤ length (y ∷ s)
     longer true ih e = omega (arith, ih e)
     longer false ih e = absurd (true≢false (sym e))
-
--- and with every front of p
-pub begins-less : (p q s : List ℕ) → begins (p ++ q) s ≡ true → begins p s ≡ true
-unfolding begins
-begins-less [] q s e = refl
-begins-less (x ∷ p) q [] e = absurd (true≢false (sym e))
-begins-less (x ∷ p) q (y ∷ s) e = let both = and-both (eqb y x) (begins (p ++ q) s) e in rw (both .0) (begins-less p q s (both .1))

@@ -4,7 +4,7 @@ use mathlib.Core.Bool.{Bool, true, false}
 use mathlib.Core.List.{List, [], _∷_}
 use Prim.Native.Nat.{ℕ, zero, suc, _+_, _-_, _≤_, _<_}
 use native.Mathlib.Omega.{arith}
-use lib.ListN.{length, take, drop, drop-of-length-le}
+use lib.ListN.{length, getD, take, drop, drop-of-length-le}
 use denote.Ref.{RefT}
 use denote.Slice.{sliceVal, slice-vals}
 use borrow.Author.Tests.{le-leb, lt-leb}
@@ -13,12 +13,17 @@ use Rattle.hl7.specs.declared.place.FieldAt.{FieldAt}
 use Rattle.hl7.specs.declared.place.FieldAt.the-variants.{Missing, Bar, Part}
 use Rattle.hl7.specs.declared.cut.Span.{Span}
 use Rattle.hl7.specs.Cut.{cut, startAt, Piece, pieceAt, missing}
-use Rattle.hl7.specs.Place.{carriageReturn, nthOf, cutUnless, segmentOf, isMsh, neverCut, partOfField, fieldOf, repetitionOf, componentOf, inField, inSegment, Lies}
+use Rattle.hl7.specs.Place.{delimsOf, carriageReturn, nthOf, cutUnless, segmentOf, isMsh, neverCut, partOfField, fieldOf, repetitionOf, componentOf, inField, inSegment, Lies}
 use Rattle.hl7.specs.Spans.{between, Spans}
 use Rattle.hl7.specs.Noted.{FieldIs}
 use Rattle.hl7.specs.Text.{bytes}
 use Rattle.hl7.proofs.Comparing.{begins-long}
 use Rattle.hl7.proofs.Cutting.{Stands, piece-stands, stands-short, part-short, cut-few, spans-as}
+
+-- ---- the delimiters
+pub delims-are : (m : List ℕ) {a b c e f : ℕ} → a ≡ getD m 3 0 → b ≡ getD m 4 0 → c ≡ getD m 5 0 → e ≡ getD m 6 0 → f ≡ getD m 7 0 → record { bar = a; caret = b; tilde = c; backslash = e; ampersand = f } ≡ delimsOf m
+unfolding delimsOf
+delims-are m p q r s t i = record { bar = p i; caret = q i; tilde = r i; backslash = s i; ampersand = t i }
 
 -- ---- part k of a list of parts, from 1
 pub nth-zero : (s : List ℕ) (ps : List (List ℕ)) {k : ℕ} → k ≡ 0 → nthOf s ps k ≡ missing s

@@ -1,7 +1,7 @@
 -- Laws of `specs/Refusals.antt`: tables of rows, the loops that look for a wrong byte and a wrong segment, and what a sound message is.
 -- Assumes nothing.
 use mathlib.Core.Path.{_≡_, refl, sym, ap, subst, _∙_}
-use mathlib.Core.Bool.{Bool, true, false, cond, not, _&&_, true≢false}
+use mathlib.Core.Bool.{Bool, true, false, cond, not, _&&_, _||_, and-false, true≢false}
 use mathlib.Core.Logic.{_↔_, _⊎_, inl, inr}
 use mathlib.Core.List.{List, [], _∷_, _++_}
 use Prim.Native.Nat.{ℕ, zero, suc, _+_, _-_, _≤_, _<_}
@@ -16,13 +16,15 @@ use Rattle.hl7.specs.declared.refusal.Found.the-variants.{At, Nothing}
 use Rattle.hl7.specs.declared.refusal.Reading.{Reading}
 use Rattle.hl7.specs.declared.refusal.Reading.the-variants.{Sound, Empty, TooLong, WrongByte, NoHeader, WrongSegment}
 use Rattle.hl7.specs.Text.{bytes}
-use Rattle.hl7.specs.Bytes.{all, isIn, begins}
+use Rattle.hl7.specs.Bytes.{isIn, distinct, all}
 use Rattle.hl7.specs.Cut.{ahead, cut, partAt, endFrom, butLast}
 use Rattle.hl7.specs.Place.{delimsOf, carriageReturn, segmentsOf, segmentOf, isMsh, nthOf, cutUnless, place}
+use Rattle.hl7.specs.Delimiters.{opens}
 use Rattle.hl7.specs.Spans.{between}
-use Rattle.hl7.specs.Refusals.{Told, told, Row, row, rowAt, firstRow, passes, numbersOf, apart, holdsAt, First, messageLimit, allowed, wrongBytes, nineBytes, hasForm, wrongSegments, formRows, messageRows, firstOf, isSome, readingTold, readsSound, readingOf, isSound, located}
-use Rattle.hl7.proofs.Comparing.{rest-at, none-of, and-both, or-neither, begins-less}
+use Rattle.hl7.specs.Refusals.{Told, told, Row, row, rowAt, firstRow, passes, numbersOf, apart, holdsAt, First, messageLimit, allowed, wrongBytes, hasForm, wrongSegments, formRows, messageRows, firstOf, isSome, readingTold, readsSound, readingOf, isSound, located}
+use Rattle.hl7.proofs.Comparing.{rest-at, none-of, and-both}
 use Rattle.hl7.proofs.Cutting.{first, first-at, first-begins, cut-some, parts-more, parts-last}
+use Rattle.hl7.proofs.Delimiting.{Delimiting, distinct-one, opens-begins, opens-delimiting}
 use Rattle.hl7.proofs.Walking.{ended-same}
 
 -- ---- tables of rows
@@ -69,33 +71,20 @@ first-or-none (r ∷ rows) = by (r .holds) refl (first-or-none rows)
     by false t (inr none) = inr (never t none)
 
 -- ---- numbers that are apart
-module _ (n : ℕ) (l : List ℕ) (e : apart (n ∷ l) ≡ true) where
-  apart-parts : ((not (eqb n 0) && not (isIn n l)) ≡ true) × (apart l ≡ true)
-  unfolding apart
-  apart-parts = and-both (not (eqb n 0) && not (isIn n l)) (apart l) e
-
-  apart-first : (n ≡ 0 → ⊥) × (isIn n l ≡ false)
-  apart-first =
-      let both = and-both (not (eqb n 0)) (not (isIn n l)) (apart-parts .0) in
-      (eqb-false n 0 (not-true (eqb n 0) (both .0)), not-true (isIn n l) (both .1))
-
-not-in : (n : ℕ) (l : List ℕ) (k : ℕ) → isIn n l ≡ false → k < length l → n ≡ getD l k 0 → ⊥
-unfolding isIn
-not-in n [] k e h same = absurd (omega arith)
-not-in n (x ∷ l) zero e h same = eqb-false n x (or-neither (eqb n x) (isIn n l) e .0) same
-not-in n (x ∷ l) (suc k) e h same = not-in n l k (or-neither (eqb n x) (isIn n l) e .1) (omega arith) same
-
 apart-some : (l : List ℕ) (k : ℕ) → apart l ≡ true → k < length l → getD l k 0 ≡ 0 → ⊥
-apart-some [] k e h z = absurd (omega arith)
-apart-some (n ∷ l) zero e h z = apart-first n l e .0 z
-apart-some (n ∷ l) (suc k) e h z = apart-some l k (apart-parts n l e .1) (omega arith) z
+apart-some l k e h z = omega (arith, distinct-one (0 ∷ l) 0 (suc k) e (omega arith) (omega arith) (sym z))
 
 apart-one : (l : List ℕ) (j k : ℕ) → apart l ≡ true → j < length l → k < length l → getD l j 0 ≡ getD l k 0 → j ≡ k
-apart-one [] j k e h g same = absurd (omega arith)
-apart-one (n ∷ l) zero zero e h g same = refl
-apart-one (n ∷ l) zero (suc k) e h g same = absurd (not-in n l k (apart-first n l e .1) (omega arith) same)
-apart-one (n ∷ l) (suc j) zero e h g same = absurd (not-in n l j (apart-first n l e .1) (omega arith) (sym same))
-apart-one (n ∷ l) (suc j) (suc k) e h g same = ap suc (apart-one l j k (apart-parts n l e .1) (omega arith) (omega arith) same)
+apart-one l j k e h g same = omega (arith, distinct-one (0 ∷ l) (suc j) (suc k) e (omega arith) (omega arith) same)
+
+apart-less : (n : ℕ) (l : List ℕ) → apart (n ∷ l) ≡ true → apart l ≡ true
+unfolding distinct isIn
+apart-less n l e = by (eqb 0 n) (isIn 0 l) (isIn n l) e
+  where
+    by : (a b c : Bool) → (not (a || b) && (not c && distinct l)) ≡ true → (not b && distinct l) ≡ true
+    by false b false e = e
+    by false b true e = absurd (true≢false (sym e ∙ and-false (not b)))
+    by true b c e = absurd (true≢false (sym e))
 
 numbers-length : (rows : List Row) → length (numbersOf rows) ≡ length rows
 unfolding numbersOf
@@ -134,10 +123,10 @@ module _ (rows : List Row) (e : apart (numbersOf rows) ≡ true) where
 pub rows-append : (rows more : List Row) → apart (numbersOf rows) ≡ true → firstRow (rows ++ more) ≡ cond (passes rows) (firstRow more) (firstRow rows)
 unfolding firstRow numbersOf
 rows-append [] more e = refl
-rows-append (r ∷ rows) more e = by (r .holds) (rows-append rows more (apart-parts (r .tells .number) (numbersOf rows) e .1))
+rows-append (r ∷ rows) more e = by (r .holds) (rows-append rows more (apart-less (r .tells .number) (numbersOf rows) e))
   where
     by : (b : Bool) → firstRow (rows ++ more) ≡ cond (passes rows) (firstRow more) (firstRow rows) → cond b (r .tells) (firstRow (rows ++ more)) ≡ cond (eqb (cond b (r .tells) (firstRow rows) .number) 0) (firstRow more) (cond b (r .tells) (firstRow rows))
-    by true ih = rw (ne-eqb (r .tells .number) 0 (apart-first (r .tells .number) (numbersOf rows) e .0))
+    by true ih = rw (ne-eqb (r .tells .number) 0 (apart-some (numbersOf (r ∷ rows)) 0 e (omega arith)))
     by false ih = ih
 
 -- ---- a row for what stands at some positions
@@ -217,7 +206,7 @@ check-once m e f = reading-is m e ∙ sym (reading-is m f)
 
 -- ---- rows 1 to 5
 pub message-apart : (m : List ℕ) → apart (numbersOf (messageRows m)) ≡ true
-unfolding messageRows formRows numbersOf apart isIn
+unfolding messageRows formRows numbersOf distinct isIn
 message-apart m = refl
 
 -- the number is that of row k exactly when row k is the first to hold
@@ -227,11 +216,11 @@ reading-exactly m k h = row-exactly (messageRows m) (message-apart m) k h
 
 -- the same in the code's words: the tests that it made on the way
 module _ (m : List ℕ) where
-  pub form-none : begins nineBytes m ≡ false → told 4 0 ≡ firstRow (formRows m)
+  pub form-none : opens (bytes "MSH") m ≡ false → told 4 0 ≡ firstRow (formRows m)
   unfolding firstRow formRows
   form-none e = rw e
 
-  module _ (e : begins nineBytes m ≡ true) where
+  module _ (e : opens (bytes "MSH") m ≡ true) where
     form-passed : firstRow (formRows m) ≡ firstRow (rowAt 5 (wrongSegments (delimsOf m) 0 (cut carriageReturn m)) ∷ [])
     unfolding firstRow formRows
     form-passed = rw e
@@ -285,14 +274,18 @@ pub sound-short : (m : List ℕ) → isSound m ≡ true → length m ≤ message
 unfolding messageRows
 sound-short m e = ltb-false messageLimit (length m) (sound-none m e 1)
 
-pub sound-begins : (m : List ℕ) → isSound m ≡ true → begins nineBytes m ≡ true
+pub sound-opens : (m : List ℕ) → isSound m ≡ true → opens (bytes "MSH") m ≡ true
 unfolding messageRows formRows
-sound-begins m e = not-false _ (sound-none m e 3)
+sound-opens m e = not-false _ (sound-none m e 3)
 
--- so its first segment is MSH
+-- so its delimiters are five that differ from each other and from whatever may be none
+pub sound-delimiting : (m : List ℕ) → isSound m ≡ true → Delimiting (delimsOf m)
+sound-delimiting m e = opens-delimiting (bytes "MSH") m (sound-opens m e)
+
+-- and its first segment is MSH
 pub sound-msh : (m : List ℕ) → isSound m ≡ true → isMsh (segmentOf m 1 .bytes) ≡ true
 unfolding nthOf cutUnless all
-sound-msh m e = begins-less (bytes "MSH") (bytes "|^~\\&|") _ (first-begins carriageReturn nineBytes m refl (sound-begins m e))
+sound-msh m e = first-begins carriageReturn (bytes "MSH") m refl (opens-begins (bytes "MSH") m (sound-opens m e))
 
 -- every byte is allowed, and every segment has its form and its CR
 none-at : (positions : List ℕ) → isSome positions ≡ false → positions ≡ []

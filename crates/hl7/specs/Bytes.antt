@@ -8,10 +8,27 @@ use lib.Dec.{eqb, leb}
 abbrev pub within : ℕ → ℕ → ℕ → Bool
 within low high n = leb low n && leb n high
 
+-- '0' to '9'
+abbrev pub isDigit : ℕ → Bool
+isDigit x = within 48 57 x
+
+-- 'A' to 'Z'
+abbrev pub isUpper : ℕ → Bool
+isUpper x = within 65 90 x
+
+-- 'A' to 'Z' or 'a' to 'z'
+abbrev pub isLetter : ℕ → Bool
+isLetter x = isUpper x || within 97 122 x
+
 -- n is one of the list
 unfoldable pub isIn : ℕ → List ℕ → Bool
 isIn n [] = false
 isIn n (x ∷ l) = eqb n x || isIn n l
+
+-- no two of the list are the same
+unfoldable pub distinct : List ℕ → Bool
+distinct [] = true
+distinct (n ∷ l) = not (isIn n l) && distinct l
 
 -- every byte of s passes the test
 unfoldable pub all : (ℕ → Bool) → List ℕ → Bool

@@ -1,10 +1,9 @@
 -- To be believed. Segments, fields, repetitions and components of a message (HL7 2.5.1 chapter 2): what each holds, and where it stands. Assumes nothing.
 use Prim.Native.Nat.{ℕ, zero, suc, _+_}
-use Prim.Native.Char.{code}
 use mathlib.Core.Path.{_≡_}
 use mathlib.Core.Bool.{Bool, true, false, _&&_}
 use mathlib.Core.List.{List, [], _∷_}
-use lib.ListN.{take, drop}
+use lib.ListN.{getD, take, drop}
 use lib.Dec.{leb}
 use denote.Ref.{RefT}
 use Rattle.hl7.specs.declared.place.Delims.{Delims}
@@ -13,9 +12,9 @@ use Rattle.hl7.specs.Cut.{cut, Piece, pieceAt, missing, butLast}
 use Rattle.hl7.specs.Text.{bytes}
 
 -- ---- the delimiters
--- the five bytes that a message is cut by: always the standard five
+-- the five bytes that a message is cut by are its own: bytes 3 to 7, counted from 0. Each is named after the byte that usually stands there
 unfoldable pub delimsOf : List ℕ → Delims
-delimsOf m = record { bar = code "|"; caret = code "^"; tilde = code "~"; backslash = code "\\"; ampersand = code "&" }
+delimsOf m = record { bar = getD m 3 0; caret = getD m 4 0; tilde = getD m 5 0; backslash = getD m 6 0; ampersand = getD m 7 0 }
 
 abbrev pub carriageReturn : ℕ
 carriageReturn = 13

@@ -7,9 +7,10 @@ use mathlib.Core.List.{List, [], _∷_}
 use lib.ListN.{length, getD}
 use lib.Dec.{eqb, ltb}
 use Rattle.hl7.specs.Text.{bytes}
-use Rattle.hl7.specs.Bytes.{within, isIn, begins}
+use Rattle.hl7.specs.Bytes.{within, isDigit, isUpper, distinct}
 use Rattle.hl7.specs.Cut.{cut, Piece}
 use Rattle.hl7.specs.Place.{delimsOf, carriageReturn, place}
+use Rattle.hl7.specs.Delimiters.{opens}
 use Rattle.hl7.specs.declared.place.Delims.{Delims}
 use Rattle.hl7.specs.declared.refusal.Found.{Found}
 use Rattle.hl7.specs.declared.refusal.Found.the-variants.{At, Nothing}
@@ -56,9 +57,8 @@ numbersOf [] = []
 numbersOf (r ∷ rows) = r .tells .number ∷ numbersOf rows
 
 -- none of the numbers is 0, and no two are the same: then an answer's number says which row told it
-unfoldable pub apart : List ℕ → Bool
-apart [] = true
-apart (n ∷ l) = not (eqb n 0) && not (isIn n l) && apart l
+abbrev pub apart : List ℕ → Bool
+apart numbers = distinct (0 ∷ numbers)
 
 -- row k, from 0, is the first that holds
 abbrev pub holdsAt : List Row → ℕ → Bool
@@ -83,17 +83,10 @@ unfoldable pub wrongBytes : ℕ → List ℕ → List ℕ
 wrongBytes at [] = []
 wrongBytes at (x ∷ s) = cond (allowed x) (wrongBytes (suc at) s) (at ∷ wrongBytes (suc at) s)
 
--- M, S, H, bar, caret, tilde, backslash, ampersand, bar
-abbrev pub nineBytes : List ℕ
-nineBytes = bytes "MSH|^~\\&|"
-
-abbrev pub isUpper : ℕ → Bool
-isUpper x = within 65 90 x
-
 abbrev pub isUpperOrDigit : ℕ → Bool
-isUpperOrDigit x = isUpper x || within 48 57 x
+isUpperOrDigit x = isUpper x || isDigit x
 
--- an upper-case letter and two upper-case letters or digits, then a bar or the CR
+-- an upper-case letter and two upper-case letters or digits, then the message's bar or the CR
 unfoldable pub hasForm : Delims → List ℕ → Bool
 hasForm d seg =
     isUpper (getD seg 0 0) && isUpperOrDigit (getD seg 1 0) && isUpperOrDigit (getD seg 2 0)
@@ -107,7 +100,7 @@ wrongSegments d at (p ∷ (q ∷ ps)) =
     cond (hasForm d p) (wrongSegments d (at + length p + 1) (q ∷ ps)) (at ∷ wrongSegments d (at + length p + 1) (q ∷ ps))
 
 unfoldable pub formRows : List ℕ → List Row
-formRows m = row 4 (not (begins nineBytes m)) ∷ rowAt 5 (wrongSegments (delimsOf m) 0 (cut carriageReturn m)) ∷ []
+formRows m = row 4 (not (opens (bytes "MSH") m)) ∷ rowAt 5 (wrongSegments (delimsOf m) 0 (cut carriageReturn m)) ∷ []
 
 unfoldable pub messageRows : List ℕ → List Row
 messageRows m = row 1 (eqb (length m) 0) ∷ row 2 (ltb messageLimit (length m)) ∷ rowAt 3 (wrongBytes 0 m) ∷ formRows m

@@ -1,5 +1,6 @@
 // Segments, fields, repetitions and components: each a part of the bytes that hold it, and where it stands there.
 use crate::bytes::begins_with;
+use crate::bytes::byte_at;
 use crate::cut::Span;
 use crate::cut::find;
 use crate::cut::find_far;
@@ -16,7 +17,7 @@ ghost use Rattle.hl7.specs.Noted.{FieldIs, Noted, Notes};
 // Room for the starts of parts 0 to 12, and for the end of the last.
 pub const MSH_PLACES: usize = 14;
 
-// The five bytes that a message is cut by.
+// The five bytes that a message is cut by, each named after the byte that usually stands there.
 pub struct Delims {
     pub bar: u8,
     pub caret: u8,
@@ -25,16 +26,16 @@ pub struct Delims {
     pub ampersand: u8,
 }
 
-// The delimiters of a message: always the standard five. Every cut takes its byte from here.
+// The delimiters of a message: its bytes 3 to 7. Every cut takes its byte from here.
 pub fn delims_of(m: &[u8]) -> Delims
     ensures { λ r. ⌜ r ≡ delimsOf (now (m .entry)) ⌝ }
 {
     Delims {
-        bar: b'|',
-        caret: b'^',
-        tilde: b'~',
-        backslash: b'\\',
-        ampersand: b'&',
+        bar: byte_at(m, 3),
+        caret: byte_at(m, 4),
+        tilde: byte_at(m, 5),
+        backslash: byte_at(m, 6),
+        ampersand: byte_at(m, 7),
     }
 }
 

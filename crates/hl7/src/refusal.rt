@@ -1,14 +1,14 @@
 // Refusals 1 to 5, in the order in which they are tried.
-use crate::bytes::begins_with;
 use crate::bytes::byte_at;
 use crate::cut::find_far;
+use crate::delimiters::opens_with;
 use crate::place::Delims;
 use crate::place::delims_of;
 ghost use mathlib.Core.Path.{_≡_};
-ghost use Rattle.hl7.specs.Bytes.{all};
+ghost use Rattle.hl7.specs.Bytes.{isUpper, all};
 ghost use Rattle.hl7.specs.Cut.{cut};
 ghost use Rattle.hl7.specs.Place.{carriageReturn};
-ghost use Rattle.hl7.specs.Refusals.{allowed, wrongBytes, isUpper, isUpperOrDigit, hasForm, wrongSegments, formRows, messageRows, firstRow, firstOf, readingTold, readsSound, isSound};
+ghost use Rattle.hl7.specs.Refusals.{allowed, wrongBytes, isUpperOrDigit, hasForm, wrongSegments, formRows, messageRows, firstRow, firstOf, readingTold, readsSound, isSound};
 
 const MESSAGE_LIMIT: usize = 32768;
 
@@ -115,7 +115,7 @@ fn wrong_segment(d: Delims, m: &[u8]) -> Found
 fn check_form(m: &[u8]) -> Reading
     ensures { λ r. ⌜ readingTold r ≡ firstRow (formRows (now (m .entry))) ⌝ }
 {
-    if begins_with(m, b"MSH|^~\\&|") {
+    if opens_with(m, b"MSH") {
         match wrong_segment(delims_of(m), m) {
             Found::At(start) => Reading::WrongSegment(start),
             Found::Nothing => Reading::Sound,

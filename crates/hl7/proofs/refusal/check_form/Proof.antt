@@ -4,11 +4,11 @@ use borrow.Author.Needs.{needs}
 use Rattle.hl7.proofs.refusal.check_form.Statement.{statement}
 use Rattle.hl7.proofs.refusal.check_form.Tie as tie
 
-slice-aggregate-begins-with : tie.Need-slice-aggregate-begins-with
-slice-aggregate-begins-with c = search needs
+slice-aggregate-opens-with : tie.Need-slice-aggregate-opens-with
+slice-aggregate-opens-with c = search needs
 
-begins-with-requires : tie.Need-begins-with-requires
-begins-with-requires c κs = search needs
+opens-with-requires : tie.Need-opens-with-requires
+opens-with-requires c κs = search needs
 
 delims-of-requires : tie.Need-delims-of-requires
 delims-of-requires c κs = search needs
@@ -35,8 +35,8 @@ pub check-form-spec : {M : Type 1} → statement M
 check-form-spec =
     tie.close
     (tie.spec
-    slice-aggregate-begins-with
-    begins-with-requires
+    slice-aggregate-opens-with
+    opens-with-requires
     delims-of-requires
     wrong-segment-requires
     enum-known-start

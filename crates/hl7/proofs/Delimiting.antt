@@ -1,0 +1,111 @@
+-- Laws of `specs/Delimiters.antt`: what is known of the delimiters of every message that passes row 4. Assumes nothing.
+use mathlib.Core.Path.{_≡_, refl, sym, ap, _∙_}
+use mathlib.Core.Bool.{Bool, true, false, not, _&&_, _||_, and-true, and-assoc, or-false, or-assoc, true≢false}
+use mathlib.Core.List.{List, [], _∷_}
+use Prim.Native.Nat.{ℕ, zero, suc, _≤_, _<_}
+use native.Mathlib.Omega.{arith}
+use native.Mathlib.Decide.{decLt}
+use lib.Dec.{eqb}
+use lib.ListN.{length, getD, List·getD-eq-default}
+use borrow.Author.Tests.{ne-eqb, eqb-true, eqb-false, not-true}
+use Rattle.hl7.specs.declared.place.Delims.{Delims}
+use Rattle.hl7.specs.Bytes.{within, isIn, distinct, all, differs, begins}
+use Rattle.hl7.specs.Place.{delimsOf}
+use Rattle.hl7.specs.Delimiters.{mayDelimit, fiveOf, mayCut, opens}
+use Rattle.hl7.proofs.Comparing.{and-both, or-neither, all-at}
+
+-- ---- numbers that differ pairwise
+not-in : (n : ℕ) (l : List ℕ) (k : ℕ) → isIn n l ≡ false → k < length l → n ≡ getD l k 0 → ⊥
+unfolding isIn
+not-in n [] k e h same = absurd (omega arith)
+not-in n (x ∷ l) zero e h same = eqb-false n x (or-neither (eqb n x) (isIn n l) e .0) same
+not-in n (x ∷ l) (suc k) e h same = not-in n l k (or-neither (eqb n x) (isIn n l) e .1) (omega arith) same
+
+pub distinct-one : (l : List ℕ) (j k : ℕ) → distinct l ≡ true → j < length l → k < length l → getD l j 0 ≡ getD l k 0 → j ≡ k
+unfolding distinct
+distinct-one [] j k e h g same = absurd (omega arith)
+distinct-one (n ∷ l) zero zero e h g same = refl
+distinct-one (n ∷ l) zero (suc k) e h g same = absurd (not-in n l k (not-true _ (and-both (not (isIn n l)) (distinct l) e .0)) (omega arith) same)
+distinct-one (n ∷ l) (suc j) zero e h g same = absurd (not-in n l j (not-true _ (and-both (not (isIn n l)) (distinct l) e .0)) (omega arith) (sym same))
+distinct-one (n ∷ l) (suc j) (suc k) e h g same = ap suc (distinct-one l j k (and-both (not (isIn n l)) (distinct l) e .1) (omega arith) (omega arith) same)
+
+-- ---- plain bytes: those that may be no delimiter
+abbrev pub isPlain : ℕ → Bool
+isPlain y = not (mayDelimit y)
+
+delimits-other : (x y : ℕ) → mayDelimit x ≡ true → isPlain y ≡ true → x ≡ y → ⊥
+delimits-other x y e p same = true≢false (sym e ∙ ap mayDelimit same ∙ not-true _ p)
+
+-- a plain text holds no delimiter
+pub plain-without : (x : ℕ) (text : List ℕ) → mayDelimit x ≡ true → all isPlain text ≡ true → all (differs x) text ≡ true
+unfolding all
+plain-without x [] e p = refl
+plain-without x (y ∷ text) e p =
+    let both = and-both (isPlain y) (all isPlain text) p in
+    rw (ne-eqb y x (λ same. delimits-other x y e (both .0) (sym same))) (plain-without x text e (both .1))
+
+-- and a plain byte is none of the delimiters
+pub delimiters-without : (y : ℕ) (s : List ℕ) → isPlain y ≡ true → all mayDelimit s ≡ true → all (differs y) s ≡ true
+unfolding all
+delimiters-without y [] p e = refl
+delimiters-without y (x ∷ s) p e =
+    let both = and-both (mayDelimit x) (all mayDelimit s) e in
+    rw (ne-eqb x y (delimits-other x y (both .0) p)) (delimiters-without y s p (both .1))
+
+-- ---- the law of every message that passes row 4
+pub record Delimiting (d : Delims) : Type 0 where
+  pub each : all mayDelimit (fiveOf d) ≡ true
+  pub differ : distinct (fiveOf d) ≡ true
+
+-- each of the five, by its place among them
+pub delimiter-at : {d : Delims} → Delimiting d → (i : ℕ) → i < 5 → mayDelimit (getD (fiveOf d) i 0) ≡ true
+delimiter-at {d} own i h = all-at mayDelimit (fiveOf d) i (own .each) h
+
+-- any two of them are two bytes
+pub delimiters-differ : {d : Delims} → Delimiting d → (i j : ℕ) → i < j → j < 5 → getD (fiveOf d) i 0 ≡ getD (fiveOf d) j 0 → ⊥
+delimiters-differ {d} own i j h k same = omega (arith, distinct-one (fiveOf d) i j (own .differ) (omega arith) (omega arith) same)
+
+module _ (name m : List ℕ) (e : opens name m ≡ true) where
+  opens-parts : ((begins name m && mayCut (delimsOf m)) ≡ true) × (eqb (getD m 8 0) (delimsOf m .bar) ≡ true)
+  unfolding opens
+  opens-parts = and-both (begins name m && mayCut (delimsOf m)) (eqb (getD m 8 0) (delimsOf m .bar)) e
+
+  pub opens-begins : begins name m ≡ true
+  opens-begins = and-both (begins name m) (mayCut (delimsOf m)) (opens-parts .0) .0
+
+  pub opens-delimiting : Delimiting (delimsOf m)
+  unfolding mayCut
+  opens-delimiting =
+      let both = and-both (all mayDelimit (fiveOf (delimsOf m))) (distinct (fiveOf (delimsOf m))) (and-both (begins name m) (mayCut (delimsOf m)) (opens-parts .0) .1) in
+      record { each = both .0; differ = both .1 }
+
+  -- it has nine bytes at least, since one that may delimit stands at 8
+  pub opens-long : 9 ≤ length m
+  unfolding delimsOf mayDelimit isIn
+  opens-long = by (decLt 8 (length m))
+    where
+      by : Dec (8 < length m) → 9 ≤ length m
+      by (yes h) = h
+      by (no h) =
+          let none : getD m 8 0 ≡ 0 = List·getD-eq-default m 0 (omega arith) in
+          let again = eqb-true (getD m 8 0) (delimsOf m .bar) (opens-parts .1) in
+          absurd (delimits-other (delimsOf m .bar) 0 (delimiter-at opens-delimiting 0 (omega arith)) refl (sym again ∙ none))
+
+-- ---- in the code's words, which asks one after the other
+pub asked-byte : (x : ℕ) {upper lower digit printable : Bool} → upper ≡ within 65 90 x → lower ≡ within 97 122 x → digit ≡ within 48 57 x → printable ≡ within 32 126 x
+    → (printable && not (upper || lower || digit || (eqb x 32 || eqb x 34 || eqb x 46 || eqb x 43 || eqb x 45 || eqb x 95))) ≡ mayDelimit x
+unfolding mayDelimit isIn
+asked-byte x p q r s = rw (p, q, r, s) (simp (or-false, or-assoc))
+
+pub asked-distinct : (d : Delims)
+    → (not (eqb (d .bar) (d .caret) || eqb (d .bar) (d .tilde) || eqb (d .bar) (d .backslash) || eqb (d .bar) (d .ampersand))
+    && not (eqb (d .caret) (d .tilde) || eqb (d .caret) (d .backslash) || eqb (d .caret) (d .ampersand))
+    && not (eqb (d .tilde) (d .backslash) || eqb (d .tilde) (d .ampersand)) && not (eqb (d .backslash) (d .ampersand))) ≡ distinct (fiveOf d)
+unfolding distinct isIn
+asked-distinct d = simp (and-true, and-assoc, or-false, or-assoc)
+
+pub asked-each : (d : Delims) {a b c e f g : Bool}
+    → a ≡ mayDelimit (d .bar) → b ≡ mayDelimit (d .caret) → c ≡ mayDelimit (d .tilde) → e ≡ mayDelimit (d .backslash) → f ≡ mayDelimit (d .ampersand) → g ≡ distinct (fiveOf d)
+    → (a && b && c && e && f && g) ≡ mayCut d
+unfolding mayCut all
+asked-each d p q r s t u = rw (p, q, r, s, t, u) (simp (and-true, and-assoc))
