@@ -52,7 +52,7 @@ impl<'m> Message<'m> {
         if let Some(position) = first_foreign_byte(m) {
             return Err((3, position as u64));
         }
-        if beginning(m).contains(&false) {
+        if row_4(m).contains(&false) {
             return Err((4, 0));
         }
         let own = Delimiters { bar: m[3], caret: m[4], tilde: m[5] };
@@ -126,7 +126,7 @@ pub fn check(m: &[u8]) -> Refusal {
 
 /// Row 4 point by point: nine bytes, the name, five bytes that are allowed, that differ, and the first of them again.
 /// A shorter message lacks the first point alone.
-pub fn beginning(m: &[u8]) -> [bool; 5] {
+pub fn row_4(m: &[u8]) -> [bool; 5] {
     let Some(nine) = m.first_chunk::<BEGINNING>() else {
         return [false, true, true, true, true];
     };
@@ -226,24 +226,23 @@ fn find(bytes: &[u8], wanted: u8) -> Option<usize> {
 #[cfg(test)]
 mod tests {
     use super::*;
+    use crate::cases::ALLOWED;
 
     /// Row 4's answer to a byte at a place of the five, where the others are sound.
     fn takes(at: usize, byte: u8) -> bool {
         let mut m = *b"MSH!#$%'!";
         m[at] = byte;
         m[8] = m[3];
-        !beginning(&m).contains(&false)
+        !row_4(&m).contains(&false)
     }
 
     #[test]
     fn bytes_that_may_delimit() {
-        let allowed = b"!#$%&'()*,/:;<=>?@[\\]^`{|}~";
-        assert_eq!(allowed.len(), 27);
         for at in 3..8 {
             for byte in 0..=255 {
-                // Taken already by one of the others.
+                // A byte that another one of the five has is the pair's fault.
                 let free = byte == b"!#$%'"[at - 3] || !b"!#$%'".contains(&byte);
-                assert_eq!(takes(at, byte), allowed.contains(&byte) && free, "{byte} at {at}");
+                assert_eq!(takes(at, byte), ALLOWED.contains(&byte) && free, "{byte} at {at}");
             }
         }
     }
@@ -261,8 +260,8 @@ mod tests {
             (b"MSH|^~\\&!", 4),
         ];
         for (m, point) in rows {
-            assert_eq!(beginning(m), std::array::from_fn(|k| k != point), "{}", m.escape_ascii());
+            assert_eq!(row_4(m), std::array::from_fn(|k| k != point), "{}", m.escape_ascii());
         }
-        assert_eq!(beginning(b"MSH|^~\\&|"), [true; 5]);
+        assert_eq!(row_4(b"MSH|^~\\&|"), [true; 5]);
     }
 }

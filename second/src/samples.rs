@@ -607,6 +607,7 @@ fn located() -> Vec<Sample> {
 #[cfg(test)]
 mod tests {
     use super::*;
+    use crate::cases::ALLOWED;
 
     #[test]
     fn every_sample_is_printed_and_located_as_written_by_hand() {
@@ -624,7 +625,7 @@ mod tests {
         let mut bytes: Vec<u8> = answered.flat_map(|sample| sample.case.message[3..8].to_vec()).collect();
         bytes.sort();
         bytes.dedup();
-        assert_eq!(bytes, b"!#$%&'()*,/:;<=>?@[\\]^`{|}~");
+        assert_eq!(bytes, ALLOWED);
     }
 
     #[test]

@@ -1,6 +1,7 @@
 //! One fault for each refusal, put into a case that would be answered.
 
 use super::near;
+use super::places;
 use super::random::Random;
 use super::Case;
 use crate::book::BOOK_LIMIT;
@@ -72,9 +73,7 @@ fn other_beginning(random: &mut Random, message: &mut Vec<u8>) {
 }
 
 fn wrong_segment(random: &mut Random, message: &mut Vec<u8>) {
-    let starts: Vec<usize> =
-        message.iter().enumerate().filter(|(_, b)| **b == b'\r').map(|(position, _)| position + 1).collect();
-    let at = starts.get(random.below(starts.len().max(1))).copied().unwrap_or(message.len());
+    let at = places::segment_start(random, message);
     let wrong: [&[u8]; 14] = [
         b"\r",
         b"PI\r",

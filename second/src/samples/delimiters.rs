@@ -10,7 +10,7 @@ pub fn samples() -> Vec<Sample> {
     all.extend(plain_text());
     all.extend(later_headers());
     all.extend(beginnings());
-    all.extend(refused());
+    all.extend(bars_and_keys());
     all
 }
 
@@ -82,11 +82,11 @@ fn verdicts() -> Vec<Sample> {
 /// The usual five as ordinary characters, and with each other's meaning.
 fn plain_text() -> Vec<Sample> {
     let plain = lines(
-        "MSH?@[]{?A|B^C?D~E\\F?REG@1[2?AX@x[y???VXU@V04?M|1^2?P?2.5.1\n\
+        "MSH?@[]{?A|B^C?D~E\\F?REG@1[2?AX@x[y???VXU@V04?M|1^2?P@x|y^z?2.5.1\n\
          PID???a|b^c~d\\e&f@20240229\n",
     );
-    let plain_ack = "MSH?@[]{?REG@1[2?AX@x[y?A|B^C?D~E\\F?20250113120000+0000??ACK@V04@ACK?7?P?2.5.1???NE?NE?????\
-         Z23@CDCPHINVS\n\
+    let plain_ack = "MSH?@[]{?REG@1[2?AX@x[y?A|B^C?D~E\\F?20250113120000+0000??ACK@V04@ACK?7?P@x|y^z?2.5.1???NE?NE\
+         ?????Z23@CDCPHINVS\n\
          MSA?AA?M|1^2\n\
          ERR??PID@1@3@1@1?102@Data type error@HL70357?I?3@@L\n";
     // PID-3.1 has eleven bytes.
@@ -174,7 +174,7 @@ fn beginnings() -> Vec<Sample> {
 }
 
 /// Row 5 goes by the own bar, row 9 by the own caret; the book's alphabet is as before.
-fn refused() -> Vec<Sample> {
+fn bars_and_keys() -> Vec<Sample> {
     let odd_key = books::encode(&[SectionPlan::new("A#X")]);
     let found = "MSH|^~\\&|REG|A#X|CAB|C1|20250113120000+0000||ACK^V04^ACK|7|P|2.5.1|||NE|NE|||||Z23^CDCPHINVS\n\
          MSA|AA|M1\n";
