@@ -176,18 +176,29 @@ fn beginnings() -> Vec<Sample> {
 /// Row 5 goes by the own bar, row 9 by the own caret; the book's alphabet is as before.
 fn bars_and_keys() -> Vec<Sample> {
     let odd_key = books::encode(&[SectionPlan::new("A#X")]);
-    let found = "MSH|^~\\&|REG|A#X|CAB|C1|20250113120000+0000||ACK^V04^ACK|7|P|2.5.1|||NE|NE|||||Z23^CDCPHINVS\n\
-         MSA|AA|M1\n";
-    let named = |caret: char, key: &str| format!("MSH|{caret}~\\&|CAB|C1|REG|{key}|||VXU{caret}V04|M1|P|2.5.1\rPID\r");
-    let rows = [
-        ("nine bytes and a CR, other delimiters", "MSH!#$%'!\r".into(), book_ax(&[]), "refused 6 0\n"),
-        ("a later MSH with another bar", "MSH!#$%'!CAB\rPID\rMSH|^~\\&|CAB\r".into(), book_ax(&[]), "refused 5 17\n"),
-        ("the usual bar in a later segment", "MSH!#$%'!CAB\rPID|1\r".into(), book_ax(&[]), "refused 5 13\n"),
-        ("MSH-6.1 with a caret", named('#', "AX^1"), book_ax(&[]), "refused 9 0\n"),
-        ("a key with the own caret", named('#', "A#X"), odd_key.clone(), "refused 9 0\n"),
-        ("a key with another's caret", named('^', "A#X"), odd_key, found),
+    let named = |four: &str, key: &str| {
+        format!("MSH|{four}|CAB|C1|REG|{key}|||VXU{caret}V04|M1|P|2.5.1\rPID\r", caret = &four[..1])
+    };
+    let found = |four: &str| {
+        format!(
+            "MSH|{four}|REG|A#X|CAB|C1|20250113120000+0000||ACK^V04^ACK|7|P|2.5.1|||NE|NE|||||Z23^CDCPHINVS\n\
+             MSA|AA|M1\n"
+        )
+    };
+    let rows: [(&str, String, String); 4] = [
+        ("nine bytes and a CR, other delimiters", "MSH!#$%'!\r".into(), "refused 6 0\n".into()),
+        ("a later MSH with another bar", "MSH!#$%'!CAB\rPID\rMSH|^~\\&|CAB\r".into(), "refused 5 17\n".into()),
+        ("the usual bar in a later segment", "MSH!#$%'!CAB\rPID|1\r".into(), "refused 5 13\n".into()),
+        ("MSH-6.1 with a caret", named("#~\\&", "AX^1"), "refused 9 0\n".into()),
     ];
-    rows.into_iter()
-        .map(|(name, message, book, expected)| sample(name, case(message.into_bytes(), book), expected))
+    let odd_rows: [(&str, String, String); 3] = [
+        ("a key with the own caret", named("#~\\&", "A#X"), "refused 9 0\n".into()),
+        ("a key with another's caret", named("^~\\&", "A#X"), found("^~\\&")),
+        // Only bars, tildes and carets cut.
+        ("a key with the own ampersand", named("^~\\#", "A#X"), found("^~\\#")),
+    ];
+    let rows = rows.into_iter().map(|row| (row, book_ax(&[])));
+    rows.chain(odd_rows.into_iter().map(|row| (row, odd_key.clone())))
+        .map(|((name, message, expected), book)| sample(name, case(message.into_bytes(), book), &expected))
         .collect()
 }
