@@ -1,7 +1,7 @@
 //! The answer: refusals in their order, or the ACK.
 
 use crate::book::{Book, Severity};
-use crate::cutting::{Fields, Message, Refusal};
+use crate::cutting::{Delimiters, Fields, Message, Refusal};
 use crate::findings::{self, Finding, Place};
 use crate::values;
 
@@ -45,7 +45,7 @@ fn write_answer(m: &[u8], book: &[u8], stamp: &[u8], control: u32, out: &mut [u8
         (false, true) => "AE",
         (false, false) => "AA",
     };
-    let mut output = Output { out, written: 0 };
+    let mut output = Output { out, written: 0, own: message.own };
     head.write(code, &mut output);
     for finding in &kept {
         write_err(finding, &mut output);
@@ -61,6 +61,8 @@ fn is_stamp(stamp: &[u8]) -> bool {
 /// What the ACK's layout is written to: the output, or a mere count of its bytes.
 trait Sink {
     fn bytes(&mut self, bytes: &[u8]);
+    /// A text in which a bar and a caret stand for the message's own.
+    fn layout(&mut self, text: &[u8]);
     fn number(&mut self, number: u32);
 }
 
@@ -71,6 +73,10 @@ impl Sink for Length {
         self.0 += bytes.len() as u64;
     }
 
+    fn layout(&mut self, text: &[u8]) {
+        self.bytes(text);
+    }
+
     fn number(&mut self, number: u32) {
         self.0 += u64::from(number.checked_ilog10().unwrap_or(0)) + 1;
     }
@@ -79,12 +85,25 @@ impl Sink for Length {
 struct Output<'o> {
     out: &'o mut [u8],
     written: usize,
+    own: Delimiters,
 }
 
 impl Sink for Output<'_> {
     fn bytes(&mut self, bytes: &[u8]) {
         self.out[self.written..self.written + bytes.len()].copy_from_slice(bytes);
         self.written += bytes.len();
+    }
+
+    fn layout(&mut self, text: &[u8]) {
+        let start = self.written;
+        self.bytes(text);
+        for b in &mut self.out[start..self.written] {
+            *b = match *b {
+                b'|' => self.own.bar,
+                b'^' => self.own.caret,
+                other => other,
+            };
+        }
     }
 
     fn number(&mut self, number: u32) {
@@ -113,19 +132,19 @@ struct Head<'a> {
 
 impl Head<'_> {
     fn write(&self, code: &str, sink: &mut impl Sink) {
-        sink.bytes(b"MSH|^~\\&|");
+        sink.bytes(self.message.beginning());
         for field in [5, 6, 3, 4] {
             sink.bytes(self.field(field));
-            sink.bytes(b"|");
+            sink.layout(b"|");
         }
         sink.bytes(self.stamp);
-        sink.bytes(b"||ACK^V04^ACK|");
+        sink.layout(b"||ACK^V04^ACK|");
         sink.number(self.control);
-        sink.bytes(b"|");
+        sink.layout(b"|");
         sink.bytes(self.field(11));
-        sink.bytes(b"|2.5.1|||NE|NE|||||Z23^CDCPHINVS\rMSA|");
+        sink.layout(b"|2.5.1|||NE|NE|||||Z23^CDCPHINVS\rMSA|");
         sink.bytes(code.as_bytes());
-        sink.bytes(b"|");
+        sink.layout(b"|");
         sink.bytes(self.field(10));
         sink.bytes(b"\r");
     }
@@ -136,7 +155,7 @@ impl Head<'_> {
 }
 
 fn write_err(finding: &Finding, sink: &mut impl Sink) {
-    sink.bytes(b"ERR||");
+    sink.layout(b"ERR||");
     match finding.place {
         Place::End => {}
         Place::Segment { name, number } => {
@@ -153,18 +172,18 @@ fn write_err(finding: &Finding, sink: &mut impl Sink) {
             }
         }
     }
-    sink.bytes(b"|");
+    sink.layout(b"|");
     sink.number(finding.code.into());
-    sink.bytes(b"^");
+    sink.layout(b"^");
     sink.bytes(findings::code_text(finding.code));
-    sink.bytes(b"^HL70357|");
+    sink.layout(b"^HL70357|");
     sink.bytes(finding.severity.letter());
-    sink.bytes(b"|");
+    sink.layout(b"|");
     sink.number(finding.rule.into());
-    sink.bytes(b"^^L\r");
+    sink.layout(b"^^L\r");
 }
 
 fn caret_number(number: u32, sink: &mut impl Sink) {
-    sink.bytes(b"^");
+    sink.layout(b"^");
     sink.number(number);
 }

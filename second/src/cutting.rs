@@ -4,7 +4,8 @@
 pub type Refusal = (u8, u64);
 
 pub const MESSAGE_LIMIT: usize = 32_768;
-pub const BEGINNING: &[u8] = b"MSH|^~\\&|";
+/// A message's first bytes: MSH, its five delimiters and the first of them again.
+pub const BEGINNING: usize = 9;
 
 /// A part of a message by its place in it; `end` is not included.
 #[derive(Clone, Copy, Debug, Default, PartialEq, Eq)]
@@ -24,10 +25,20 @@ impl Part {
     }
 }
 
+/// A message's own delimiters that cut, each called by the name of the usual one. The other two, for escape sequences
+/// and subcomponents, are ordinary characters to a reader.
+#[derive(Clone, Copy)]
+pub struct Delimiters {
+    pub bar: u8,
+    pub caret: u8,
+    pub tilde: u8,
+}
+
 /// A message that meets none of refusals 1 to 5.
 #[derive(Clone, Copy)]
 pub struct Message<'m> {
     bytes: &'m [u8],
+    pub own: Delimiters,
 }
 
 impl<'m> Message<'m> {
@@ -41,17 +52,23 @@ impl<'m> Message<'m> {
         if let Some(position) = first_foreign_byte(m) {
             return Err((3, position as u64));
         }
-        if !m.starts_with(BEGINNING) {
+        if row_4(m).contains(&false) {
             return Err((4, 0));
         }
+        let own = Delimiters { bar: m[3], caret: m[4], tilde: m[5] };
         let mut start = 0;
         while start < m.len() {
             match find(&m[start..], b'\r') {
-                Some(length) if well_formed(&m[start..start + length]) => start += length + 1,
+                Some(length) if well_formed(&m[start..start + length], own.bar) => start += length + 1,
                 _ => return Err((5, start as u64)),
             }
         }
-        Ok(Message { bytes: m })
+        Ok(Message { bytes: m, own })
+    }
+
+    /// The bytes up to MSH-3, with which the ACK begins too.
+    pub fn beginning(self) -> &'m [u8] {
+        &self.bytes[..BEGINNING]
     }
 
     /// The bytes of a part.
@@ -86,18 +103,18 @@ impl<'m> Message<'m> {
 
     /// Part 0 is the name.
     pub fn parts(self, segment: Part) -> Pieces<'m> {
-        self.cut(segment, b'|')
+        self.cut(segment, self.own.bar)
     }
 
     pub fn repetitions(self, field: Part) -> Pieces<'m> {
-        self.cut(field, b'~')
+        self.cut(field, self.own.tilde)
     }
 
     /// Component 0 is the whole repetition.
     pub fn component(self, repetition: Part, component: usize) -> Part {
         match component {
             0 => repetition,
-            k => self.cut(repetition, b'^').nth(k - 1).unwrap_or(repetition.missing()),
+            k => self.cut(repetition, self.own.caret).nth(k - 1).unwrap_or(repetition.missing()),
         }
     }
 }
@@ -105,6 +122,22 @@ impl<'m> Message<'m> {
 /// Refusals 1 to 5, or number 0 with detail 0.
 pub fn check(m: &[u8]) -> Refusal {
     Message::read(m).err().unwrap_or((0, 0))
+}
+
+/// Row 4 point by point: nine bytes, the name, five bytes that are allowed, that differ, and the first of them again.
+/// A shorter message lacks the first point alone.
+pub fn row_4(m: &[u8]) -> [bool; 5] {
+    let Some(nine) = m.first_chunk::<BEGINNING>() else {
+        return [false, true, true, true, true];
+    };
+    let five = &nine[3..8];
+    let allowed = five.iter().all(|b| may_delimit(*b));
+    let differ = (1..five.len()).all(|k| !five[..k].contains(&five[k]));
+    [true, nine.starts_with(b"MSH"), allowed, differ, nine[8] == nine[3]]
+}
+
+fn may_delimit(byte: u8) -> bool {
+    byte.is_ascii_graphic() && !byte.is_ascii_alphanumeric() && !matches!(byte, b'"' | b'.' | b'+' | b'-' | b'_')
 }
 
 /// The pieces between delimiters; there is always one more than delimiters.
@@ -176,11 +209,11 @@ fn first_foreign_byte(m: &[u8]) -> Option<usize> {
     rest.iter().position(foreign).map(|position| clean + position)
 }
 
-fn well_formed(segment: &[u8]) -> bool {
+fn well_formed(segment: &[u8], bar: u8) -> bool {
     segment.len() >= 3
         && segment[0].is_ascii_uppercase()
         && segment[1..3].iter().all(|b| b.is_ascii_uppercase() || b.is_ascii_digit())
-        && (segment.len() == 3 || segment[3] == b'|')
+        && (segment.len() == 3 || segment[3] == bar)
 }
 
 fn find(bytes: &[u8], wanted: u8) -> Option<usize> {
@@ -188,4 +221,47 @@ fn find(bytes: &[u8], wanted: u8) -> Option<usize> {
     let blocks = bytes.chunks_exact(16);
     let clear = blocks.take_while(|block| !block.iter().fold(false, |any, b| any | (*b == wanted))).count() * 16;
     bytes[clear..].iter().position(|b| *b == wanted).map(|position| clear + position)
+}
+
+#[cfg(test)]
+mod tests {
+    use super::*;
+    use crate::cases::ALLOWED;
+
+    /// Row 4's answer to a byte at a place of the five, where the others are sound.
+    fn takes(at: usize, byte: u8) -> bool {
+        let mut m = *b"MSH!#$%'!";
+        m[at] = byte;
+        m[8] = m[3];
+        !row_4(&m).contains(&false)
+    }
+
+    #[test]
+    fn bytes_that_may_delimit() {
+        for at in 3..8 {
+            for byte in 0..=255 {
+                // A byte that another one of the five has is the pair's fault.
+                let free = byte == b"!#$%'"[at - 3] || !b"!#$%'".contains(&byte);
+                assert_eq!(takes(at, byte), ALLOWED.contains(&byte) && free, "{byte} at {at}");
+            }
+        }
+    }
+
+    #[test]
+    fn each_point_of_row_4_can_fail_alone() {
+        let rows: [(&[u8], usize); 8] = [
+            (b"MSH|^~\\&", 0),
+            (b"", 0),
+            (b"MSG|^~\\&|", 1),
+            (b"msh|^~\\&|", 1),
+            (b"MSH|^~\\_|", 2),
+            (b"MSHX^~\\&X", 2),
+            (b"MSH|^~^&|", 3),
+            (b"MSH|^~\\&!", 4),
+        ];
+        for (m, point) in rows {
+            assert_eq!(row_4(m), std::array::from_fn(|k| k != point), "{}", m.escape_ascii());
+        }
+        assert_eq!(row_4(b"MSH|^~\\&|"), [true; 5]);
+    }
 }

@@ -1,5 +1,5 @@
-//! A second, independent program of 01: reads a VXU message, grades it by a section of a rule
-//! book and answers with an ACK.
+//! A second, independent program of 01 and of A1 in 02: reads a VXU message, grades it by a section
+//! of a rule book and answers with an ACK.
 
 pub mod ack;
 pub mod book;

@@ -106,8 +106,28 @@ mod tests {
     }
 
     #[test]
+    fn places_by_other_delimiters() {
+        // Segments start at 0 and 13. Bars, carets, tildes and ampersands are plain characters here.
+        let m = b"MSH!#$%'!A|B\rPID!x#y$^~#|&\r";
+        let rows: [([usize; 4], (usize, usize)); 9] = [
+            ([1, 1, 1, 1], (3, 1)),
+            ([1, 2, 1, 0], (4, 4)),
+            ([1, 3, 1, 0], (9, 3)),
+            ([2, 1, 1, 0], (17, 3)),
+            ([2, 1, 1, 2], (19, 1)),
+            ([2, 1, 2, 0], (21, 5)),
+            ([2, 1, 2, 1], (21, 2)),
+            ([2, 1, 2, 2], (24, 2)),
+            ([2, 1, 3, 1], (26, 0)),
+        ];
+        for (place, expected) in rows {
+            assert_eq!(locate(m, place), expected, "{place:?}");
+        }
+    }
+
+    #[test]
     fn refused_messages_have_no_places() {
-        for m in [b"".as_slice(), b"MSH|^~\\&|A|B", b"MSH|^~\\&|A\r\r", b"MSH|^~\\&|A\n\r"] {
+        for m in [b"".as_slice(), b"MSH|^~\\&|A|B", b"MSH|^~\\&|A\r\r", b"MSH|^~\\&|A\n\r", b"MSH|^~^&|A\r"] {
             assert_eq!(locate(m, [1, 1, 1, 0]), (0, 0));
         }
         // Refusal 6 does not matter to the locator.

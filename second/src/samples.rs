@@ -1,5 +1,7 @@
-//! The samples of 01, the boundaries of its refusals and the slips to shut out, as cases. What 01
-//! says of them is written here by hand and not worked out by this program.
+//! The samples of 01, the boundaries of its refusals and the slips to shut out, as cases, and those of the requests
+//! that have landed. What is to be said of them is written here by hand and not worked out by this program.
+
+mod delimiters;
 
 use crate::book::BOOK_LIMIT;
 use crate::books::{self, rule, RuleBytes, SectionPlan};
@@ -9,7 +11,7 @@ use crate::cutting::MESSAGE_LIMIT;
 pub struct Sample {
     pub name: String,
     pub case: Case,
-    /// What 01 wants printed.
+    /// What has to be printed.
     pub expected: String,
     /// What stands at the case's place, where that is written by hand too.
     pub located: Option<String>,
@@ -54,6 +56,11 @@ fn sample(name: &str, case: Case, expected: &str) -> Sample {
     Sample { name: name.into(), case, expected: expected.into(), located: None }
 }
 
+/// The sample with a place and what stands there.
+fn at(place: [u32; 4], text: &str, sample: Sample) -> Sample {
+    Sample { case: Case { place, ..sample.case }, located: Some(text.into()), ..sample }
+}
+
 /// The worked example's header, further segments, and what the ACK says after its own header.
 fn graded(name: &str, segments: &str, book: Vec<u8>, expected: &str) -> Sample {
     let message = lines(&format!("{HEADER}{segments}"));
@@ -77,6 +84,7 @@ pub fn samples() -> Vec<Sample> {
         sample.case.place = place;
     }
     all.extend(located());
+    all.extend(delimiters::samples());
     all
 }
 
@@ -345,7 +353,7 @@ fn message_refusals() -> Vec<Sample> {
         ("nine bytes", "MSH|^~\\&|".into(), refused(5, 0)),
         ("nine bytes and a CR", "MSH|^~\\&|\r".into(), refused(6, 0)),
         ("001's RSP", "MSH||NDIIS".into(), refused(4, 0)),
-        ("another escape character", "MSH|^~/&|CAB\r".into(), refused(4, 0)),
+        ("another escape character", "MSH|^~/&|CAB\r".into(), refused(6, 0)),
         ("CR in the first nine bytes", "MSH|^~\r\\&|".into(), refused(4, 0)),
         ("32,768 bytes", long(MESSAGE_LIMIT), answered("M1")),
         ("32,769 bytes", long(MESSAGE_LIMIT + 1), refused(2, 0)),
@@ -573,11 +581,6 @@ fn located() -> Vec<Sample> {
         ([2, 3, 1, 65_536], ""),
         ([u32::MAX; 4], ""),
     ];
-    let at = |place: [u32; 4], text: &str, sample: Sample| Sample {
-        case: Case { place, ..sample.case },
-        located: Some(text.into()),
-        ..sample
-    };
     let mut all = Vec::new();
     for (place, text) in rows {
         all.push(at(place, text, graded(&format!("place {place:?}"), segments, book_ax(&[]), &expected)));
@@ -586,7 +589,7 @@ fn located() -> Vec<Sample> {
     for (message, refusal, text) in [
         ("", "1 0", ""),
         ("MSH|^~\\&|\t\n", "3 9", ""),
-        ("MSH|^~/&|CAB\n", "4 0", ""),
+        ("MSH|^~~&|CAB\n", "4 0", ""),
         ("MSH|^~\\&|CAB", "5 0", ""),
         ("MSH|^~\\&|CAB\n", "6 0", "|"),
     ] {
@@ -604,15 +607,25 @@ fn located() -> Vec<Sample> {
 #[cfg(test)]
 mod tests {
     use super::*;
+    use crate::cases::ALLOWED;
 
     #[test]
-    fn every_sample_is_printed_and_located_as_01_says() {
+    fn every_sample_is_printed_and_located_as_written_by_hand() {
         for Sample { name, case, expected, located } in samples() {
             assert_eq!(String::from_utf8_lossy(&case.printed()), expected, "{name}");
             if let Some(text) = located {
                 assert_eq!(String::from_utf8_lossy(case.located()), text, "{name}");
             }
         }
+    }
+
+    #[test]
+    fn every_byte_that_may_delimit_does_so_in_an_answered_sample() {
+        let answered = samples().into_iter().filter(|sample| !sample.expected.starts_with("refused"));
+        let mut bytes: Vec<u8> = answered.flat_map(|sample| sample.case.message[3..8].to_vec()).collect();
+        bytes.sort();
+        bytes.dedup();
+        assert_eq!(bytes, ALLOWED);
     }
 
     #[test]

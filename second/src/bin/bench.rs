@@ -5,7 +5,7 @@
 mod ours;
 
 use second::samples::{self, STAMP};
-use second::{books, limits};
+use second::{books, cases, limits};
 use std::env;
 use std::hint::black_box;
 use std::io::Write;
@@ -119,9 +119,12 @@ fn reading() {
 
 fn inputs() -> Vec<Input> {
     let example = samples::worked_example().case;
+    let mut other = limits::doses(1);
+    cases::exchange(&mut other, b"!#$%'");
     vec![
         Input::new("example of 01", (example.message, example.book)),
         Input::new("one dose, 618 rules", (limits::doses(1), books::registries_book())),
+        Input::new("one dose, other delimiters", (other, books::registries_book())),
         Input::new("five doses, 618 rules", (limits::doses(5), books::registries_book())),
         Input::new("five doses, largest book", (limits::doses(5), books::largest_book())),
         Input::new("four-byte segments, no rule", limits::short_segments(32_768, 0)),

@@ -37,13 +37,13 @@ fn run() -> Result<(), String> {
     Ok(())
 }
 
-/// 01's samples, which have to be printed as written by hand, then the guides' messages and long ones.
+/// The samples, which have to be printed as written by hand, then the guides' messages and long ones.
 fn cases() -> Result<Vec<Case>, String> {
     let mut cases = Vec::new();
     for sample in samples::samples() {
         let printed = sample.case.printed() == sample.expected.as_bytes();
         if !printed || sample.located.is_some_and(|text| sample.case.located() != text.as_bytes()) {
-            return Err(format!("not printed as 01 says: {}", sample.name));
+            return Err(format!("not printed as written by hand: {}", sample.name));
         }
         cases.push(sample.case);
     }

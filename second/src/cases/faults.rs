@@ -1,6 +1,7 @@
 //! One fault for each refusal, put into a case that would be answered.
 
 use super::near;
+use super::places;
 use super::random::Random;
 use super::Case;
 use crate::book::BOOK_LIMIT;
@@ -47,25 +48,32 @@ fn foreign_byte(random: &mut Random, message: &mut Vec<u8>) {
     }
 }
 
+/// Breaks one of row 4's conditions, or more where a byte is missing or too many.
 fn other_beginning(random: &mut Random, message: &mut Vec<u8>) {
-    let at = random.below(9);
-    match random.below(5) {
-        0 => drop(message.remove(at % 8)),
-        1 => message.insert(at, random.letter(b" A\r")),
-        2 => message.truncate(at.max(1)),
-        // Other delimiters, as a later request may allow them.
-        3 => {
-            let at = random.between(3, 7);
-            message[at] = random.letter(b"#$%@!");
+    // Bytes beside those that may delimit, and what a careless test takes for one of them.
+    const FORBIDDEN: &[u8] = b" \"+-.09AZ_az\r";
+    match random.below(8) {
+        0 => message.truncate(random.between(1, 8)),
+        // Without byte 3 it would be sound where MSH-3 begins with a caret.
+        1 => drop(message.remove(random.pick(&[0, 1, 2, 4, 5, 6, 7]))),
+        2 => message.insert(random.below(9), random.letter(FORBIDDEN)),
+        3 => message[random.below(3)] = random.letter(b"msh/ A\r"),
+        4 => message[8] = random.letter(b"^~\\&#!A \r"),
+        5 => {
+            let at = random.between(4, 7);
+            message[at] = message[random.between(3, at - 1)];
         }
-        _ => message[at] = random.letter(b"msh/ A\r"),
+        _ => {
+            let at = random.between(3, 7);
+            message[at] = random.letter(FORBIDDEN);
+            // Byte 8 follows byte 3, so that the forbidden byte is the only fault.
+            message[8] = message[3];
+        }
     }
 }
 
 fn wrong_segment(random: &mut Random, message: &mut Vec<u8>) {
-    let starts: Vec<usize> =
-        message.iter().enumerate().filter(|(_, b)| **b == b'\r').map(|(position, _)| position + 1).collect();
-    let at = starts.get(random.below(starts.len().max(1))).copied().unwrap_or(message.len());
+    let at = places::segment_start(random, message);
     let wrong: [&[u8]; 14] = [
         b"\r",
         b"PI\r",

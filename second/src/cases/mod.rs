@@ -1,5 +1,6 @@
 //! Inputs of the relay: one case, and a generator of them that depends on a seed alone.
 
+mod delimiters;
 mod drafts;
 mod faults;
 mod large;
@@ -8,6 +9,7 @@ mod places;
 mod plans;
 mod random;
 
+pub use delimiters::{exchange, Five, ALLOWED};
 #[cfg(test)]
 pub(crate) use faults::FAULTY_RULES;
 pub use places::place;
@@ -54,7 +56,7 @@ impl Case {
 /// Two refusals, the earlier one first, whose conditions are both to be true.
 pub type Pair = (u8, u8);
 
-/// Cases by their index: 01's samples first, then each pair of refusals, each finding and each
+/// Cases by their index: the samples first, then each pair of refusals, each finding and each
 /// combination of header findings once, then random ones without end.
 pub struct Generator {
     seed: u64,
@@ -102,7 +104,7 @@ impl Generator {
     }
 
     fn random_case(&self, random: &mut Random) -> (Case, Option<Pair>) {
-        let case = match random.below(4096) {
+        let mut case = match random.below(4096) {
             0 if random.one_in(2) => large_message(random, true),
             0..16 => large_message(random, false),
             16..64 => large_book(random),
@@ -111,10 +113,8 @@ impl Generator {
                 return (paired(random, pair), Some(pair));
             }
             700..1000 => {
-                let mut case = answered(random);
                 let refusal = random.between(1, 11) as u8;
-                faults::put(random, &mut case, refusal);
-                return (case, None);
+                return (faulty(random, &[refusal]), None);
             }
             1000..1500 => {
                 let (message, book) = &self.guides[random.below(self.guides.len())];
@@ -138,6 +138,7 @@ impl Generator {
             }
             _ => structured(random),
         };
+        delimiters::vary(random, &mut case.message);
         (lend(random, case), None)
     }
 }
@@ -159,22 +160,35 @@ fn structured(random: &mut Random) -> Case {
     with_stamp(random, message, books::encode(&sections))
 }
 
-/// A case that has an ACK, with room for it.
-fn answered(random: &mut Random) -> Case {
+/// A case that has an ACK, with room for it, once its delimiters are exchanged for the five beside it.
+fn answered(random: &mut Random) -> (Case, Five) {
     loop {
         let mut case = structured(random);
-        if let Some(length) = case.ack_length() {
+        let five = delimiters::five(random);
+        if let Some(length) = exchanged(&case, &five).ack_length() {
             case.output_length = length as usize;
-            return case;
+            return (case, five);
         }
     }
 }
 
-fn paired(random: &mut Random, (earlier, later): Pair) -> Case {
-    let mut case = answered(random);
-    faults::put(random, &mut case, later);
-    faults::put(random, &mut case, earlier);
+fn exchanged(case: &Case, five: &Five) -> Case {
+    let mut case = case.clone();
+    exchange(&mut case.message, five);
     case
+}
+
+/// A case with faults, the last refusal's first, and its delimiters exchanged after them.
+fn faulty(random: &mut Random, refusals: &[u8]) -> Case {
+    let (mut case, five) = answered(random);
+    for refusal in refusals {
+        faults::put(random, &mut case, *refusal);
+    }
+    exchanged(&case, &five)
+}
+
+fn paired(random: &mut Random, (earlier, later): Pair) -> Case {
+    faulty(random, &[later, earlier])
 }
 
 /// One rule of a kind and severity on PID-3, and values for it until one breaks it.
@@ -295,10 +309,9 @@ mod tests {
     fn each_fault_gives_its_refusal() {
         for refusal in 1..=11 {
             for index in 0..200 {
-                let random = &mut Random::new(1, index);
-                let mut case = answered(random);
-                assert_eq!(number(&case), 0);
-                faults::put(random, &mut case, refusal);
+                let (case, five) = answered(&mut Random::new(1, index));
+                assert_eq!(number(&exchanged(&case, &five)), 0);
+                let case = faulty(&mut Random::new(1, index), &[refusal]);
                 assert_eq!(number(&case), refusal, "{case:?}");
             }
         }

@@ -3,8 +3,8 @@
 use super::random::Random;
 use crate::books::{RuleBytes, SectionPlan};
 
-const WORD: &[u8] = b"ABXYabxy019.-_!}\"";
-const FILLER: &[u8] = b"abcXYZ 019.&\\\"-+";
+const WORD: &[u8] = b"ABXYabxy019.-_!#}\"";
+const FILLER: &[u8] = b"abcXYZ 019.&\\\"-+#!$'";
 
 /// A value for the rule's component, good, bad, empty or odd.
 pub fn value(random: &mut Random, rule: &RuleBytes, section: &SectionPlan) -> Vec<u8> {

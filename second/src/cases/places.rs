@@ -27,3 +27,9 @@ fn number(random: &mut Random, length: usize) -> u32 {
     };
     number as u32
 }
+
+/// The start of a segment after the first, or the message's end.
+pub fn segment_start(random: &mut Random, message: &[u8]) -> usize {
+    let starts: Vec<usize> = (1..=message.len()).filter(|at| message[at - 1] == b'\r').collect();
+    starts.get(random.below(starts.len().max(1))).copied().unwrap_or(message.len())
+}

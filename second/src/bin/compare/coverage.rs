@@ -1,13 +1,23 @@
-//! What the cases hit: refusals and their pairs, findings, combinations of header findings and of severities.
+//! What the cases hit: refusals and their pairs, findings, combinations of header findings and of severities, and what
+//! other delimiters bring.
 
 use second::book::{Book, Kind, Rule};
 use second::cases::{Case, Pair};
-use second::cutting::{Message, Refusal};
+use second::cutting::{self, Message, Refusal};
 use second::findings::{self, Finding, Place};
 
 /// Longer ACKs are not graded once more to be counted.
 const LONGEST: u64 = 100_000;
+const USUAL: &[u8] = b"|^~\\&";
+/// Row 4's points, as `cutting::row_4` has them.
+const BEGINNINGS: [&str; 5] = ["fewer bytes", "another name", "a byte not allowed", "two equal", "byte 8"];
 const KINDS: [&str; 6] = ["101 REQUIRED", "102 LENGTH", "102 NUMBER", "102 DATE", "102 TIME", "103 CODE"];
+
+/// The bits of E and W, which make an AE.
+const GRAVE: usize = 0b011;
+
+/// What can be hit and how often it was.
+type Row = (String, u64);
 
 #[derive(Default)]
 pub struct Coverage {
@@ -20,6 +30,12 @@ pub struct Coverage {
     headers: [u64; 16],
     /// ACKs without header findings, by the severities that were found.
     severities: [u64; 8],
+    /// ACKs with other delimiters: AA, AE, AR.
+    verdicts: [u64; 3],
+    /// Messages that lack one point of row 4 alone.
+    beginnings: [u64; 5],
+    later_header: u64,
+    caret_in_key: u64,
 }
 
 impl Coverage {
@@ -32,45 +48,42 @@ impl Coverage {
                 self.pairs[usize::from(earlier)][usize::from(later)] += 1;
             }
         }
-        if matches!(number, 0 | 11) && detail < LONGEST {
-            let hits = Hits::of(case).unwrap_or_default();
-            self.order += u64::from(hits.order);
-            self.end += u64::from(hits.end);
-            self.headers[hits.header] += 1;
-            if number == 0 && hits.header == 0 {
-                self.severities[hits.severities] += 1;
+        match number {
+            0 | 11 if detail < LONGEST => self.count_findings(case, number == 0),
+            4 => {
+                let points = cutting::row_4(&case.message);
+                let lacking: Vec<usize> = (0..points.len()).filter(|k| !points[*k]).collect();
+                if let [alone] = lacking[..] {
+                    self.beginnings[alone] += 1;
+                }
             }
-            for (kind, severity) in (0..6).flat_map(|kind| (0..3).map(move |severity| (kind, severity))) {
-                self.rules[kind][severity] += u64::from(hits.rules[kind][severity]);
-            }
+            5 => self.later_header += u64::from(is_foreign_header(&case.message, detail as usize)),
+            9 => self.caret_in_key += u64::from(has_caret_in_key(&case.message)),
+            _ => {}
+        }
+    }
+
+    fn count_findings(&mut self, case: &Case, written: bool) {
+        let hits = Hits::of(case).unwrap_or_default();
+        self.order += u64::from(hits.order);
+        self.end += u64::from(hits.end);
+        self.headers[hits.header] += 1;
+        if written && hits.header == 0 {
+            self.severities[hits.severities] += 1;
+        }
+        if written && case.message[3..8] != *USUAL {
+            self.verdicts[hits.verdict()] += 1;
+        }
+        for (kind, severity) in (0..6).flat_map(|kind| (0..3).map(move |severity| (kind, severity))) {
+            self.rules[kind][severity] += u64::from(hits.rules[kind][severity]);
         }
     }
 
     /// Prints a line for each; says whether nothing was left out.
     pub fn print(&self) -> bool {
-        let mut rows: Vec<(String, u64)> = Vec::new();
-        for (number, count) in self.numbers.iter().enumerate() {
-            rows.push((if number == 0 { "answered".into() } else { format!("refusal {number}") }, *count));
-        }
-        rows.push(("finding 100 E order".into(), self.order));
-        rows.push(("finding 100 E end".into(), self.end));
-        for (kind, counts) in KINDS.iter().zip(self.rules) {
-            let (code, kind) = kind.split_at(3);
-            rows.extend(
-                "EWI".chars().zip(counts).map(|(letter, count)| (format!("finding {code} {letter}{kind}"), count)),
-            );
-        }
-        for code in 0..4 {
-            let count = (1..16).filter(|mask| mask & (1 << code) != 0).map(|mask| self.headers[mask]).sum();
-            rows.push((format!("finding {} E header", 200 + code), count));
-        }
-        for (mask, count) in self.headers.iter().enumerate() {
-            rows.push((format!("header findings {}", chosen(mask, &["200", "201", "202", "203"])), *count));
-        }
-        for (mask, count) in self.severities.iter().enumerate() {
-            let verdict = if mask & 0b011 == 0 { "AA" } else { "AE" };
-            rows.push((format!("{verdict} with findings {}", chosen(mask, &["E", "W", "I"])), *count));
-        }
+        let mut rows = self.answer_rows();
+        rows.extend(self.combination_rows());
+        rows.extend(self.delimiter_rows());
         for (label, count) in &rows {
             println!("{label}: {count}");
         }
@@ -87,6 +100,59 @@ impl Coverage {
         }
         left_out.is_empty() && pairs_left_out == 0
     }
+
+    fn answer_rows(&self) -> Vec<Row> {
+        let mut rows = Vec::new();
+        for (number, count) in self.numbers.iter().enumerate() {
+            rows.push((if number == 0 { "answered".into() } else { format!("refusal {number}") }, *count));
+        }
+        rows.push(("finding 100 E order".into(), self.order));
+        rows.push(("finding 100 E end".into(), self.end));
+        for (kind, counts) in KINDS.iter().zip(self.rules) {
+            let (code, kind) = kind.split_at(3);
+            rows.extend(
+                "EWI".chars().zip(counts).map(|(letter, count)| (format!("finding {code} {letter}{kind}"), count)),
+            );
+        }
+        for code in 0..4 {
+            let count = (1..16).filter(|mask| mask & (1 << code) != 0).map(|mask| self.headers[mask]).sum();
+            rows.push((format!("finding {} E header", 200 + code), count));
+        }
+        rows
+    }
+
+    fn combination_rows(&self) -> Vec<Row> {
+        let mut rows = Vec::new();
+        for (mask, count) in self.headers.iter().enumerate() {
+            rows.push((format!("header findings {}", chosen(mask, &["200", "201", "202", "203"])), *count));
+        }
+        for (mask, count) in self.severities.iter().enumerate() {
+            let verdict = if mask & GRAVE == 0 { "AA" } else { "AE" };
+            rows.push((format!("{verdict} with findings {}", chosen(mask, &["E", "W", "I"])), *count));
+        }
+        rows
+    }
+
+    fn delimiter_rows(&self) -> Vec<Row> {
+        let verdicts = ["AA", "AE", "AR"].iter().zip(self.verdicts);
+        let mut rows: Vec<Row> =
+            verdicts.map(|(verdict, count)| (format!("other delimiters, {verdict}"), count)).collect();
+        let beginnings = BEGINNINGS.iter().zip(self.beginnings);
+        rows.extend(beginnings.map(|(point, count)| (format!("refusal 4 for {point} alone"), count)));
+        rows.push(("refusal 5 for a later MSH with another bar".into(), self.later_header));
+        rows.push(("refusal 9 for a caret in MSH-6.1".into(), self.caret_in_key));
+        rows
+    }
+}
+
+/// Whether a segment is a sound MSH in itself, but with another bar than the message's.
+fn is_foreign_header(m: &[u8], start: usize) -> bool {
+    cutting::row_4(&m[start..]) == [true; 5] && m[start + 3] != m[3]
+}
+
+/// Whether MSH-6.1 holds a caret, which it can where another byte cuts components.
+fn has_caret_in_key(m: &[u8]) -> bool {
+    Message::read(m).is_ok_and(|message| findings::first_value(message, &message.header(), 6, 1).contains(&b'^'))
 }
 
 /// The names whose bits are set.
@@ -121,6 +187,15 @@ impl Hits {
         let mut hits = Hits::default();
         findings::grade(message, &header, &section, |finding| hits.add(&rules, finding));
         Ok(hits)
+    }
+
+    /// The index of AA, AE or AR.
+    fn verdict(&self) -> usize {
+        match (self.header, self.severities & GRAVE) {
+            (0, 0) => 0,
+            (0, _) => 1,
+            _ => 2,
+        }
     }
 
     fn add(&mut self, rules: &[Rule], finding: Finding) {
