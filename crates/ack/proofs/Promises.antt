@@ -14,12 +14,15 @@ use lib.ListN.{length, getD, take, drop, length-append, length-drop}
 use lib.Seq.{split-at, take-at, drop-at, take-all}
 use borrow.Author.Tests.{ne-eqb, eqb-true, leb-true, ltb-false, not-false}
 use Rattle.hl7.specs.Text.{bytes}
-use Rattle.hl7.specs.Bytes.{all, isIn}
+use Rattle.hl7.specs.Bytes.{isDigit, isIn, distinct, all, differs}
 use Rattle.hl7.specs.Place.{carriageReturn, delimsOf, nthOf, cutUnless, segmentsOf, place}
+use Rattle.hl7.specs.Delimiters.{mayDelimit, fiveOf, opens}
+use Rattle.hl7.specs.declared.place.Delims.{Delims}
 use Rattle.hl7.specs.Refusals.{messageLimit, Told, told, firstRow, numbersOf, apart, holdsAt, First, messageRows, formRows}
 use Rattle.hl7.proofs.Comparing.{and-both, all-append}
 use Rattle.hl7.proofs.Cutting.{part-short}
-use Rattle.grade.specs.Digits.{isDigit, isSign, digitRun}
+use Rattle.hl7.proofs.Delimiting.{Delimiting, plain-without, delimiters-without, delimiter-at, opens-delimiting}
+use Rattle.grade.specs.Digits.{isSign, digitRun}
 use Rattle.grade.specs.Values.{isStamp}
 use Rattle.grade.specs.Rule.{severityLetter}
 use Rattle.grade.specs.Strict.{keep}
@@ -43,7 +46,7 @@ use Rattle.ack.proofs.Sizes.{ack-short}
 use Rattle.ack.proofs.Admitting.{stamp-length, admitted-short, admitted-few}
 use Rattle.ack.proofs.Listing.{has-none, graded-plain, header-verdict}
 use Rattle.ack.proofs.Answering.{number-is, refused-is, written-is as ack-is, table-exactly, table-none, write-stamp, write-right, answer-admitted, answer-stopped}
-use Rattle.ack.proofs.Reading.{isNot, clean, Fine, Apart, part-without, ack-segments, ar-exactly, ae-exactly, aa-exactly}
+use Rattle.ack.proofs.Reading.{clean, Fine, Apart, part-without, ack-delims, ack-segments, ar-exactly, ae-exactly, aa-exactly}
 
 -- ---- what is listed
 -- a severity is a letter
@@ -110,15 +113,15 @@ module _ (m b : List ℕ) where
       of false = λ e. absurd (true≢false (sym e ∙ graded-plain mayFollow (sectionFor m b .rules) (sectionFor m b .sets) m))
 
 -- ---- the stamp has no CR
-digit-fine : (x : ℕ) → isDigit x ≡ true → isNot carriageReturn x ≡ true
+digit-fine : (x : ℕ) → isDigit x ≡ true → differs carriageReturn x ≡ true
 digit-fine x e =
     let low = leb-true 48 x (and-both _ _ e .0) in
     rw (ne-eqb x carriageReturn (λ z. omega (arith, z, low)))
 
-sign-fine : (x : ℕ) → isSign x ≡ true → isNot carriageReturn x ≡ true
+sign-fine : (x : ℕ) → isSign x ≡ true → differs carriageReturn x ≡ true
 sign-fine x e = of (eqb x 43) (eqb x 45) refl refl e
   where
-    of : (plus minus : Bool) → eqb x 43 ≡ plus → eqb x 45 ≡ minus → (plus || minus) ≡ true → isNot carriageReturn x ≡ true
+    of : (plus minus : Bool) → eqb x 43 ≡ plus → eqb x 45 ≡ minus → (plus || minus) ≡ true → differs carriageReturn x ≡ true
     of true minus p q e = rw (ne-eqb x carriageReturn (λ z. omega (arith, z, eqb-true x 43 p)))
     of false true p q e = rw (ne-eqb x carriageReturn (λ z. omega (arith, z, eqb-true x 45 q)))
     of false false p q e = absurd (true≢false (sym e))
@@ -142,7 +145,7 @@ stamp-clean v e =
     let time : clean (take 14 v) = rw (eqb-true (digitRun v) 14 (time-ends .1)) at (run-clean v) in
     let zone-run : clean (take 4 (drop 15 v)) = rw (eqb-true (digitRun (drop 15 v)) 4 (zone-ends .1)) at (run-clean (drop 15 v)) in
     let zone : clean (drop 15 v) = subst clean (take-all 4 (drop 15 v) (omega (arith, length-drop 15 v))) zone-run in
-    subst clean (sym (split-at v 14 0 (omega arith))) (all-append (isNot carriageReturn) (take 14 v) (getD v 14 0 ∷ drop 15 v) time (rw (sign-fine (getD v 14 0) (signed .1)) zone))
+    subst clean (sym (split-at v 14 0 (omega arith))) (all-append (differs carriageReturn) (take 14 v) (getD v 14 0 ∷ drop 15 v) time (rw (sign-fine (getD v 14 0) (signed .1)) zone))
 
 -- ---- which result
 module _ (m b stamp : List ℕ) (control : ℕ) (out : List ℕ) where
@@ -152,7 +155,7 @@ module _ (m b stamp : List ℕ) (control : ℕ) (out : List ℕ) where
   rows-numbers = refl
 
   rows-apart : apart (numbersOf (answerRows m b stamp control out)) ≡ true
-  unfolding apart isIn
+  unfolding distinct isIn
   rows-apart = rw rows-numbers
 
   -- the number is k + 1 exactly when row k, from 0, is the first of the eleven to hold
@@ -175,13 +178,15 @@ module _ (m b stamp : List ℕ) (control : ℕ) (out : List ℕ) where
   refusal-alters-nothing some = ap (λ (o : Outcome). o .output) (refused-is (firstRow (answerRows m b stamp control out)) (ackFor m b stamp control) out (λ e. some (first-number ∙ e)))
 
 -- ---- what was written
-fine-own : (m : List ℕ) → Fine (delimsOf m)
-unfolding delimsOf all
-fine-own m = refl
+-- a CR and the letters of MSA and MSA-1 are plain
+fine-by : {d : Delims} → Delimiting d → Fine d
+unfolding mayDelimit isIn
+fine-by {d} own = delimiters-without carriageReturn (fiveOf d) refl (own .each)
 
-apart-own : (m : List ℕ) → Apart (delimsOf m)
-unfolding delimsOf all
-apart-own m = (refl, refl)
+apart-by : {d : Delims} → Delimiting d → Apart d
+unfolding mayDelimit isIn all
+apart-by {d} own =
+    (plain-without (d .bar) (bytes "MSAER") (delimiter-at own 0 (omega arith)) refl, plain-without (d .tilde) (bytes "MSAER") (delimiter-at own 2 (omega arith)) refl)
 
 msh-clean : (m : List ℕ) → clean (mshOf m)
 unfolding nthOf cutUnless
@@ -195,6 +200,11 @@ module _ (m b stamp : List ℕ) (control : ℕ) (out : List ℕ) (answered : ans
   stamp-right : isStamp stamp ≡ true
   unfolding admitRows messageRows formRows bookRows
   stamp-right = not-false (isStamp stamp) (answered-exactly m b stamp control out .0 answered 9)
+
+  -- row 4 does not hold
+  own-delimiting : Delimiting (delimsOf m)
+  unfolding admitRows messageRows formRows bookRows
+  own-delimiting = opens-delimiting (bytes "MSH") m (not-false (opens (bytes "MSH") m) (answered-exactly m b stamp control out .0 answered 3))
 
   whole : answerOf m b stamp control out ≡ outcome (told 0 (length (ackFor m b stamp control))) (ackFor m b stamp control ++ drop (length (ackFor m b stamp control)) out)
   unfolding answerOf
@@ -210,27 +220,31 @@ module _ (m b stamp : List ℕ) (control : ℕ) (out : List ℕ) (answered : ans
       let fits = ltb-false (length out) (length (ackFor m b stamp control)) (answered-exactly m b stamp control out .0 answered 10) in
       rw whole (simp (length-append, length-drop) (omega arith))
 
+  -- it has the message's own delimiters
+  pub written-delims : delimsOf (writtenOf (answerOf m b stamp control out)) ≡ delimsOf m
+  written-delims = ap delimsOf (written-is .0) ∙ ack-delims (delimsOf m) (mshOf m) stamp control (findingsFor m b)
+
   -- its segments are MSH, MSA and one ERR for each finding, in order
   pub written-segments : segmentsOf (writtenOf (answerOf m b stamp control out)) ≡ ackLines (delimsOf m) (mshOf m) stamp control (findingsFor m b)
   written-segments =
       ap segmentsOf (written-is .0)
-      ∙ ack-segments (delimsOf m) (fine-own m) (mshOf m) stamp control (findingsFor m b) (msh-clean m) (stamp-clean stamp stamp-right) (listed-letters m b)
+      ∙ ack-segments (delimsOf m) (fine-by own-delimiting) (mshOf m) stamp control (findingsFor m b) (msh-clean m) (stamp-clean stamp stamp-right) (listed-letters m b)
 
   -- MSA-1, read as the first field of the second segment
   pub written-aa : (place (delimsOf m) (writtenOf (answerOf m b stamp control out)) 2 1 1 0 .bytes ≡ bytes "AA") ↔ (has isFault (findingsFor m b) ≡ false)
   written-aa =
       rw (written-is .0)
-      (aa-exactly (delimsOf m) (fine-own m) (apart-own m) (mshOf m) stamp control (findingsFor m b) (msh-clean m) (stamp-clean stamp stamp-right) (listed-letters m b) (listed-errors m b))
+      (aa-exactly (delimsOf m) (fine-by own-delimiting) (apart-by own-delimiting) (mshOf m) stamp control (findingsFor m b) (msh-clean m) (stamp-clean stamp stamp-right) (listed-letters m b) (listed-errors m b))
 
   pub written-ar : (place (delimsOf m) (writtenOf (answerOf m b stamp control out)) 2 1 1 0 .bytes ≡ bytes "AR") ↔ (has isHeader (findingsFor m b) ≡ true)
   written-ar =
       rw (written-is .0)
-      (ar-exactly (delimsOf m) (fine-own m) (apart-own m) (mshOf m) stamp control (findingsFor m b) (msh-clean m) (stamp-clean stamp stamp-right) (listed-letters m b))
+      (ar-exactly (delimsOf m) (fine-by own-delimiting) (apart-by own-delimiting) (mshOf m) stamp control (findingsFor m b) (msh-clean m) (stamp-clean stamp stamp-right) (listed-letters m b))
 
   pub written-ae : (place (delimsOf m) (writtenOf (answerOf m b stamp control out)) 2 1 1 0 .bytes ≡ bytes "AE") ↔ ((has isHeader (findingsFor m b) ≡ false) × (has isFault (findingsFor m b) ≡ true))
   written-ae =
       rw (written-is .0)
-      (ae-exactly (delimsOf m) (fine-own m) (apart-own m) (mshOf m) stamp control (findingsFor m b) (msh-clean m) (stamp-clean stamp stamp-right) (listed-letters m b))
+      (ae-exactly (delimsOf m) (fine-by own-delimiting) (apart-by own-delimiting) (mshOf m) stamp control (findingsFor m b) (msh-clean m) (stamp-clean stamp stamp-right) (listed-letters m b))
 
   -- where a header check fails, the ACK is MSH, MSA with AR, and one ERR for each check that fails, in order
   pub refused-header : anyWrong (headerOf (delimsOf m) (mshOf m)) ≡ true

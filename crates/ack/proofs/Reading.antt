@@ -11,9 +11,10 @@ use lib.Dec.{eqb, ltb}
 use lib.ListN.{length, getD, take, drop}
 use borrow.Author.Tests.{ne-eqb, eqb-false, not-true}
 use Rattle.hl7.specs.Text.{bytes}
-use Rattle.hl7.specs.Bytes.{all, begins}
+use Rattle.hl7.specs.Bytes.{all, differs, begins}
 use Rattle.hl7.specs.Cut.{ahead, cut, partAt, butLast}
-use Rattle.hl7.specs.Place.{carriageReturn, segmentsOf, nthOf, cutUnless, partOfField, isMsh, neverCut, fieldOf, componentOf, inField, inSegment, place}
+use Rattle.hl7.specs.Place.{delimsOf, carriageReturn, segmentsOf, nthOf, cutUnless, partOfField, isMsh, neverCut, fieldOf, componentOf, inField, inSegment, place}
+use Rattle.hl7.specs.Delimiters.{fiveOf}
 use Rattle.hl7.specs.declared.place.Delims.{Delims}
 use Rattle.hl7.proofs.Comparing.{and-both, all-append, all-take, all-drop}
 use Rattle.hl7.proofs.Cutting.{cut-delimiter, cut-other}
@@ -25,13 +26,9 @@ use Rattle.ack.specs.Layout.{ownByte, own, marked, joined, copied, mshLi
 use Rattle.grade.proofs.Naming.{at-counted, no-name}
 
 -- ---- parts that hold no mark
--- x is not the mark
-abbrev pub isNot : ℕ → ℕ → Bool
-isNot mark x = not (eqb x mark)
-
 -- the mark is not among the bytes
 abbrev pub without : ℕ → List ℕ → Type 0
-without mark s = all (isNot mark) s ≡ true
+without mark s = all (differs mark) s ≡ true
 
 abbrev pub Each : (List ℕ → Type 0) → List (List ℕ) → Type 0
 Each P [] = Unit {0}
@@ -46,7 +43,7 @@ cut-ended : (mark : ℕ) (s rest : List ℕ) → without mark s → cut mark (s 
 unfolding all
 cut-ended mark [] rest e = cut-delimiter mark mark rest refl
 cut-ended mark (x ∷ s) rest e =
-    let both = and-both (isNot mark x) (all (isNot mark) s) e in
+    let both = and-both (differs mark x) (all (differs mark) s) e in
     cut-other mark x (s ++ (mark ∷ rest)) (eqb-false x mark (not-true (eqb x mark) (both .0))) ∙ rw (cut-ended mark s rest (both .1))
 
 -- what has no mark is not cut
@@ -54,7 +51,7 @@ cut-whole : (mark : ℕ) (s : List ℕ) → without mark s → cut mark s ≡ s 
 unfolding all cut
 cut-whole mark [] e = refl
 cut-whole mark (x ∷ s) e =
-    let both = and-both (isNot mark x) (all (isNot mark) s) e in
+    let both = and-both (differs mark x) (all (differs mark) s) e in
     cut-other mark x s (eqb-false x mark (not-true (eqb x mark) (both .0))) ∙ rw (cut-whole mark s (both .1))
 
 -- no part of a cut holds the mark
@@ -95,7 +92,7 @@ but-last (p ∷ (q ∷ lines)) = ap (λ (ps : List (List ℕ)). p ∷ ps) (but-l
 abbrev pub clean : List ℕ → Type 0
 clean s = without carriageReturn s
 
-letter-clean : (header fault : Bool) → isNot carriageReturn (letter header fault) ≡ true
+letter-clean : (header fault : Bool) → differs carriageReturn (letter header fault) ≡ true
 letter-clean true fault = refl
 letter-clean false true = refl
 letter-clean false false = refl
@@ -105,7 +102,7 @@ or-false true u e = absurd (true≢false e)
 or-false false u e = (refl, e)
 
 part-clean : (n from : ℕ) (s : List ℕ) → clean s → clean (take n (drop from s))
-part-clean n from s e = all-take (isNot carriageReturn) n (drop from s) (all-drop (isNot carriageReturn) from s e)
+part-clean n from s e = all-take (differs carriageReturn) n (drop from s) (all-drop (differs carriageReturn) from s e)
 
 cond-clean : (b : Bool) (s t : List ℕ) → clean s → clean t → clean (cond b s t)
 cond-clean true s t e f = e
@@ -113,17 +110,17 @@ cond-clean false s t e f = f
 
 -- none of the five delimiters is a CR
 abbrev pub Fine : Delims → Type 0
-Fine d = clean (d .bar ∷ d .caret ∷ d .tilde ∷ d .backslash ∷ d .ampersand ∷ [])
+Fine d = clean (fiveOf d)
 
-marked-clean : (mark : ℕ) (parts : List (List ℕ)) → isNot carriageReturn mark ≡ true → Each clean parts → clean (marked mark parts)
+marked-clean : (mark : ℕ) (parts : List (List ℕ)) → differs carriageReturn mark ≡ true → Each clean parts → clean (marked mark parts)
 unfolding marked all
 marked-clean mark [] h e = refl
-marked-clean mark (p ∷ ps) h e = rw h (all-append (isNot carriageReturn) p (marked mark ps) (e .0) (marked-clean mark ps h (e .1)))
+marked-clean mark (p ∷ ps) h e = rw h (all-append (differs carriageReturn) p (marked mark ps) (e .0) (marked-clean mark ps h (e .1)))
 
-joined-clean : (mark : ℕ) (parts : List (List ℕ)) → isNot carriageReturn mark ≡ true → Each clean parts → clean (joined mark parts)
+joined-clean : (mark : ℕ) (parts : List (List ℕ)) → differs carriageReturn mark ≡ true → Each clean parts → clean (joined mark parts)
 unfolding joined all
 joined-clean mark [] h e = refl
-joined-clean mark (p ∷ ps) h e = all-append (isNot carriageReturn) p (marked mark ps) (e .0) (marked-clean mark ps h (e .1))
+joined-clean mark (p ∷ ps) h e = all-append (differs carriageReturn) p (marked mark ps) (e .0) (marked-clean mark ps h (e .1))
 
 -- a digit
 digit-clean : (n : ℕ) → clean (digit n ∷ [])
@@ -138,14 +135,14 @@ decimal-clean n = of 20 n
     of zero n = refl
     of (suc k) n =
         cond-clean (ltb n 10) (digit n ∷ []) (lastDigits k (n / 10) ++ (digit (n % 10) ∷ [])) (digit-clean n)
-        (all-append (isNot carriageReturn) (lastDigits k (n / 10)) (digit (n % 10) ∷ []) (of k (n / 10)) (digit-clean (n % 10)))
+        (all-append (differs carriageReturn) (lastDigits k (n / 10)) (digit (n % 10) ∷ []) (of k (n / 10)) (digit-clean (n % 10)))
 
 name-clean : (n : ℕ) → clean (nameBytes n)
 unfolding all nameBytes segmentNames
 name-clean n = by (counted n) refl
   where
     by : (t : Bool) → counted n ≡ t → clean (nameBytes n)
-    by true e = at-counted (λ (k : ℕ). all (isNot carriageReturn) (nameBytes k)) refl n e
+    by true e = at-counted (λ (k : ℕ). all (differs carriageReturn) (nameBytes k)) refl n e
     by false e = rw (no-name n e)
 
 -- a field is a part of its segment
@@ -160,17 +157,17 @@ own-clean : (d : Delims) → Fine d → (text : List ℕ) → clean text → cle
 unfolding ownByte all
 own-clean d fine text e = of text e
   where
-    pass : (b : Bool) (x y : ℕ) → isNot carriageReturn x ≡ true → isNot carriageReturn y ≡ true → isNot carriageReturn (cond b x y) ≡ true
+    pass : (b : Bool) (x y : ℕ) → differs carriageReturn x ≡ true → differs carriageReturn y ≡ true → differs carriageReturn (cond b x y) ≡ true
     pass true x y e f = e
     pass false x y e f = f
 
-    byte : (x : ℕ) → isNot carriageReturn x ≡ true → isNot carriageReturn (ownByte d x) ≡ true
+    byte : (x : ℕ) → differs carriageReturn x ≡ true → differs carriageReturn (ownByte d x) ≡ true
     byte x h =
-        let after-bar = and-both (isNot carriageReturn (d .bar)) _ fine in
-        let after-caret = and-both (isNot carriageReturn (d .caret)) _ (after-bar .1) in
-        let after-tilde = and-both (isNot carriageReturn (d .tilde)) _ (after-caret .1) in
-        let after-backslash = and-both (isNot carriageReturn (d .backslash)) _ (after-tilde .1) in
-        let after-ampersand = and-both (isNot carriageReturn (d .ampersand)) _ (after-backslash .1) in
+        let after-bar = and-both (differs carriageReturn (d .bar)) _ fine in
+        let after-caret = and-both (differs carriageReturn (d .caret)) _ (after-bar .1) in
+        let after-tilde = and-both (differs carriageReturn (d .tilde)) _ (after-caret .1) in
+        let after-backslash = and-both (differs carriageReturn (d .backslash)) _ (after-tilde .1) in
+        let after-ampersand = and-both (differs carriageReturn (d .ampersand)) _ (after-backslash .1) in
         pass (eqb x 124) _ _ (after-bar .0)
         (pass (eqb x 94) _ _ (after-caret .0)
         (pass (eqb x 126) _ _ (after-tilde .0) (pass (eqb x 92) _ _ (after-backslash .0) (pass (eqb x 38) _ _ (after-ampersand .0) h))))
@@ -178,18 +175,18 @@ own-clean d fine text e = of text e
     of : (text : List ℕ) → clean text → clean (own d text)
     of [] e = refl
     of (x ∷ text) e =
-        let both = and-both (isNot carriageReturn x) (all (isNot carriageReturn) text) e in
+        let both = and-both (differs carriageReturn x) (all (differs carriageReturn) text) e in
         rw (byte x (both .0)) (of text (both .1))
 
 -- ---- the lines
 module _ (d : Delims) (fine : Fine d) where
-  bar-clean : isNot carriageReturn (d .bar) ≡ true
+  bar-clean : differs carriageReturn (d .bar) ≡ true
   unfolding all
-  bar-clean = and-both (isNot carriageReturn (d .bar)) _ fine .0
+  bar-clean = and-both (differs carriageReturn (d .bar)) _ fine .0
 
-  caret-clean : isNot carriageReturn (d .caret) ≡ true
+  caret-clean : differs carriageReturn (d .caret) ≡ true
   unfolding all
-  caret-clean = and-both (isNot carriageReturn (d .caret)) _ (and-both (isNot carriageReturn (d .bar)) _ fine .1) .0
+  caret-clean = and-both (differs carriageReturn (d .caret)) _ (and-both (differs carriageReturn (d .bar)) _ fine .1) .0
 
   msh-clean : (msh stamp : List ℕ) (control : ℕ) → clean msh → clean stamp → clean (mshLine d msh stamp control)
   unfolding mshLine all
@@ -210,7 +207,7 @@ module _ (d : Delims) (fine : Fine d) where
       also own-clean d fine (bytes "Z23^CDCPHINVS") refl
       also tt)
 
-  msa-clean : (msh : List ℕ) (second : ℕ) → clean msh → isNot carriageReturn second ≡ true → clean (msaLine d msh second)
+  msa-clean : (msh : List ℕ) (second : ℕ) → clean msh → differs carriageReturn second ≡ true → clean (msaLine d msh second)
   unfolding msaLine all
   msa-clean msh second h s = joined-clean (d .bar) _ bar-clean (refl, (rw s, (copied-clean d msh 10 h, tt)))
 
@@ -245,7 +242,7 @@ module _ (d : Delims) (fine : Fine d) where
       also joined-clean (d .caret) _ caret-clean (place-clean f)
       also own-clean d fine (codeText (f .code)) (code-clean (f .code))
       also (rw s)
-      also all-append (isNot carriageReturn) (decimal (f .rule)) (own d (bytes "^^L")) (decimal-clean (f .rule)) (own-clean d fine (bytes "^^L") refl)
+      also all-append (differs carriageReturn) (decimal (f .rule)) (own d (bytes "^^L")) (decimal-clean (f .rule)) (own-clean d fine (bytes "^^L") refl)
       also tt)
 
   errs-clean : (findings : List Finding) → has (λ f. eqb (f .severity) carriageReturn) findings ≡ false → Each clean (map (errLine d) findings)
@@ -268,6 +265,12 @@ module _ (d : Delims) (fine : Fine d) where
     pub ack-segments : segmentsOf (ackBytes d msh stamp control findings) ≡ ackLines d msh stamp control findings
     ack-segments = ap butLast ack-cut ∙ but-last (ackLines d msh stamp control findings)
 
+-- ---- MSH-1 and MSH-2
+-- the ACK begins with the delimiters that it is written with
+pub ack-delims : (d : Delims) (msh stamp : List ℕ) (control : ℕ) (findings : List Finding) → delimsOf (ackBytes d msh stamp control findings) ≡ d
+unfolding delimsOf ackBytes flatMap mshLine joined marked ownByte
+ack-delims d msh stamp control findings = refl
+
 -- ---- MSA-1
 -- the letters of MSA and MSA-1 are neither bar nor tilde
 abbrev pub Apart : Delims → Type 0
@@ -279,19 +282,19 @@ msa1Of second = code "A" ∷ second ∷ []
 letters-without : (mark : ℕ) (header fault : Bool) → without mark (bytes "MSAER") → without mark (msa1Of (letter header fault))
 unfolding all
 letters-without mark header fault e =
-    let m = and-both (isNot mark (code "M")) _ e in
-    let s = and-both (isNot mark (code "S")) _ (m .1) in
-    let a = and-both (isNot mark (code "A")) _ (s .1) in
-    let l = and-both (isNot mark (code "E")) _ (a .1) in
-    rw (a .0) (of header fault (a .0) (l .0) (and-both (isNot mark (code "R")) _ (l .1) .0))
+    let m = and-both (differs mark (code "M")) _ e in
+    let s = and-both (differs mark (code "S")) _ (m .1) in
+    let a = and-both (differs mark (code "A")) _ (s .1) in
+    let l = and-both (differs mark (code "E")) _ (a .1) in
+    rw (a .0) (of header fault (a .0) (l .0) (and-both (differs mark (code "R")) _ (l .1) .0))
   where
-    of : (header fault : Bool) → isNot mark (code "A") ≡ true → isNot mark (code "E") ≡ true → isNot mark (code "R") ≡ true → (isNot mark (letter header fault) && true) ≡ true
+    of : (header fault : Bool) → differs mark (code "A") ≡ true → differs mark (code "E") ≡ true → differs mark (code "R") ≡ true → (differs mark (letter header fault) && true) ≡ true
     of true fault a e r = rw r
     of false true a e r = rw e
     of false false a e r = rw a
 
 name-without : (mark : ℕ) → without mark (bytes "MSAER") → without mark (bytes "MSA")
-name-without mark e = all-take (isNot mark) 3 (bytes "MSAER") e
+name-without mark e = all-take (differs mark) 3 (bytes "MSAER") e
 
 -- field 1, repetition 1 of MSA, as a reader finds it
 msa1-read : (d : Delims) → Apart d → (msh : List ℕ) (header fault : Bool) → inSegment d (msaLine d msh (letter header fault)) 1 1 0 .bytes ≡ msa1Of (letter header fault)

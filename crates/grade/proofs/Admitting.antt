@@ -9,7 +9,7 @@ use mathlib.Core.List.{List}
 use lib.Dec.{eqb}
 use lib.ListN.{getD}
 use borrow.Author.Tests.{eqb-true, eqb-false}
-use Rattle.hl7.specs.Bytes.{isIn}
+use Rattle.hl7.specs.Bytes.{isIn, distinct}
 use Rattle.hl7.specs.Place.{delimsOf}
 use Rattle.hl7.specs.Refusals.{messageLimit, Told, told, Row, firstRow, numbersOf, apart, First, messageRows, formRows, readingTold, readingOf, isSound}
 use Rattle.hl7.specs.declared.place.Delims.{Delims}
@@ -73,7 +73,7 @@ module _ (m b : List ℕ) where
 
 -- ---- exactly when
 pub admit-apart : (m b : List ℕ) → apart (numbersOf (admitRows m b)) ≡ true
-unfolding admitRows messageRows formRows bookRows numbersOf apart isIn
+unfolding admitRows messageRows formRows bookRows numbersOf distinct isIn
 admit-apart m b = refl
 
 -- the number is k + 1 exactly when row k, from 0, is the first of the nine to hold

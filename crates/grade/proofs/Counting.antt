@@ -7,9 +7,9 @@ use native.Mathlib.Omega.{arith}
 use lib.Dec.{leb, ltb, eqb}
 use lib.ListN.{length, getD, drop, length-drop, drop-of-length-le}
 use borrow.Author.Tests.{leb-true, leb-false, lt-ltb, le-ltb, eqb-true, eqb-false, eq-eqb, ne-eqb}
-use Rattle.hl7.specs.Bytes.{within}
+use Rattle.hl7.specs.Bytes.{within, isDigit}
 use Rattle.hl7.proofs.Comparing.{rest-at, and-both}
-use Rattle.grade.specs.Digits.{isDigit, countWithin, digitsIn, pointsIn, digitRun}
+use Rattle.grade.specs.Digits.{countWithin, digitsIn, pointsIn, digitRun}
 use Rattle.grade.specs.Values.{isUnsigned}
 
 module _ (v : List ℕ) (i : ℕ) where

@@ -74,6 +74,10 @@ known = rule pid 3 1 Required Error
 abbrev sexed : Rule
 sexed = rule pid 8 0 Required Warning
 
+-- the first segment of a message with the usual delimiters
+abbrev usual : List ℕ
+usual = bytes "MSH|^~\\&|"
+
 abbrev table : List Sample
 table =
     unruled (bytes "MSH" ∷ bytes "PID" ∷ bytes "ORC" ∷ bytes "ORC" ∷ bytes "RXA" ∷ []) (orderFinding orc 2 ∷ [])
@@ -85,21 +89,24 @@ table =
     ∷ unruled (bytes "MSH" ∷ []) (orderFinding theEnd 0 ∷ [])
     ∷ unruled [] []
     -- every bad repetition, by its own number; the empty one is not judged
-    ∷ record { rules = long ∷ []; segments = bytes "MSH" ∷ bytes "PID|x~~y" ∷ []; gives = breach 1 1 1 long ∷ breach 1 1 3 long ∷ [] }
+    ∷ record { rules = long ∷ []; segments = usual ∷ bytes "PID|x~~y" ∷ []; gives = breach 1 1 1 long ∷ breach 1 1 3 long ∷ [] }
     -- REQUIRED looks at repetition 1 alone, and at the component
-    ∷ record { rules = there ∷ []; segments = bytes "MSH" ∷ bytes "PID|~x" ∷ []; gives = breach 1 1 1 there ∷ [] }
-    ∷ record { rules = there ∷ []; segments = bytes "MSH" ∷ bytes "PID|^x~" ∷ []; gives = breach 1 1 1 there ∷ [] }
-    ∷ record { rules = there ∷ []; segments = bytes "MSH" ∷ bytes "PID|x~" ∷ []; gives = [] }
+    ∷ record { rules = there ∷ []; segments = usual ∷ bytes "PID|~x" ∷ []; gives = breach 1 1 1 there ∷ [] }
+    ∷ record { rules = there ∷ []; segments = usual ∷ bytes "PID|^x~" ∷ []; gives = breach 1 1 1 there ∷ [] }
+    ∷ record { rules = there ∷ []; segments = usual ∷ bytes "PID|x~" ∷ []; gives = [] }
     -- component 2 of each repetition is looked up in the set, which holds A and B
-    ∷ record { rules = coded ∷ []; segments = bytes "MSH" ∷ bytes "PID||A^B~B^b~C^~^C" ∷ []; gives = breach 1 1 2 coded ∷ breach 1 1 4 coded ∷ [] }
+    ∷ record { rules = coded ∷ []; segments = usual ∷ bytes "PID||A^B~B^b~C^~^C" ∷ []; gives = breach 1 1 2 coded ∷ breach 1 1 4 coded ∷ [] }
+    -- the message's own delimiters cut it, and the usual ones do not
+    ∷ record { rules = long ∷ []; segments = bytes "MSH!#$%'!" ∷ bytes "PID!x$$y$~|!" ∷ []; gives = breach 1 1 1 long ∷ breach 1 1 3 long ∷ [] }
+    ∷ record { rules = coded ∷ []; segments = bytes "MSH|#~\\&|" ∷ bytes "PID||A#B~B#b~C#~#B^" ∷ []; gives = breach 1 1 2 coded ∷ breach 1 1 4 coded ∷ [] }
     -- an absent field has one empty repetition
-    ∷ record { rules = born ∷ sexed ∷ []; segments = bytes "MSH" ∷ bytes "PID" ∷ []; gives = breach 2 1 1 sexed ∷ [] }
+    ∷ record { rules = born ∷ sexed ∷ []; segments = usual ∷ bytes "PID" ∷ []; gives = breach 2 1 1 sexed ∷ [] }
     -- MSH-3 stands after the second bar
     ∷ record { rules = header ∷ []; segments = bytes "MSH|^~\\&|A~BB|C" ∷ bytes "PID" ∷ []; gives = breach 1 1 1 header ∷ [] }
     -- numbers count from the message's start; the order comes before the rules
     ∷ record {
       rules = dosed ∷ [];
-      segments = bytes "MSH" ∷ bytes "PID" ∷ bytes "ORC" ∷ bytes "RXA|x" ∷ bytes "ORC" ∷ bytes "RXA" ∷ bytes "RXA" ∷ [];
+      segments = usual ∷ bytes "PID" ∷ bytes "ORC" ∷ bytes "RXA|x" ∷ bytes "ORC" ∷ bytes "RXA" ∷ bytes "RXA" ∷ [];
       gives = breach 1 2 1 dosed ∷ orderFinding rxa 3 ∷ breach 1 3 1 dosed ∷ [];
     }
     -- the paper's example

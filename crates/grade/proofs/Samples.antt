@@ -6,9 +6,10 @@ use mathlib.Core.Bool.{Bool, true, false, not, _&&_}
 use mathlib.Core.List.{List, [], _∷_, _++_}
 use lib.Dec.{eqb}
 use Rattle.hl7.specs.Text.{bytes}
-use Rattle.hl7.specs.Bytes.{same, begins, isIn}
+use Rattle.hl7.specs.Bytes.{isIn, distinct, all, same, begins}
 use Rattle.hl7.specs.Cut.{cut, ahead, butLast, startAt}
 use Rattle.hl7.specs.Place.{delimsOf, nthOf, cutUnless, partOfField, neverCut, componentOf, repetitionsOf}
+use Rattle.hl7.specs.Delimiters.{mayDelimit, mayCut, opens}
 use Rattle.hl7.specs.Refusals.{firstRow, wrongBytes, hasForm, wrongSegments, formRows, messageRows}
 use Rattle.grade.specs.Rule.{theEnd, orc, segmentNames, numberFrom, nameOfLetters}
 use Rattle.grade.specs.Digits.{countWithin, digitRun}
@@ -66,5 +67,5 @@ samples =
     ∷ []
 
 samples-hold : allRight samples ≡ true
-unfolding samples allRight right isOrder message same begins cut ahead butLast startAt delimsOf nthOf cutUnless partOfField neverCut componentOf repetitionsOf firstRow wrongBytes hasForm wrongSegments formRows messageRows segmentNames numberFrom nameOfLetters countWithin digitRun monthLength isRealDate isUnsigned isNumber isDate nameBefore earlier isIn mayFollow broken judges breaksRule keep countFrom pairsFrom findings
+unfolding samples allRight right isOrder message distinct all same begins mayDelimit mayCut opens cut ahead butLast startAt delimsOf nthOf cutUnless partOfField neverCut componentOf repetitionsOf firstRow wrongBytes hasForm wrongSegments formRows messageRows segmentNames numberFrom nameOfLetters countWithin digitRun monthLength isRealDate isUnsigned isNumber isDate nameBefore earlier isIn mayFollow broken judges breaksRule keep countFrom pairsFrom findings
 samples-hold = refl

@@ -4,11 +4,7 @@ use mathlib.Core.Bool.{Bool, cond, _||_}
 use mathlib.Core.List.{List, [], _∷_}
 use lib.Dec.{eqb}
 use lib.ListN.{getD}
-use Rattle.hl7.specs.Bytes.{within}
-
--- '0' to '9'
-abbrev pub isDigit : ℕ → Bool
-isDigit b = within 48 57 b
+use Rattle.hl7.specs.Bytes.{within, isDigit}
 
 -- '+' or '-'
 abbrev pub isSign : ℕ → Bool

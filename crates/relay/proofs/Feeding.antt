@@ -9,11 +9,10 @@ use lib.Dec.{eqb}
 use lib.ListN.{length, getD, take, set, length-append, length-set}
 use lib.Seq.{take-all, take-take, take-suc, take-append-le, take-suc-set}
 use borrow.Author.Tests.{ltb-true, ltb-false, lt-ltb, le-ltb, le-leb, lt-leb, ne-eqb}
-use Rattle.hl7.specs.Bytes.{all}
+use Rattle.hl7.specs.Bytes.{isDigit, all}
 use Rattle.hl7.specs.Cut.{cut}
 use Rattle.hl7.proofs.Comparing.{all-last}
 use Rattle.hl7.proofs.Cutting.{cut-delimiter, cut-other, cut-last}
-use Rattle.grade.specs.Digits.{isDigit}
 use Rattle.relay.specs.Line.{lineFeed, space, lineOf, occurs, beforeLast, afterLast, stampOf, lastItem, valueAfter, valueOf, largestControl, isControl, badLine, goodLine, said}
 use Rattle.relay.specs.Fed.{headLength, tooLarge, Heads, Items, Fed, shortened}
 use Rattle.relay.specs.declared.line.Head.{Head}

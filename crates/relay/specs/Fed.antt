@@ -6,8 +6,7 @@ use mathlib.Core.Bool.{not}
 use mathlib.Core.List.{List}
 use lib.Dec.{eqb, ltb}
 use lib.ListN.{length, take}
-use Rattle.hl7.specs.Bytes.{all}
-use Rattle.grade.specs.Digits.{isDigit}
+use Rattle.hl7.specs.Bytes.{isDigit, all}
 use Rattle.relay.specs.Line.{lineOf, space, occurs, stampOf, lastItem, valueOf, largestControl, Said, badLine, goodLine, said}
 use Rattle.relay.specs.declared.line.Head.{Head}
 use Rattle.relay.specs.declared.line.Item.{Item}

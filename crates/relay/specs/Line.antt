@@ -4,9 +4,8 @@ use mathlib.Core.Bool.{Bool, false, cond, not, _&&_, _||_}
 use mathlib.Core.List.{List, [], _∷_}
 use lib.Dec.{eqb, leb}
 use lib.ListN.{length}
-use Rattle.hl7.specs.Bytes.{all}
+use Rattle.hl7.specs.Bytes.{isDigit, all}
 use Rattle.hl7.specs.Cut.{cut, partAt}
-use Rattle.grade.specs.Digits.{isDigit}
 
 abbrev pub lineFeed : ℕ
 lineFeed = 10

@@ -7,7 +7,8 @@ use lib.ListN.{length, getD, drop}
 use denote.Ref.{now}
 use borrow.Author.Tests.{not-true, not-false}
 use borrow.Author.Needs.{needs}
-use Rattle.grade.specs.Digits.{isDigit, digitRun}
+use Rattle.hl7.specs.Bytes.{isDigit}
+use Rattle.grade.specs.Digits.{digitRun}
 use Rattle.grade.proofs.Counting.{run-more, run-stop, run-none}
 use Rattle.grade.proofs.value.digit_run.Statement.{statement}
 use Rattle.grade.proofs.value.digit_run.Tie as tie

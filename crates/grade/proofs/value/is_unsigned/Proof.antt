@@ -8,7 +8,7 @@ use lib.ListN.{length, getD}
 use denote.Ref.{now}
 use borrow.Author.Tests.{not-true, not-false}
 use borrow.Author.Needs.{needs}
-use Rattle.grade.specs.Digits.{isDigit}
+use Rattle.hl7.specs.Bytes.{isDigit}
 use Rattle.grade.proofs.Counting.{Passed, passed-more, passed-stop, passed-over}
 use Rattle.grade.proofs.value.is_unsigned.Statement.{statement}
 use Rattle.grade.proofs.value.is_unsigned.Tie as tie
