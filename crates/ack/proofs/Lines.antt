@@ -1,6 +1,6 @@
 -- The laws of the layout. Assumes nothing.
 use mathlib.Core.Path.{_≡_, refl, sym, ap, ap₂, _∙_}
-use mathlib.Core.Bool.{Bool, true, false, cond, _&&_}
+use mathlib.Core.Bool.{Bool, true, false, cond}
 use mathlib.Core.List.{List, [], _∷_, _++_, map, flatMap, append-nil, append-assoc}
 use Prim.Native.Nat.{ℕ, _/_, _%_}
 use borrow.Author.Tests.{eq-eqb, ne-eqb, eqb-true}
@@ -10,15 +10,17 @@ use lib.ListN.{getD, List·getD-map}
 use Rattle.hl7.specs.Text.{bytes}
 use Rattle.hl7.specs.Bytes.{same}
 use Rattle.hl7.specs.Place.{carriageReturn}
+use Rattle.hl7.specs.Delimiters.{fiveOf}
 use Rattle.hl7.specs.declared.place.Delims.{Delims}
-use Rattle.hl7.proofs.Comparing.{and-both, same-equal}
+use Rattle.hl7.proofs.Comparing.{same-equal}
+use Rattle.hl7.proofs.Delimiting.{standard, standard-is}
 use Rattle.grade.proofs.Naming.{at-counted, no-name}
 use Rattle.grade.specs.Rule.{theEnd, counted, segmentNames, nameBytes}
 use Rattle.grade.specs.Standing.{lettersOf}
 use Rattle.grade.specs.declared.finding.Finding.{Finding}
 use Rattle.ack.specs.Decimal.{decimal}
 use Rattle.ack.specs.Layout.{ownByte, own, marked, joined, copied, mshLine, verdict, msaLine, componentParts, valueParts, placeParts, codeText, errLine, ended, ackBytes}
-use Rattle.ack.specs.Pieces.{heading, errs, isStandard}
+use Rattle.ack.specs.Pieces.{heading, errs}
 
 -- ---- texts
 pub own-at : (d : Delims) (text : List ℕ) (i : ℕ) → getD (own d text) i 0 ≡ ownByte d (getD text i 0)
@@ -117,31 +119,21 @@ ack-is d msh stamp control findings =
     rw (each-ended d findings) (sym (append-assoc (ended (mshLine d msh stamp control)) (ended (msaLine d msh (verdict findings))) (errs d findings)))
 
 -- ---- with the standard delimiters a text stands as it is
-kept-byte : (x c own other : ℕ) → own ≡ c → other ≡ x → cond (eqb x c) own other ≡ x
-kept-byte x c own other e f = by (eqb x c) refl
+kept-byte : (x c : ℕ) {other : ℕ} → other ≡ x → cond (eqb x c) c other ≡ x
+kept-byte x c {other} e = by (eqb x c) refl
   where
-    by : (b : Bool) → eqb x c ≡ b → cond b own other ≡ x
-    by true h = e ∙ sym (eqb-true x c h)
-    by false h = f
+    by : (b : Bool) → eqb x c ≡ b → cond b c other ≡ x
+    by true h = sym (eqb-true x c h)
+    by false h = e
 
-pub own-standard : (d : Delims) → isStandard d ≡ true → (text : List ℕ) → text ≡ own d text
+standard-byte : (x : ℕ) → ownByte standard x ≡ x
 unfolding ownByte
-own-standard d h [] = refl
-own-standard d h (x ∷ text) = ap₂ (λ (y : ℕ) (l : List ℕ). y ∷ l) (sym byte) (own-standard d h text)
+standard-byte x =
+    kept-byte x (code "|") (kept-byte x (code "^") (kept-byte x (code "~") (kept-byte x (code "\\") (kept-byte x (code "&") refl))))
+
+pub own-standard : (d : Delims) → same (fiveOf d) (bytes "|^~\\&") ≡ true → (text : List ℕ) → text ≡ own d text
+own-standard d h text = rw (standard-is d h) (each text)
   where
-    byte : ownByte d x ≡ x
-    byte =
-        let bar = eqb (d .bar) (code "|") in
-        let caret = eqb (d .caret) (code "^") in
-        let tilde = eqb (d .tilde) (code "~") in
-        let backslash = eqb (d .backslash) (code "\\") in
-        let ampersand = eqb (d .ampersand) (code "&") in
-        let four = and-both (bar && caret && tilde && backslash) ampersand h in
-        let three = and-both (bar && caret && tilde) backslash (four .0) in
-        let two = and-both (bar && caret) tilde (three .0) in
-        let one = and-both bar caret (two .0) in
-        kept-byte x (code "|") (d .bar) _ (eqb-true (d .bar) (code "|") (one .0))
-        (kept-byte x (code "^") (d .caret) _ (eqb-true (d .caret) (code "^") (one .1))
-        (kept-byte x (code "~") (d .tilde) _ (eqb-true (d .tilde) (code "~") (two .1))
-        (kept-byte x (code "\\") (d .backslash) _ (eqb-true (d .backslash) (code "\\") (three .1))
-        (kept-byte x (code "&") (d .ampersand) x (eqb-true (d .ampersand) (code "&") (four .1)) refl))))
+    each : (text : List ℕ) → text ≡ own standard text
+    each [] = refl
+    each (x ∷ text) = ap₂ (λ (y : ℕ) (l : List ℕ). y ∷ l) (sym (standard-byte x)) (each text)

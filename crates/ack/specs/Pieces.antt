@@ -2,9 +2,6 @@
 -- The pieces in which an ACK is written. Assumes nothing.
 use Prim.Native.Nat.{ℕ, _^_}
 use mathlib.Core.Path.{_≡_}
-use Prim.Native.Char.{code}
-use mathlib.Core.Bool.{Bool, _&&_}
-use lib.Dec.{eqb}
 use mathlib.Core.List.{List, [], _∷_, _++_, flatMap}
 use Rattle.hl7.specs.declared.place.Delims.{Delims}
 use Rattle.grade.specs.declared.finding.Finding.{Finding}
@@ -12,11 +9,6 @@ use Rattle.ack.specs.Splice.{Wrote}
 use Rattle.ack.specs.Layout.{mshLine, has, isFault, msaLine, errLine, ended}
 use Rattle.ack.specs.Answers.{Outcome, byRows, shortRow}
 use Rattle.ack.specs.declared.errs.Put.{Put}
-
--- the delimiters are the standard five
-abbrev pub isStandard : Delims → Bool
-isStandard d =
-    eqb (d .bar) (code "|") && eqb (d .caret) (code "^") && eqb (d .tilde) (code "~") && eqb (d .backslash) (code "\\") && eqb (d .ampersand) (code "&")
 
 -- the first two segments
 unfoldable pub heading : Delims → (msh stamp : List ℕ) → ℕ → ℕ → List ℕ

@@ -10,6 +10,7 @@ use grade::rule::letters_of;
 use hl7::bytes::wide;
 use hl7::bytes::wide16;
 use hl7::bytes::wide32;
+use hl7::delimiters::is_standard;
 use hl7::place::Delims;
 use hl7::place::noted_field;
 ghost use mathlib.Core.Path.{_≡_};
@@ -21,7 +22,7 @@ ghost use Rattle.hl7.specs.declared.place.Delims.{Delims};
 ghost use Rattle.grade.specs.Rule.{nameBytes};
 ghost use Rattle.ack.specs.Splice.{Wrote};
 ghost use Rattle.ack.specs.Layout.{ownByte, own, marked, joined, copied, mshLine, letter, msaLine, componentParts, valueParts, placeParts, codeText, errLine, ended};
-ghost use Rattle.ack.specs.Pieces.{heading, isStandard};
+ghost use Rattle.ack.specs.Pieces.{heading};
 
 // One byte or the other, without a branch.
 fn choose(test: bool, yes: u8, otherwise: u8) -> u8
@@ -42,17 +43,6 @@ fn own_byte(d: Delims, x: u8) -> u8
     let third = choose(x == b'~', d.tilde, fourth);
     let second = choose(x == b'^', d.caret, third);
     choose(x == b'|', d.bar, second)
-}
-
-// Whether the delimiters are the standard five.
-fn is_standard(d: Delims) -> bool
-    ensures { λ r. ⌜ r ≡ isStandard d ⌝ }
-{
-    (d.bar == b'|')
-        & (d.caret == b'^')
-        & (d.tilde == b'~')
-        & (d.backslash == b'\\')
-        & (d.ampersand == b'&')
 }
 
 // A text, byte by byte with the message's own delimiters.

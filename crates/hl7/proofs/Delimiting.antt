@@ -3,16 +3,18 @@ use mathlib.Core.Path.{_≡_, refl, sym, ap, _∙_}
 use mathlib.Core.Bool.{Bool, true, false, not, _&&_, _||_, and-true, and-assoc, or-false, or-assoc, true≢false}
 use mathlib.Core.List.{List, [], _∷_}
 use Prim.Native.Nat.{ℕ, zero, suc, _≤_, _<_}
+use Prim.Native.Char.{code}
 use native.Mathlib.Omega.{arith}
 use native.Mathlib.Decide.{decLt}
 use lib.Dec.{eqb}
 use lib.ListN.{length, getD, List·getD-eq-default}
 use borrow.Author.Tests.{ne-eqb, eqb-true, eqb-false, not-true}
 use Rattle.hl7.specs.declared.place.Delims.{Delims}
-use Rattle.hl7.specs.Bytes.{within, isIn, distinct, all, differs, begins}
+use Rattle.hl7.specs.Bytes.{within, isIn, distinct, all, differs, same, begins}
 use Rattle.hl7.specs.Place.{delimsOf}
 use Rattle.hl7.specs.Delimiters.{mayDelimit, fiveOf, mayCut, opens}
-use Rattle.hl7.proofs.Comparing.{and-both, or-neither, all-at}
+use Rattle.hl7.specs.Text.{bytes}
+use Rattle.hl7.proofs.Comparing.{and-both, or-neither, all-at, same-equal}
 
 -- ---- numbers that differ pairwise
 not-in : (n : ℕ) (l : List ℕ) (k : ℕ) → isIn n l ≡ false → k < length l → n ≡ getD l k 0 → ⊥
@@ -91,7 +93,25 @@ module _ (name m : List ℕ) (e : opens name m ≡ true) where
           let again = eqb-true (getD m 8 0) (delimsOf m .bar) (opens-parts .1) in
           absurd (delimits-other (delimsOf m .bar) 0 (delimiter-at opens-delimiting 0 (omega arith)) refl (sym again ∙ none))
 
+-- ---- the standard five
+abbrev pub standard : Delims
+standard = record { bar = code "|"; caret = code "^"; tilde = code "~"; backslash = code "\\"; ampersand = code "&" }
+
+pub standard-is : (d : Delims) → same (fiveOf d) (bytes "|^~\\&") ≡ true → d ≡ standard
+standard-is d e = ap delims (same-equal (fiveOf d) (bytes "|^~\\&") e)
+  where
+    delims : List ℕ → Delims
+    delims l = record { bar = getD l 0 0; caret = getD l 1 0; tilde = getD l 2 0; backslash = getD l 3 0; ampersand = getD l 4 0 }
+
+pub standard-cut : (d : Delims) → same (fiveOf d) (bytes "|^~\\&") ≡ true → true ≡ mayCut d
+unfolding mayCut mayDelimit all distinct isIn
+standard-cut d e = sym (ap mayCut (standard-is d e))
+
 -- ---- in the code's words, which asks one after the other
+pub asked-standard : (d : Delims) → (eqb (d .bar) (code "|") && eqb (d .caret) (code "^") && eqb (d .tilde) (code "~") && eqb (d .backslash) (code "\\") && eqb (d .ampersand) (code "&")) ≡ same (fiveOf d) (bytes "|^~\\&")
+unfolding same
+asked-standard d = simp (and-true, and-assoc)
+
 pub asked-byte : (x : ℕ) {upper lower digit printable : Bool} → upper ≡ within 65 90 x → lower ≡ within 97 122 x → digit ≡ within 48 57 x → printable ≡ within 32 126 x
     → (printable && not (upper || lower || digit || (eqb x 32 || eqb x 34 || eqb x 46 || eqb x 43 || eqb x 45 || eqb x 95))) ≡ mayDelimit x
 unfolding mayDelimit isIn

@@ -5,8 +5,9 @@ use crate::bytes::is_within;
 use crate::place::Delims;
 use crate::place::delims_of;
 ghost use mathlib.Core.Path.{_≡_};
-ghost use Rattle.hl7.specs.Bytes.{distinct};
+ghost use Rattle.hl7.specs.Bytes.{distinct, same};
 ghost use Rattle.hl7.specs.Delimiters.{mayDelimit, fiveOf, mayCut, opens};
+ghost use Rattle.hl7.specs.Text.{bytes};
 
 // Whether a byte may be a delimiter.
 fn may_delimit(x: u8) -> bool
@@ -31,10 +32,24 @@ fn are_distinct(d: Delims) -> bool
     !bar & !caret & !tilde & !(d.backslash == d.ampersand)
 }
 
-// Whether a message may be cut by these five.
+// Whether they are the standard five.
+pub fn is_standard(d: Delims) -> bool
+    ensures { λ r. ⌜ r ≡ same (fiveOf d) (bytes "|^~\\&") ⌝ }
+{
+    (d.bar == b'|')
+        & (d.caret == b'^')
+        & (d.tilde == b'~')
+        & (d.backslash == b'\\')
+        & (d.ampersand == b'&')
+}
+
+// Whether a message may be cut by these five; the standard five, which nearly all have, are seen at once.
 fn may_cut(d: Delims) -> bool
     ensures { λ r. ⌜ r ≡ mayCut d ⌝ }
 {
+    if is_standard(d) {
+        return true;
+    }
     may_delimit(d.bar)
         & may_delimit(d.caret)
         & may_delimit(d.tilde)
@@ -44,7 +59,7 @@ fn may_cut(d: Delims) -> bool
 }
 
 // Whether m begins with a name, five bytes that it may be cut by, and the first of them again.
-pub fn opens_with(m: &[u8], name: &[u8]) -> bool
+pub(crate) fn opens_with(m: &[u8], name: &[u8]) -> bool
     ensures { λ r. ⌜ r ≡ opens (now (name .entry)) (now (m .entry)) ⌝ }
 {
     let d = delims_of(m);
