@@ -18,15 +18,17 @@ static inline unsigned jasminedo_number(uint64_t answer) { return (unsigned)(ans
 static inline uint64_t jasminedo_detail(uint64_t answer) { return answer / 256; }
 
 /* Number 0: the ACK stands in the first bytes of the output, the detail is its length, all later bytes are as they
- * were. Numbers 1 to 11 are the refusals; then the whole output is as it was. 11's detail is the length needed. */
+ * were. Numbers 1 to 11 are the refusals; then the whole output is as it was. 11's detail is the length needed.
+ * A message is read by its own five delimiters, and the ACK is written with them. */
 uint64_t jasminedo_answer(const uint8_t *message, size_t message_length, const uint8_t *book, size_t book_length,
                           const uint8_t *stamp, size_t stamp_length, uint32_t control, uint8_t *output,
                           size_t output_length);
 
-/* Number 0 for a message that can be read, or one of refusals 1 to 5. */
+/* Number 0 for a message that can be read, or one of refusals 1 to 5; 4 is told of delimiters that may not be. */
 uint64_t jasminedo_check(const uint8_t *message, size_t message_length);
 
-/* A place of the message, all counted from 1; component 0 is the whole repetition. What is missing has length 0. */
+/* A place of the message by its own delimiters, all counted from 1; component 0 is the whole repetition. What is
+ * missing has length 0. */
 uint64_t jasminedo_locate(const uint8_t *message, size_t message_length, size_t segment, size_t field,
                           size_t repetition, size_t component);
 static inline size_t jasminedo_start(uint64_t place) { return (size_t)(place / 65536); }

@@ -1,4 +1,4 @@
-/* Calls the library as a C program would: the worked example, a refusal at each end, and a place. Says what differs. */
+/* Calls the library as a C program would: the worked example, a refusal at each end, places, other delimiters. Says what differs. */
 #include "../include/jasminedo.h"
 
 #include <stdio.h>
@@ -46,6 +46,12 @@ int main(void) {
     expect("PID-5.2 is ANN", jasminedo_length(got) == 3 && memcmp(message + jasminedo_start(got), "ANN", 3) == 0);
     got = jasminedo_locate(BYTES(message), 2, 8, 1, 1);
     expect("PID-8 is missing", jasminedo_length(got) == 0);
+
+    static const char other[] = "MSH|#~\\&|\rPID|||||ROE^#ANN\r";
+    got = jasminedo_locate(BYTES(other), 2, 5, 1, 1);
+    expect("with # for the caret PID-5.1 is ROE^", jasminedo_length(got) == 4 && memcmp(other + jasminedo_start(got), "ROE^", 4) == 0);
+    got = jasminedo_check(BYTES("MSH|^~\\^|\r"));
+    expect("a delimiter that stands twice is refusal 4", jasminedo_number(got) == 4);
 
     if (!wrong)
         printf("calling: as expected\n");

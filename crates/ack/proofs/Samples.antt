@@ -1,4 +1,4 @@
--- The worked example of 01, a refused header and the two short forms of ERR-2, as the definitions give them. Assumes nothing.
+-- The worked example of 01, a refused header and the two short forms of ERR-2, as the definitions give them; the same by other delimiters. Assumes nothing.
 use Prim.Native.Nat.{ℕ}
 use Prim.Native.Char.{code}
 use mathlib.Core.Path.{_≡_, refl}
@@ -36,6 +36,15 @@ refused : ackBytes (delimsOf other) other (bytes "20250113120000+0000") 7 (heade
     ≡ bytes "MSH|^~\\&|REG|AX|CAB|C1|20250113120000+0000||ACK^V04^ACK|7|X|2.5.1|||NE|NE|||||Z23^CDCPHINVS\rMSA|AR|M1\rERR||MSH^1^9^1^1|200^Unsupported message type^HL70357|E|0^^L\rERR||MSH^1^9^1^2|201^Unsupported event code^HL70357|E|0^^L\rERR||MSH^1^11^1^1|202^Unsupported processing id^HL70357|E|0^^L\rERR||MSH^1^12^1^1|203^Unsupported version id^HL70357|E|0^^L\r"
 unfolding ackBytes copied mshLine msaLine errLine placeParts valueParts componentParts codeText has joined marked ownByte decimal lastDigits nameBytes segmentNames flatMap other partOfField begins cut ahead startAt delimsOf headerFindings headerOf mshAt isProcessingId inSegment inField componentOf neverCut nthOf cutUnless same
 refused = refl
+
+-- a caret is a plain byte here, and is copied as it stands
+exchanged : List ℕ
+exchanged = bytes "MSH!#$%'!CAB!C^1!REG!AX!20250113115900+0000!!VXU#V04#VXU_V04!M1!P!2.5.1"
+
+by-others : ackBytes (delimsOf exchanged) exchanged (bytes "20250113120000+0000") 7 (birth ∷ sex ∷ order ∷ end ∷ [])
+    ≡ bytes "MSH!#$%'!REG!AX!CAB!C^1!20250113120000+0000!!ACK#V04#ACK!7!P!2.5.1!!!NE!NE!!!!!Z23#CDCPHINVS\rMSA!AE!M1\rERR!!PID#1#7#1#1!102#Data type error#HL70357!E!1##L\rERR!!PID#1#8#1!101#Required field missing#HL70357!W!3##L\rERR!!ORC#2!100#Segment sequence error#HL70357!E!0##L\rERR!!!100#Segment sequence error#HL70357!E!0##L\r"
+unfolding ackBytes copied mshLine msaLine errLine placeParts valueParts componentParts codeText has joined marked ownByte decimal lastDigits nameBytes segmentNames flatMap birth sex order end exchanged partOfField begins cut ahead startAt delimsOf
+by-others = refl
 
 samples :
     ackBytes (delimsOf msh) msh (bytes "20250113120000+0000") 7 (birth ∷ sex ∷ []) ∷ errLine (delimsOf msh) order ∷ errLine (delimsOf msh) end ∷ decimal 0 ∷ decimal 4294967295 ∷ decimal 18446744073709551615 ∷ []
