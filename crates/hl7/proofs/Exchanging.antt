@@ -1,21 +1,23 @@
 -- Which five delimiters a message is cut by does not matter: where its bytes that may delimit are exchanged among each other, refusals 1 to 5 and the places
 -- stay as they are, and what a place holds is exchanged alike. Assumes nothing.
-use mathlib.Core.Path.{_≡_, refl, sym, ap, _∙_}
-use mathlib.Core.Bool.{Bool, true, false, cond, not, and-false, or-true, Bool·not-not}
-use mathlib.Core.List.{List, [], _∷_, map}
+use mathlib.Core.Path.{_≡_, refl, sym, ap, ap₂, _∙_}
+use mathlib.Core.Bool.{Bool, true, false, cond, not, _&&_, _||_, and-false, or-true, Bool·not-not}
+use mathlib.Core.List.{List, [], _∷_, map, map-map}
 use Prim.Native.Nat.{ℕ, zero, suc, _+_}
+use native.Mathlib.Omega.{arith}
+use native.Mathlib.Decide.{ℕ-discrete}
 use lib.Dec.{eqb}
 use lib.ListN.{length, getD, take, drop, length-map, List·getD-map}
-use borrow.Author.Tests.{eq-eqb, ne-eqb, eqb-true, eqb-false}
+use borrow.Author.Tests.{eq-eqb, ne-eqb, eqb-true, eqb-false, not-true}
 use Rattle.hl7.specs.declared.place.Delims.{Delims}
 use Rattle.hl7.specs.Text.{bytes}
 use Rattle.hl7.specs.Bytes.{within, isDigit, isUpper, isIn, distinct, all, same, among, begins}
 use Rattle.hl7.specs.Cut.{ahead, cut, startAt, Piece, pieceAt, missing, butLast}
 use Rattle.hl7.specs.Place.{delimsOf, carriageReturn, segmentsOf, isMsh, nthOf, cutUnless, segmentOf, partOfField, fieldOf, neverCut, componentOf, inField, inSegment, place, repetitionsOf}
-use Rattle.hl7.specs.Delimiters.{mayDelimit, mayCut, opens}
+use Rattle.hl7.specs.Delimiters.{mayDelimit, fiveOf, mayCut, opens}
 use Rattle.hl7.specs.Refusals.{allowed, wrongBytes, hasForm, wrongSegments, formRows, messageRows, isSound, located}
-use Rattle.hl7.proofs.Comparing.{and-both}
-use Rattle.hl7.proofs.Delimiting.{isPlain}
+use Rattle.hl7.proofs.Comparing.{and-both, or-neither}
+use Rattle.hl7.proofs.Delimiting.{Delimiting, isPlain, delimits-other}
 
 -- bytes that may delimit are exchanged among each other, and plain ones stay
 pub record Exchange (σ : ℕ → ℕ) : Type 0 where
@@ -48,12 +50,17 @@ pub digit-plain : (x : ℕ) → isDigit x ≡ true → isPlain x ≡ true
 unfolding mayDelimit
 digit-plain x e = simp (e, or-true, and-false)
 
+-- every text is plain
+abbrev pub arePlain : List (List ℕ) → Bool
+arePlain [] = true
+arePlain (text ∷ texts) = all isPlain text && arePlain texts
+
 module _ {σ : ℕ → ℕ} (ex : Exchange σ) where
   -- a byte that comes to be plain was
   unmoved-plain : (x : ℕ) → isPlain (σ x) ≡ true → σ x ≡ x
   unmoved-plain x e = ex .injective (σ x) x (ex .plain (σ x) e)
 
-  test-kept : (test : ℕ → Bool) → ((x : ℕ) → test x ≡ true → isPlain x ≡ true) → (x : ℕ) → test (σ x) ≡ test x
+  pub test-kept : (test : ℕ → Bool) → ((x : ℕ) → test x ≡ true → isPlain x ≡ true) → (x : ℕ) → test (σ x) ≡ test x
   test-kept test only x = unseen σ test x (λ e. ex .plain x (only x e)) (λ e. unmoved-plain x (only (σ x) e))
 
   equal-kept : (x y : ℕ) → eqb (σ x) (σ y) ≡ eqb x y
@@ -63,7 +70,7 @@ module _ {σ : ℕ → ℕ} (ex : Exchange σ) where
       by true e = eq-eqb (σ x) (σ y) (ap σ (eqb-true x y e))
       by false e = ne-eqb (σ x) (σ y) (λ alike. eqb-false x y e (ex .injective x y alike))
 
-  delimits-kept : (x : ℕ) → mayDelimit (σ x) ≡ mayDelimit x
+  pub delimits-kept : (x : ℕ) → mayDelimit (σ x) ≡ mayDelimit x
   delimits-kept x = sym (Bool·not-not (mayDelimit (σ x))) ∙ ap not (test-kept isPlain (λ y e. e) x) ∙ Bool·not-not (mayDelimit x)
 
   allowed-kept : (x : ℕ) → allowed (σ x) ≡ allowed x
@@ -80,7 +87,7 @@ module _ {σ : ℕ → ℕ} (ex : Exchange σ) where
   upper-kept : (x : ℕ) → isUpper (σ x) ≡ isUpper x
   upper-kept = test-kept isUpper upper-plain
 
-  digit-kept : (x : ℕ) → isDigit (σ x) ≡ isDigit x
+  pub digit-kept : (x : ℕ) → isDigit (σ x) ≡ isDigit x
   digit-kept = test-kept isDigit digit-plain
 
   zero-kept : σ 0 ≡ 0
@@ -97,6 +104,10 @@ module _ {σ : ℕ → ℕ} (ex : Exchange σ) where
   plain-text [] e = refl
   plain-text (x ∷ s) e = let both = and-both (isPlain x) (all isPlain s) e in rw (ex .plain x (both .0), plain-text s (both .1))
 
+  pub plain-texts : (texts : List (List ℕ)) → arePlain texts ≡ true → map (map σ) texts ≡ texts
+  plain-texts [] e = refl
+  plain-texts (text ∷ texts) e = let both = and-both (all isPlain text) (arePlain texts) e in rw (plain-text text (both .0), plain-texts texts (both .1))
+
   unmoved-text : (s : List ℕ) → all isPlain (map σ s) ≡ true → map σ s ≡ s
   unfolding all
   unmoved-text [] e = refl
@@ -109,7 +120,7 @@ module _ {σ : ℕ → ℕ} (ex : Exchange σ) where
   pub byte-exchanged : (s : List ℕ) (k : ℕ) → getD (map σ s) k 0 ≡ σ (getD s k 0)
   byte-exchanged s k = rw zero-kept at (List·getD-map σ s k 0)
 
-  same-exchanged : (v w : List ℕ) → same (map σ v) (map σ w) ≡ same v w
+  pub same-exchanged : (v w : List ℕ) → same (map σ v) (map σ w) ≡ same v w
   unfolding same
   same-exchanged [] [] = refl
   same-exchanged [] (y ∷ w) = refl
@@ -273,3 +284,98 @@ module _ {σ : ℕ → ℕ} (ex : Exchange σ) where
       by : (b : Bool) → cond b (moved σ (place (delimsOf m) m n f r c)) (record { start = 0; bytes = [] }) ≡ moved σ (cond b (place (delimsOf m) m n f r c) (record { start = 0; bytes = [] }))
       by true = refl
       by false = refl
+
+-- ---- any five bytes that may delimit can be exchanged for any other five
+abbrev swap : ℕ → ℕ → ℕ → ℕ
+swap a b x = cond (eqb x a) b (cond (eqb x b) a x)
+
+module _ (a b : ℕ) where
+  swap-first : swap a b a ≡ b
+  swap-first = rw (eq-eqb a a refl)
+
+  swap-second : swap a b b ≡ a
+  swap-second = by (eqb b a) refl
+    where
+      by : (t : Bool) → eqb b a ≡ t → cond t b (cond (eqb b b) a b) ≡ a
+      by true e = eqb-true b a e
+      by false e = rw (eq-eqb b b refl)
+
+  swap-other : (x : ℕ) → (x ≡ a → ⊥) → (x ≡ b → ⊥) → swap a b x ≡ x
+  swap-other x p q = rw (ne-eqb x a p, ne-eqb x b q)
+
+  -- it undoes itself
+  swap-twice : (x : ℕ) → swap a b (swap a b x) ≡ x
+  swap-twice x = by (ℕ-discrete x a) (ℕ-discrete x b)
+    where
+      by : Dec (x ≡ a) → Dec (x ≡ b) → swap a b (swap a b x) ≡ x
+      by (yes e) q = ap (λ (y : ℕ). swap a b (swap a b y)) e ∙ ap (swap a b) swap-first ∙ swap-second ∙ sym e
+      by (no p) (yes e) = ap (λ (y : ℕ). swap a b (swap a b y)) e ∙ ap (swap a b) swap-second ∙ swap-first ∙ sym e
+      by (no p) (no q) = ap (swap a b) (swap-other x p q) ∙ swap-other x p q
+
+  swap-without : (l : List ℕ) → isIn a l ≡ false → isIn b l ≡ false → map (swap a b) l ≡ l
+  unfolding isIn
+  swap-without [] p q = refl
+  swap-without (x ∷ l) p q =
+      let no-a = or-neither (eqb a x) (isIn a l) p in
+      let no-b = or-neither (eqb b x) (isIn b l) q in
+      rw (swap-other x (λ e. eqb-false a x (no-a .0) (sym e)) (λ e. eqb-false b x (no-b .0) (sym e)), swap-without l (no-a .1) (no-b .1))
+
+  swap-after : {σ : ℕ → ℕ} → mayDelimit a ≡ true → mayDelimit b ≡ true → Exchange σ → Exchange (λ x. swap a b (σ x))
+  swap-after {σ} p q ex =
+      record {
+        injective = λ x y e. ex .injective x y (sym (swap-twice (σ x)) ∙ ap (swap a b) e ∙ swap-twice (σ y));
+        plain = λ x e. ap (swap a b) (ex .plain x e) ∙ swap-other x (λ z. delimits-other a x p e (sym z)) (λ z. delimits-other b x q e (sym z));
+      }
+
+-- an exchange that takes the bytes xs to the bytes ys in turn, and leaves what is in neither
+pub record Takes (xs ys : List ℕ) : Type 0 where
+  pub by : ℕ → ℕ
+  pub exchange : Exchange by
+  pub takes : map by xs ≡ ys
+  pub leaves : (z : ℕ) → isIn z xs ≡ false → isIn z ys ≡ false → by z ≡ z
+
+in-exchanged : {σ : ℕ → ℕ} → Exchange σ → (x : ℕ) (l : List ℕ) → isIn (σ x) (map σ l) ≡ isIn x l
+unfolding isIn
+in-exchanged ex x [] = refl
+in-exchanged ex x (y ∷ l) = rw (equal-kept ex x y, in-exchanged ex x l)
+
+module _ (x y : ℕ) (xs ys : List ℕ) (may-x : mayDelimit x ≡ true) (may-y : mayDelimit y ≡ true) (new-x : isIn x xs ≡ false) (new-y : isIn y ys ≡ false) (t : Takes xs ys) where
+  one-more : Takes (x ∷ xs) (y ∷ ys)
+  unfolding isIn
+  one-more =
+      let a = t .by x in
+      let apart : isIn a ys ≡ false = ap (isIn a) (sym (t .takes)) ∙ in-exchanged (t .exchange) x xs ∙ new-x in
+      record {
+        by = λ z. swap a y (t .by z);
+        exchange = swap-after a y (delimits-kept (t .exchange) x ∙ may-x) may-y (t .exchange);
+        takes = ap₂ _∷_ (swap-first a y) (sym (map-map (swap a y) (t .by) xs) ∙ ap (map (swap a y)) (t .takes) ∙ swap-without a y ys apart new-y);
+        leaves = left;
+      }
+    where
+      left : (z : ℕ) → (eqb z x || isIn z xs) ≡ false → (eqb z y || isIn z ys) ≡ false → swap (t .by x) y (t .by z) ≡ z
+      left z p q =
+          let no-x = or-neither (eqb z x) (isIn z xs) p in
+          let no-y = or-neither (eqb z y) (isIn z ys) q in
+          let stays = t .leaves z (no-x .1) (no-y .1) in
+          ap (swap (t .by x) y) stays ∙ swap-other (t .by x) y z (λ e. eqb-false z x (no-x .0) (t .exchange .injective z x (stays ∙ e))) (eqb-false z y (no-y .0))
+
+exchange-each : (xs ys : List ℕ) → length xs ≡ length ys → all mayDelimit xs ≡ true → all mayDelimit ys ≡ true → distinct xs ≡ true → distinct ys ≡ true → Takes xs ys
+unfolding all distinct
+exchange-each [] [] l p q r s = record { by = λ z. z; exchange = record { injective = λ x y e. e; plain = λ x e. refl }; takes = refl; leaves = λ z e f. refl }
+exchange-each [] (y ∷ ys) l p q r s = absurd (omega arith)
+exchange-each (x ∷ xs) [] l p q r s = absurd (omega arith)
+exchange-each (x ∷ xs) (y ∷ ys) l p q r s =
+    let may-x = and-both (mayDelimit x) (all mayDelimit xs) p in
+    let may-y = and-both (mayDelimit y) (all mayDelimit ys) q in
+    let new-x = and-both (not (isIn x xs)) (distinct xs) r in
+    let new-y = and-both (not (isIn y ys)) (distinct ys) s in
+    one-more x y xs ys (may-x .0) (may-y .0) (not-true _ (new-x .0)) (not-true _ (new-y .0)) (exchange-each xs ys (omega arith) (may-x .1) (may-y .1) (new-x .1) (new-y .1))
+
+pub exchange-between : {d e : Delims} → Delimiting d → Delimiting e → Takes (fiveOf d) (fiveOf e)
+exchange-between {d} {e} own other = exchange-each (fiveOf d) (fiveOf e) refl (own .each) (other .each) (own .differ) (other .differ)
+
+-- which takes the one's delimiters to the other's
+pub exchange-delims : {d e : Delims} (own : Delimiting d) (other : Delimiting e) → exchanged (exchange-between own other .by) d ≡ e
+exchange-delims own other i =
+    let five = exchange-between own other .takes i in
+    record { bar = getD five 0 0; caret = getD five 1 0; tilde = getD five 2 0; backslash = getD five 3 0; ampersand = getD five 4 0 }
