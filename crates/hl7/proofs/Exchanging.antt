@@ -50,10 +50,19 @@ pub digit-plain : (x : ℕ) → isDigit x ≡ true → isPlain x ≡ true
 unfolding mayDelimit
 digit-plain x e = simp (e, or-true, and-false)
 
--- every text is plain
-abbrev pub arePlain : List (List ℕ) → Bool
-arePlain [] = true
-arePlain (text ∷ texts) = all isPlain text && arePlain texts
+-- ---- what stays
+pub text-still : {σ : ℕ → ℕ} (test : ℕ → Bool) → ((x : ℕ) → test x ≡ true → σ x ≡ x) → (s : List ℕ) → all test s ≡ true → map σ s ≡ s
+unfolding all
+text-still test stays [] e = refl
+text-still test stays (x ∷ s) e = let both = and-both (test x) (all test s) e in rw (stays x (both .0), text-still test stays s (both .1))
+
+abbrev pub every : {A : Type 0} → (A → Bool) → List A → Bool
+every test [] = true
+every test (x ∷ l) = test x && every test l
+
+pub every-still : {A : Type 0} {f : A → A} (test : A → Bool) → ((x : A) → test x ≡ true → f x ≡ x) → (l : List A) → every test l ≡ true → map f l ≡ l
+every-still test stays [] e = refl
+every-still test stays (x ∷ l) e = let both = and-both (test x) (every test l) e in rw (stays x (both .0), every-still test stays l (both .1))
 
 module _ {σ : ℕ → ℕ} (ex : Exchange σ) where
   -- a byte that comes to be plain was
@@ -100,13 +109,7 @@ module _ {σ : ℕ → ℕ} (ex : Exchange σ) where
 
   -- ---- texts
   pub plain-text : (s : List ℕ) → all isPlain s ≡ true → map σ s ≡ s
-  unfolding all
-  plain-text [] e = refl
-  plain-text (x ∷ s) e = let both = and-both (isPlain x) (all isPlain s) e in rw (ex .plain x (both .0), plain-text s (both .1))
-
-  pub plain-texts : (texts : List (List ℕ)) → arePlain texts ≡ true → map (map σ) texts ≡ texts
-  plain-texts [] e = refl
-  plain-texts (text ∷ texts) e = let both = and-both (all isPlain text) (arePlain texts) e in rw (plain-text text (both .0), plain-texts texts (both .1))
+  plain-text = text-still isPlain (ex .plain)
 
   unmoved-text : (s : List ℕ) → all isPlain (map σ s) ≡ true → map σ s ≡ s
   unfolding all
