@@ -2,7 +2,8 @@
 -- codes stay as they are, number, detail and findings are the same. Assumes nothing.
 use mathlib.Core.Path.{_≡_, refl, sym, ap, ap₂, subst, _∙_}
 use mathlib.Core.Bool.{Bool, true, false, cond, _&&_, _||_}
-use mathlib.Core.List.{List, [], _∷_, map, List·Memᴰ, List·Memᴰ·head, List·Memᴰ·tail}
+use mathlib.Core.List.{List, [], _∷_, map, List·Memᴰ, List·Memᴰ·head, List·Memᴰ·tail, List·Memᴰ·not-nil, List·Memᴰ·cases-cons}
+use mathlib.Core.Logic.{⊎-elim}
 use Prim.Native.Nat.{ℕ, zero, suc, _+_, _-_}
 use native.Mathlib.Omega.{arith}
 use native.Mathlib.Numerals.{one-add}
@@ -126,9 +127,24 @@ EachStill σ cs = (c : Contents) → List·Memᴰ c cs → Still σ c
 abbrev pub Unmoved : (ℕ → ℕ) → (book : List ℕ) → Type 0
 Unmoved σ book = EachStill σ (decoded book)
 
--- so they do where each byte of them passes a test that only bytes pass that stay: as that they are plain, or in neither of two fives
-pub still-by : {σ : ℕ → ℕ} (test : ℕ → Bool) → ((x : ℕ) → test x ≡ true → σ x ≡ x) → (c : Contents) → all test (c .key) ≡ true → every (every (all test)) (c .sets) ≡ true → Still σ c
-still-by test stays c e f = record { key = text-still test stays (c .key) e; codes = every-still (every (all test)) (every-still (all test) (text-still test stays)) (c .sets) f }
+-- every byte of a section's key and codes passes the test
+abbrev pub allIn : (ℕ → Bool) → Contents → Bool
+allIn test c = all test (c .key) && every (every (all test)) (c .sets)
+
+-- so they stay where every byte of theirs passes a test that only bytes pass that stay: as that it is plain, or in neither of two fives
+pub unmoved-by : {σ : ℕ → ℕ} (test : ℕ → Bool) → ((x : ℕ) → test x ≡ true → σ x ≡ x) → (book : List ℕ) → every (allIn test) (decoded book) ≡ true → Unmoved σ book
+unmoved-by {σ} test stays book e = each (decoded book) e
+  where
+    still : (c : Contents) → allIn test c ≡ true → Still σ c
+    still c e =
+        let both = and-both (all test (c .key)) (every (every (all test)) (c .sets)) e in
+        record { key = text-still test stays (c .key) (both .0); codes = every-still (every (all test)) (every-still (all test) (text-still test stays)) (c .sets) (both .1) }
+
+    each : (cs : List Contents) → every (allIn test) cs ≡ true → EachStill σ cs
+    each [] e c in-none = absurd (List·Memᴰ·not-nil in-none)
+    each (x ∷ cs) e c in-all =
+        let both = and-both (allIn test x) (every (allIn test) cs) e in
+        ⊎-elim (λ (same : c ≡ x). still c (ap (allIn test) same ∙ both .0)) (each cs (both .1) c) (List·Memᴰ·cases-cons in-all)
 
 -- what stands for a section where there is none
 abbrev none : Contents
@@ -270,7 +286,9 @@ module _ {σ : ℕ → ℕ} (ex : Exchange σ) where
 
   header-kept : (d : Delims) (msh : List ℕ) → headerOf (exchanged σ d) (map σ msh) ≡ headerOf d msh
   unfolding headerOf all mayDelimit isIn
-  header-kept d msh = rw (msh-at-exchanged d msh 9 1, msh-at-exchanged d msh 9 2, msh-at-exchanged d msh 11 1, msh-at-exchanged d msh 12 1, same-plain (mshAt d msh 9 1) (bytes "VXU") refl, same-plain (mshAt d msh 9 2) (bytes "V04") refl, processing-kept (mshAt d msh 11 1), same-plain (mshAt d msh 12 1) (bytes "2.5.1") refl)
+  header-kept d msh =
+      rw (msh-at-exchanged d msh 9 1, msh-at-exchanged d msh 9 2, msh-at-exchanged d msh 11 1, msh-at-exchanged d msh 12 1)
+      (rw (same-plain (mshAt d msh 9 1) (bytes "VXU") refl, same-plain (mshAt d msh 9 2) (bytes "V04") refl, processing-kept (mshAt d msh 11 1), same-plain (mshAt d msh 12 1) (bytes "2.5.1") refl))
 
   -- ---- the book
   keys-still : (cs : List Contents) → EachStill σ cs → map (map σ) (keys cs) ≡ keys cs
@@ -298,7 +316,9 @@ module _ {σ : ℕ → ℕ} (ex : Exchange σ) where
 
     pub admit-kept : admitRows (map σ m) b ≡ admitRows m b
     unfolding admitRows bookRows noSection
-    admit-kept = rw (exchanged-rows ex m, key-exchanged, delims-exchanged ex m, msh-exchanged m, field-moved ex (delimsOf m) (mshOf m) 10, length-map _ σ, among-kept ex (keyOf (delimsOf m) (mshOf m)) (keys (decoded b)) (keys-still (decoded b) still))
+    admit-kept =
+        rw (exchanged-rows ex m, key-exchanged, delims-exchanged ex m, msh-exchanged m, field-moved ex (delimsOf m) (mshOf m) 10, length-map _ σ)
+        (rw (among-kept ex (keyOf (delimsOf m) (mshOf m)) (keys (decoded b)) (keys-still (decoded b) still)))
 
     section-kept : sectionFor (map σ m) b ≡ sectionFor m b
     unfolding sectionFor
@@ -310,7 +330,9 @@ module _ {σ : ℕ → ℕ} (ex : Exchange σ) where
 
     pub listed-kept : findingsFor (map σ m) b ≡ findingsFor m b
     unfolding findingsBy
-    listed-kept = rw (section-kept, delims-exchanged ex m, msh-exchanged m, header-kept (delimsOf m) (mshOf m), findings-kept mayFollow (sectionFor m b .rules) (sectionFor m b .sets) m section-still)
+    listed-kept =
+        rw (section-kept, delims-exchanged ex m, msh-exchanged m, header-kept (delimsOf m) (mshOf m))
+        (rw (findings-kept mayFollow (sectionFor m b .rules) (sectionFor m b .sets) m section-still))
 
     pub exchanged-grade : gradeOf (map σ m) b ≡ gradeOf m b
     unfolding gradeOf

@@ -32,7 +32,7 @@ abbrev pub moved : (ℕ → ℕ) → Piece → Piece
 moved σ p = record { start = p .start; bytes = map σ (p .bytes) }
 
 -- ---- tests
--- a test that whatever passes it stays under f says the same of f y as of y
+-- a test does not see f where f leaves what passes it
 unseen : {A : Type 0} (f : A → A) (test : A → Bool) (y : A) → (test y ≡ true → f y ≡ y) → (test (f y) ≡ true → f y ≡ y) → test (f y) ≡ test y
 unseen f test y before after = by (test (f y)) (test y) refl refl
   where
@@ -65,10 +65,11 @@ every-still test stays [] e = refl
 every-still test stays (x ∷ l) e = let both = and-both (test x) (every test l) e in rw (stays x (both .0), every-still test stays l (both .1))
 
 module _ {σ : ℕ → ℕ} (ex : Exchange σ) where
-  -- a byte that comes to be plain was
+  -- what comes to be plain was so before
   unmoved-plain : (x : ℕ) → isPlain (σ x) ≡ true → σ x ≡ x
   unmoved-plain x e = ex .injective (σ x) x (ex .plain (σ x) e)
 
+  -- a test that only plain bytes pass says the same of what is exchanged
   pub test-kept : (test : ℕ → Bool) → ((x : ℕ) → test x ≡ true → isPlain x ≡ true) → (x : ℕ) → test (σ x) ≡ test x
   test-kept test only x = unseen σ test x (λ e. ex .plain x (only x e)) (λ e. unmoved-plain x (only (σ x) e))
 
@@ -116,7 +117,7 @@ module _ {σ : ℕ → ℕ} (ex : Exchange σ) where
   unmoved-text [] e = refl
   unmoved-text (x ∷ s) e = let both = and-both (isPlain (σ x)) (all isPlain (map σ s)) e in rw (unmoved-plain x (both .0), unmoved-text s (both .1))
 
-  -- a test that only plain texts pass
+  -- a test that only plain texts pass says the same of what is exchanged
   pub text-kept : (test : List ℕ → Bool) → ((s : List ℕ) → test s ≡ true → all isPlain s ≡ true) → (s : List ℕ) → test (map σ s) ≡ test s
   text-kept test only s = unseen (map σ) test s (λ e. plain-text s (only s e)) (λ e. unmoved-text s (only (map σ s) e))
 
@@ -330,12 +331,15 @@ module _ (a b : ℕ) where
         plain = λ x e. ap (swap a b) (ex .plain x e) ∙ swap-other x (λ z. delimits-other a x p e (sym z)) (λ z. delimits-other b x q e (sym z));
       }
 
+abbrev pub inNeither : (xs ys : List ℕ) → ℕ → Bool
+inNeither xs ys z = not (isIn z xs) && not (isIn z ys)
+
 -- an exchange that takes the bytes xs to the bytes ys in turn, and leaves what is in neither
 pub record Takes (xs ys : List ℕ) : Type 0 where
   pub by : ℕ → ℕ
   pub exchange : Exchange by
   pub takes : map by xs ≡ ys
-  pub leaves : (z : ℕ) → isIn z xs ≡ false → isIn z ys ≡ false → by z ≡ z
+  pub leaves : (z : ℕ) → inNeither xs ys z ≡ true → by z ≡ z
 
 in-exchanged : {σ : ℕ → ℕ} → Exchange σ → (x : ℕ) (l : List ℕ) → isIn (σ x) (map σ l) ≡ isIn x l
 unfolding isIn
@@ -355,16 +359,17 @@ module _ (x y : ℕ) (xs ys : List ℕ) (may-x : mayDelimit x ≡ true) (may-y :
         leaves = left;
       }
     where
-      left : (z : ℕ) → (eqb z x || isIn z xs) ≡ false → (eqb z y || isIn z ys) ≡ false → swap (t .by x) y (t .by z) ≡ z
-      left z p q =
-          let no-x = or-neither (eqb z x) (isIn z xs) p in
-          let no-y = or-neither (eqb z y) (isIn z ys) q in
-          let stays = t .leaves z (no-x .1) (no-y .1) in
+      left : (z : ℕ) → (not (eqb z x || isIn z xs) && not (eqb z y || isIn z ys)) ≡ true → swap (t .by x) y (t .by z) ≡ z
+      left z e =
+          let both = and-both (not (eqb z x || isIn z xs)) (not (eqb z y || isIn z ys)) e in
+          let no-x = or-neither (eqb z x) (isIn z xs) (not-true _ (both .0)) in
+          let no-y = or-neither (eqb z y) (isIn z ys) (not-true _ (both .1)) in
+          let stays = t .leaves z (rw (no-x .1, no-y .1)) in
           ap (swap (t .by x) y) stays ∙ swap-other (t .by x) y z (λ e. eqb-false z x (no-x .0) (t .exchange .injective z x (stays ∙ e))) (eqb-false z y (no-y .0))
 
 exchange-each : (xs ys : List ℕ) → length xs ≡ length ys → all mayDelimit xs ≡ true → all mayDelimit ys ≡ true → distinct xs ≡ true → distinct ys ≡ true → Takes xs ys
 unfolding all distinct
-exchange-each [] [] l p q r s = record { by = λ z. z; exchange = record { injective = λ x y e. e; plain = λ x e. refl }; takes = refl; leaves = λ z e f. refl }
+exchange-each [] [] l p q r s = record { by = λ z. z; exchange = record { injective = λ x y e. e; plain = λ x e. refl }; takes = refl; leaves = λ z e. refl }
 exchange-each [] (y ∷ ys) l p q r s = absurd (omega arith)
 exchange-each (x ∷ xs) [] l p q r s = absurd (omega arith)
 exchange-each (x ∷ xs) (y ∷ ys) l p q r s =
