@@ -13,26 +13,27 @@ use Rattle.hl7.specs.Text.{bytes}
 use Rattle.hl7.specs.Bytes.{isIn, all}
 use Rattle.hl7.specs.Cut.{Piece}
 use Rattle.hl7.specs.Place.{carriageReturn, delimsOf}
-use Rattle.hl7.specs.Delimiters.{mayDelimit}
+use Rattle.hl7.specs.Delimiters.{mayDelimit, fiveOf}
 use Rattle.hl7.specs.Refusals.{Told, told, Row, row, firstRow, messageRows, formRows}
 use Rattle.hl7.specs.declared.place.Delims.{Delims}
 use Rattle.hl7.proofs.Comparing.{and-both, or-neither, all-append}
-use Rattle.hl7.proofs.Delimiting.{isPlain}
-use Rattle.hl7.proofs.Exchanging.{Exchange, exchanged, digit-plain, plain-text, delims-exchanged, field-moved}
+use Rattle.hl7.proofs.Delimiting.{Delimiting, isPlain}
+use Rattle.hl7.proofs.Exchanging.{Exchange, exchanged, digit-plain, every, inNeither, Takes, exchange-between, exchange-delims, plain-text, delims-exchanged, field-moved}
 use Rattle.grade.specs.Values.{isStamp}
 use Rattle.grade.specs.Rule.{theEnd, counted, severityLetter, segmentNames, nameBytes}
 use Rattle.grade.specs.Strict.{keep}
 use Rattle.grade.specs.Order.{mayFollow}
 use Rattle.grade.specs.Findings.{ruleNumbered, findingAt, findingOf, breaks, places, findings}
+use Rattle.grade.specs.Book.{decoded}
 use Rattle.grade.specs.Header.{mshOf, headerOf, anyWrong, headerFinding, onlyIf, headerFindings}
 use Rattle.grade.specs.Admission.{bookRows, admitRows}
-use Rattle.grade.specs.Grading.{sectionFor, findingsBy, findingsFor}
+use Rattle.grade.specs.Grading.{sectionFor, findingsBy, findingsFor, gradeOf}
 use Rattle.grade.specs.declared.rule.Severity.{Severity}
 use Rattle.grade.specs.declared.rule.Rule.{Rule}
 use Rattle.grade.specs.declared.header.Header.{Header}
 use Rattle.grade.specs.declared.finding.Finding.{Finding}
 use Rattle.grade.proofs.Naming.{at-counted, no-name}
-use Rattle.grade.proofs.Exchanging.{stamp-plain, Unmoved, msh-exchanged, admit-kept, listed-kept}
+use Rattle.grade.proofs.Exchanging.{stamp-plain, Unmoved, allIn, unmoved-by, msh-exchanged, admit-kept, listed-kept, exchanged-grade}
 use Rattle.ack.specs.Decimal.{digit, lastDigits, decimal}
 use Rattle.ack.specs.Layout.{ownByte, own, marked, joined, copied, mshLine, has, isHeader, isFault, letter, verdict, msaLine, componentParts, valueParts, placeParts, codeText, errLine, ended, ackLines, ackBytes}
 use Rattle.ack.specs.Answers.{outcomeBy, byRows, writeRows, ackFor, answerOf}
@@ -286,3 +287,26 @@ module _ {σ : ℕ → ℕ} (ex : Exchange σ) where
     exchanged-answer answered =
         let right : isStamp stamp ≡ true = not-false (isStamp stamp) (answered-exactly m b stamp control out .0 answered 9) in
         written-is (map σ m) b stamp control out (ap (λ (t : Told). t .number) exchanged-told ∙ answered) .0 ∙ ack-for right ∙ ap (map σ) (sym (written-is m b stamp control out answered .0))
+
+-- ---- any five will do
+-- the message with the delimiters e instead of its own: it is graded alike and gets the same number and detail, and its ACK has e instead of the message's own too
+pub record Rewritten (m b : List ℕ) (e : Delims) : Type 0 where
+  pub how : Takes (fiveOf (delimsOf m)) (fiveOf e)
+  pub delims : delimsOf (map (how .by) m) ≡ e
+  pub grade : gradeOf (map (how .by) m) b ≡ gradeOf m b
+  pub told : (stamp : List ℕ) (control : ℕ) (out : List ℕ) → answerOf (map (how .by) m) b stamp control out .told ≡ answerOf m b stamp control out .told
+  pub written : (stamp : List ℕ) (control : ℕ) (out : List ℕ) → answerOf m b stamp control out .told .number ≡ 0
+      → writtenOf (answerOf (map (how .by) m) b stamp control out) ≡ map (how .by) (writtenOf (answerOf m b stamp control out))
+
+-- where both fives may delimit, as those of a message that passes row 4, and no key or code of the book has one of them
+pub any-five : (m b : List ℕ) {e : Delims} → Delimiting (delimsOf m) → Delimiting e → every (allIn (inNeither (fiveOf (delimsOf m)) (fiveOf e))) (decoded b) ≡ true → Rewritten m b e
+any-five m b own other free =
+    let how = exchange-between own other in
+    let still = unmoved-by _ (how .leaves) b free in
+    record {
+      how = how;
+      delims = delims-exchanged (how .exchange) m ∙ exchange-delims own other;
+      grade = exchanged-grade (how .exchange) m b still;
+      told = exchanged-told (how .exchange) m b still;
+      written = exchanged-answer (how .exchange) m b still;
+    }
