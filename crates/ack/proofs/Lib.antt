@@ -7,4 +7,5 @@ pub mod Answering
 pub mod Admitting
 pub mod Reading
 pub mod Promises
+pub mod Exchanging
 pub mod Samples

@@ -20,6 +20,7 @@ pub mod Segments
 pub mod Stepping
 pub mod Few
 pub mod Grading
+pub mod Exchanging
 pub mod Samples
 pub mod BookSamples
 pub mod ValueSamples

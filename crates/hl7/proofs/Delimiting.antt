@@ -35,7 +35,7 @@ distinct-one (n ∷ l) (suc j) (suc k) e h g same = ap suc (distinct-one l j k (
 abbrev pub isPlain : ℕ → Bool
 isPlain y = not (mayDelimit y)
 
-delimits-other : (x y : ℕ) → mayDelimit x ≡ true → isPlain y ≡ true → x ≡ y → ⊥
+pub delimits-other : (x y : ℕ) → mayDelimit x ≡ true → isPlain y ≡ true → x ≡ y → ⊥
 delimits-other x y e p same = true≢false (sym e ∙ ap mayDelimit same ∙ not-true _ p)
 
 -- a plain text holds no delimiter

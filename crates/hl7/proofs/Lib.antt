@@ -5,4 +5,5 @@ pub mod Walking
 pub mod Placing
 pub mod Delimiting
 pub mod Refusing
+pub mod Exchanging
 pub mod Samples
