@@ -3,131 +3,34 @@
 use mathlib.Core.Path.{_≡_, refl, sym, ap, ap₂, _∙_}
 use mathlib.Core.Bool.{Bool, true, false, cond, not, _||_}
 use mathlib.Core.List.{List, [], _∷_, _++_, map, flatMap, map-append}
-use Prim.Native.Nat.{ℕ, zero, suc, _+_, _/_, _%_, _<_}
+use Prim.Native.Nat.{ℕ}
 use Prim.Native.Char.{code}
-use native.Mathlib.Omega.{arith}
 use lib.Dec.{eqb, ltb}
 use lib.ListN.{length, length-map}
-use borrow.Author.Tests.{le-leb, ltb-true, not-false}
+use borrow.Author.Tests.{not-false}
 use Rattle.hl7.specs.Text.{bytes}
-use Rattle.hl7.specs.Bytes.{isIn, all}
+use Rattle.hl7.specs.Bytes.{isIn, all, differs}
 use Rattle.hl7.specs.Cut.{Piece}
 use Rattle.hl7.specs.Place.{carriageReturn, delimsOf}
 use Rattle.hl7.specs.Delimiters.{mayDelimit, fiveOf}
 use Rattle.hl7.specs.Refusals.{Told, told, Row, row, firstRow, messageRows, formRows}
 use Rattle.hl7.specs.declared.place.Delims.{Delims}
-use Rattle.hl7.proofs.Comparing.{and-both, or-neither, all-append}
+use Rattle.hl7.proofs.Comparing.{and-both, or-neither}
 use Rattle.hl7.proofs.Delimiting.{Delimiting, isPlain}
-use Rattle.hl7.proofs.Exchanging.{Exchange, exchanged, digit-plain, every, inNeither, Takes, exchange-between, exchange-delims, plain-text, delims-exchanged, field-moved}
+use Rattle.hl7.proofs.Exchanging.{Exchange, exchanged, every, inNeither, Takes, exchange-between, exchange-delims, plain-text, delims-exchanged, field-moved}
 use Rattle.grade.specs.Values.{isStamp}
-use Rattle.grade.specs.Rule.{theEnd, counted, severityLetter, segmentNames, nameBytes}
-use Rattle.grade.specs.Strict.{keep}
-use Rattle.grade.specs.Order.{mayFollow}
-use Rattle.grade.specs.Findings.{ruleNumbered, findingAt, findingOf, breaks, places, findings}
 use Rattle.grade.specs.Book.{decoded}
-use Rattle.grade.specs.Header.{mshOf, headerOf, anyWrong, headerFinding, onlyIf, headerFindings}
+use Rattle.grade.specs.Header.{mshOf}
 use Rattle.grade.specs.Admission.{bookRows, admitRows}
-use Rattle.grade.specs.Grading.{sectionFor, findingsBy, findingsFor, gradeOf}
-use Rattle.grade.specs.declared.rule.Severity.{Severity}
-use Rattle.grade.specs.declared.rule.Rule.{Rule}
-use Rattle.grade.specs.declared.header.Header.{Header}
+use Rattle.grade.specs.Grading.{findingsFor, gradeOf}
 use Rattle.grade.specs.declared.finding.Finding.{Finding}
-use Rattle.grade.proofs.Naming.{at-counted, no-name}
-use Rattle.grade.proofs.Exchanging.{stamp-plain, Unmoved, allIn, unmoved-by, msh-exchanged, admit-kept, listed-kept, exchanged-grade}
-use Rattle.ack.specs.Decimal.{digit, lastDigits, decimal}
-use Rattle.ack.specs.Layout.{ownByte, own, marked, joined, copied, mshLine, has, isHeader, isFault, letter, verdict, msaLine, componentParts, valueParts, placeParts, codeText, errLine, ended, ackLines, ackBytes}
+use Rattle.grade.proofs.Exchanging.{Unmoved, allIn, unmoved-by, msh-exchanged, admit-kept, listed-kept, exchanged-grade}
+use Rattle.ack.specs.Decimal.{decimal}
+use Rattle.ack.specs.Layout.{ownByte, own, marked, joined, copied, mshLine, has, isHeader, isFault, verdict, msaLine, placeParts, codeText, errLine, ended, ackLines, ackBytes}
 use Rattle.ack.specs.Answers.{outcomeBy, byRows, writeRows, ackFor, answerOf}
-use Rattle.ack.proofs.Listing.{has-none}
 use Rattle.ack.proofs.Answering.{answer-unstamped}
+use Rattle.ack.proofs.Texts.{isText, isOwn, Each, IsText, isOdd, text-plain, decimal-text, stamp-text, letter-text, place-text, code-own, severity-is, listed-text}
 use Rattle.ack.proofs.Promises.{answered-exactly, writtenOf, written-is}
-
--- ---- what the layout is made of is plain, but for the message's own bytes
-digits-plain : (n : ℕ) → n < 10 → isPlain (digit n) ≡ true
-digits-plain n h = digit-plain (48 + n) (rw (le-leb 48 (48 + n) (omega arith), le-leb (48 + n) 57 (omega arith)))
-
-decimal-plain : (n : ℕ) → all isPlain (decimal n) ≡ true
-unfolding decimal lastDigits all
-decimal-plain n = of 20 n
-  where
-    last : (n : ℕ) → n < 10 → all isPlain (digit n ∷ []) ≡ true
-    last n h = rw (digits-plain n h)
-
-    more : (k n : ℕ) → all isPlain (lastDigits k (n / 10)) ≡ true → (b : Bool) → ltb n 10 ≡ b → all isPlain (cond b (digit n ∷ []) (lastDigits k (n / 10) ++ (digit (n % 10) ∷ []))) ≡ true
-    more k n ih true e = last n (ltb-true n 10 e)
-    more k n ih false e = all-append isPlain (lastDigits k (n / 10)) (digit (n % 10) ∷ []) ih (last (n % 10) (omega arith))
-
-    of : (k n : ℕ) → all isPlain (lastDigits k n) ≡ true
-    of zero n = refl
-    of (suc k) n = more k n (of k (n / 10)) (ltb n 10) refl
-
-name-plain : (n : ℕ) → all isPlain (nameBytes n) ≡ true
-unfolding all nameBytes segmentNames mayDelimit isIn
-name-plain n = by (counted n) refl
-  where
-    by : (t : Bool) → counted n ≡ t → all isPlain (nameBytes n) ≡ true
-    by true e = at-counted (λ (k : ℕ). all isPlain (nameBytes k)) refl n e
-    by false e = rw (no-name n e)
-
-letter-plain : (header fault : Bool) → isPlain (letter header fault) ≡ true
-unfolding mayDelimit isIn
-letter-plain true fault = refl
-letter-plain false true = refl
-letter-plain false false = refl
-
--- plain, or one of the standard five, for which the message's own stands
-abbrev isOwn : ℕ → Bool
-isOwn x = isIn x (bytes "|^~\\&") || isPlain x
-
-cond-own : (b : Bool) (s t : List ℕ) → all isOwn s ≡ true → all isOwn t ≡ true → all isOwn (cond b s t) ≡ true
-cond-own true s t e f = e
-cond-own false s t e f = f
-
-code-own : (n : ℕ) → all isOwn (codeText n) ≡ true
-unfolding codeText all mayDelimit isIn
-code-own n =
-    cond-own (eqb n 100) _ _ refl
-    (cond-own (eqb n 101) _ _ refl
-    (cond-own (eqb n 102) _ _ refl
-    (cond-own (eqb n 103) _ _ refl
-    (cond-own (eqb n 200) _ _ refl (cond-own (eqb n 201) _ _ refl (cond-own (eqb n 202) _ _ refl (cond-own (eqb n 203) _ _ refl refl)))))))
-
--- ---- a severity is a letter
-abbrev delimiting : Finding → Bool
-delimiting f = mayDelimit (f .severity)
-
-severity-plain : (s : Severity) → mayDelimit (severityLetter s) ≡ false
-unfolding mayDelimit isIn
-severity-plain Severity.Error = refl
-severity-plain Severity.Warning = refl
-severity-plain Severity.Informational = refl
-
-graded-letters : (o : ℕ → ℕ → Bool) (rules : List Rule) (sets : List (List (List ℕ))) (m : List ℕ) → has delimiting (findings o rules sets m) ≡ false
-unfolding findings
-graded-letters o rules sets m = has-none delimiting (findingOf o rules sets m) (keep (breaks o rules sets m) (places o rules sets m)) (λ e. of (e .0) (e .1 .0) (e .1 .1))
-  where
-    of : (n j r : ℕ) → delimiting (findingAt o rules sets m n j r) ≡ false
-    of n zero r = severity-plain Severity.Error
-    of n (suc i) r = severity-plain (ruleNumbered o rules sets m i .severity)
-
-header-letters : (h : Header) → has delimiting (headerFindings h) ≡ false
-unfolding headerFindings has
-header-letters h = only (h .«type_wrong») 200 9 1 _ (only (h .«event_wrong») 201 9 2 _ (only (h .«processing_wrong») 202 11 1 _ (last (h .«version_wrong»))))
-  where
-    only : (b : Bool) (error field component : ℕ) (l : List Finding) → has delimiting l ≡ false → has delimiting (onlyIf b (headerFinding error field component) ++ l) ≡ false
-    only true error field component l e = rw (severity-plain Severity.Error) e
-    only false error field component l e = e
-
-    last : (b : Bool) → has delimiting (onlyIf b (headerFinding 203 12 1)) ≡ false
-    last true = rw (severity-plain Severity.Error)
-    last false = refl
-
-listed-letters : (m b : List ℕ) → has delimiting (findingsFor m b) ≡ false
-unfolding findingsBy
-listed-letters m b = of (anyWrong (headerOf (delimsOf m) (mshOf m)))
-  where
-    of : (wrong : Bool) → has delimiting (cond wrong (headerFindings (headerOf (delimsOf m) (mshOf m))) (findings mayFollow (sectionFor m b .rules) (sectionFor m b .sets) m)) ≡ false
-    of true = header-letters (headerOf (delimsOf m) (mshOf m))
-    of false = graded-letters mayFollow (sectionFor m b .rules) (sectionFor m b .sets) m
 
 -- ---- number and detail depend on the ACK by its length alone
 told-alike : (rows : List Row) (stamp out ack other : List ℕ) → length other ≡ length ack → byRows (rows ++ writeRows stamp other out) other out .told ≡ byRows (rows ++ writeRows stamp ack out) ack out .told
@@ -141,16 +44,16 @@ told-alike rows stamp out ack other e = ap (λ (n : ℕ). outcomeBy (firstRow (r
     by t false z = rw z
 
 -- part by part
-infixr 20 _also_
-_also_ : {p q : List ℕ} {ps qs : List (List ℕ)} → p ≡ q → ps ≡ qs → p ∷ ps ≡ q ∷ qs
-e also f = ap₂ _∷_ e f
+infixr 20 _beside_
+_beside_ : {p q : List ℕ} {ps qs : List (List ℕ)} → p ≡ q → ps ≡ qs → p ∷ ps ≡ q ∷ qs
+e beside f = ap₂ _∷_ e f
 
 module _ {σ : ℕ → ℕ} (ex : Exchange σ) where
   fixed : (s : List ℕ) → all isPlain s ≡ true → s ≡ map σ s
   fixed s e = sym (plain-text ex s e)
 
   decimal-fixed : (n : ℕ) → decimal n ≡ map σ (decimal n)
-  decimal-fixed n = fixed (decimal n) (decimal-plain n)
+  decimal-fixed n = fixed (decimal n) (text-plain (decimal n) (decimal-text n))
 
   -- ---- parts and lines
   marked-exchanged : (mark : ℕ) (parts : List (List ℕ)) → marked (σ mark) (map (map σ) parts) ≡ map σ (marked mark parts)
@@ -177,13 +80,13 @@ module _ {σ : ℕ → ℕ} (ex : Exchange σ) where
       chosen : (a b c e f : Bool) → Delims → ℕ → ℕ
       chosen a b c e f d x = cond a (d .bar) (cond b (d .caret) (cond c (d .tilde) (cond e (d .backslash) (cond f (d .ampersand) x))))
 
-      by : (a b c e f : Bool) → ((a || (b || (c || (e || (f || false))))) || isPlain x) ≡ true → chosen a b c e f (exchanged σ d) x ≡ σ (chosen a b c e f d x)
+      by : (a b c e f : Bool) → ((a || (b || (c || (e || (f || false))))) || isText x) ≡ true → chosen a b c e f (exchanged σ d) x ≡ σ (chosen a b c e f d x)
       by true b c e f h = refl
       by false true c e f h = refl
       by false false true e f h = refl
       by false false false true f h = refl
       by false false false false true h = refl
-      by false false false false false h = sym (ex .plain x h)
+      by false false false false false h = sym (ex .plain x (and-both (differs carriageReturn x) (isPlain x) h .1))
 
   own-exchanged : (d : Delims) (text : List ℕ) → all isOwn text ≡ true → own (exchanged σ d) text ≡ map σ (own d text)
   unfolding all
@@ -201,66 +104,57 @@ module _ {σ : ℕ → ℕ} (ex : Exchange σ) where
     msh-line msh stamp control e =
         ap (joined (σ (d .bar)))
         (fixed (bytes "MSH") refl
-        also own-exchanged d (bytes "^~\\&") refl
-        also copied-exchanged msh 5
-        also copied-exchanged msh 6
-        also copied-exchanged msh 3
-        also copied-exchanged msh 4
-        also fixed stamp e
-        also refl
-        also own-exchanged d (bytes "ACK^V04^ACK") refl
-        also decimal-fixed control
-        also copied-exchanged msh 11
-        also fixed (bytes "2.5.1") refl
-        also refl also refl
-        also fixed (bytes "NE") refl
-        also fixed (bytes "NE") refl
-        also refl also refl also refl also refl
-        also own-exchanged d (bytes "Z23^CDCPHINVS") refl
-        also refl)
+        beside own-exchanged d (bytes "^~\\&") refl
+        beside copied-exchanged msh 5
+        beside copied-exchanged msh 6
+        beside copied-exchanged msh 3
+        beside copied-exchanged msh 4
+        beside fixed stamp e
+        beside refl
+        beside own-exchanged d (bytes "ACK^V04^ACK") refl
+        beside decimal-fixed control
+        beside copied-exchanged msh 11
+        beside fixed (bytes "2.5.1") refl
+        beside refl beside refl
+        beside fixed (bytes "NE") refl
+        beside fixed (bytes "NE") refl
+        beside refl beside refl beside refl beside refl
+        beside own-exchanged d (bytes "Z23^CDCPHINVS") refl
+        beside refl)
         ∙ joined-exchanged (d .bar) _
 
-    msa-line : (msh : List ℕ) (second : ℕ) → isPlain second ≡ true → msaLine (exchanged σ d) (map σ msh) second ≡ map σ (msaLine d msh second)
+    msa-line : (msh : List ℕ) (second : ℕ) → IsText (second ∷ []) → msaLine (exchanged σ d) (map σ msh) second ≡ map σ (msaLine d msh second)
     unfolding msaLine all mayDelimit isIn
-    msa-line msh second e = ap (joined (σ (d .bar))) (fixed (bytes "MSA") refl also fixed (code "A" ∷ second ∷ []) (rw e) also copied-exchanged msh 10 also refl) ∙ joined-exchanged (d .bar) _
+    msa-line msh second e = ap (joined (σ (d .bar))) (fixed (bytes "MSA") refl beside fixed (code "A" ∷ second ∷ []) (text-plain (code "A" ∷ second ∷ []) e) beside copied-exchanged msh 10 beside refl) ∙ joined-exchanged (d .bar) _
 
-    unless-fixed : (b : Bool) (ps : List (List ℕ)) → ps ≡ map (map σ) ps → cond b [] ps ≡ map (map σ) (cond b [] ps)
-    unless-fixed true ps e = refl
-    unless-fixed false ps e = e
+    each-fixed : (ps : List (List ℕ)) → Each IsText ps → ps ≡ map (map σ) ps
+    each-fixed [] e = refl
+    each-fixed (p ∷ ps) e = fixed p (text-plain p (e .0)) beside each-fixed ps (e .1)
 
-    place-fixed : (f : Finding) → placeParts f ≡ map (map σ) (placeParts f)
-    unfolding placeParts valueParts componentParts
-    place-fixed f =
-        unless-fixed (eqb (f .name) theEnd) _
-        (fixed (nameBytes (f .name)) (name-plain (f .name))
-        also decimal-fixed (f .ordinal)
-        also unless-fixed (eqb (f .field) 0) _
-        (decimal-fixed (f .field) also decimal-fixed (f .repetition) also unless-fixed (eqb (f .component) 0) _ (decimal-fixed (f .component) also refl)))
-
-    err-line : (f : Finding) → mayDelimit (f .severity) ≡ false → errLine (exchanged σ d) f ≡ map σ (errLine d f)
+    err-line : (f : Finding) → isOdd f ≡ false → errLine (exchanged σ d) f ≡ map σ (errLine d f)
     unfolding errLine all mayDelimit isIn
     err-line f e =
         ap (joined (σ (d .bar)))
         (fixed (bytes "ERR") refl
-        also refl
-        also (ap (joined (σ (d .caret))) (place-fixed f) ∙ joined-exchanged (d .caret) (placeParts f))
-        also own-exchanged d (codeText (f .code)) (code-own (f .code))
-        also fixed (f .severity ∷ []) (rw e)
-        also (ap₂ _++_ (decimal-fixed (f .rule)) (own-exchanged d (bytes "^^L") refl) ∙ sym (map-append σ (decimal (f .rule)) (own d (bytes "^^L"))))
-        also refl)
+        beside refl
+        beside (ap (joined (σ (d .caret))) (each-fixed (placeParts f) (place-text f)) ∙ joined-exchanged (d .caret) (placeParts f))
+        beside own-exchanged d (codeText (f .code)) (code-own (f .code))
+        beside fixed (f .severity ∷ []) (text-plain (f .severity ∷ []) (severity-is f e))
+        beside (ap₂ _++_ (decimal-fixed (f .rule)) (own-exchanged d (bytes "^^L") refl) ∙ sym (map-append σ (decimal (f .rule)) (own d (bytes "^^L"))))
+        beside refl)
         ∙ joined-exchanged (d .bar) _
 
-    err-lines : (findings : List Finding) → has delimiting findings ≡ false → map (errLine (exchanged σ d)) findings ≡ map (map σ) (map (errLine d) findings)
+    err-lines : (findings : List Finding) → has isOdd findings ≡ false → map (errLine (exchanged σ d)) findings ≡ map (map σ) (map (errLine d) findings)
     unfolding has
     err-lines [] e = refl
-    err-lines (f ∷ findings) e = let both = or-neither (delimiting f) (has delimiting findings) e in err-line f (both .0) also err-lines findings (both .1)
+    err-lines (f ∷ findings) e = let both = or-neither (isOdd f) (has isOdd findings) e in err-line f (both .0) beside err-lines findings (both .1)
 
     -- ---- the ACK
-    pub ack-exchanged : (msh stamp : List ℕ) (control : ℕ) (findings : List Finding) → all isPlain stamp ≡ true → has delimiting findings ≡ false
+    pub ack-exchanged : (msh stamp : List ℕ) (control : ℕ) (findings : List Finding) → all isPlain stamp ≡ true → has isOdd findings ≡ false
         → ackBytes (exchanged σ d) (map σ msh) stamp control findings ≡ map σ (ackBytes d msh stamp control findings)
     unfolding ackBytes
     ack-exchanged msh stamp control findings e f =
-        ap (flatMap ended) (msh-line msh stamp control e also msa-line msh (verdict findings) (letter-plain (has isHeader findings) (has isFault findings)) also err-lines findings f)
+        ap (flatMap ended) (msh-line msh stamp control e beside msa-line msh (verdict findings) (letter-text (has isHeader findings) (has isFault findings)) beside err-lines findings f)
         ∙ lines-exchanged (ackLines d msh stamp control findings)
 
   -- ---- the answer
@@ -268,7 +162,7 @@ module _ {σ : ℕ → ℕ} (ex : Exchange σ) where
     ack-for : isStamp stamp ≡ true → ackFor (map σ m) b stamp control ≡ map σ (ackFor m b stamp control)
     ack-for e =
         rw (delims-exchanged ex m, msh-exchanged ex m, listed-kept ex m b still)
-        (ack-exchanged (delimsOf m) (mshOf m) stamp control (findingsFor m b) (stamp-plain stamp e) (listed-letters m b))
+        (ack-exchanged (delimsOf m) (mshOf m) stamp control (findingsFor m b) (text-plain stamp (stamp-text stamp e)) (listed-text m b))
 
     -- number and detail are the same
     pub exchanged-told : answerOf (map σ m) b stamp control out .told ≡ answerOf m b stamp control out .told

@@ -5,6 +5,7 @@ pub mod Sizes
 pub mod Listing
 pub mod Answering
 pub mod Admitting
+pub mod Texts
 pub mod Reading
 pub mod Promises
 pub mod Exchanging

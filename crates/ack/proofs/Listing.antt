@@ -1,6 +1,6 @@
 -- The ERRs of lists of findings, one after the other, and the loops that write them. Assumes nothing.
 use mathlib.Core.Path.{_≡_, refl, sym, ap, subst, subst⁻¹, _∙_}
-use mathlib.Core.Bool.{Bool, true, false, cond, _||_}
+use mathlib.Core.Bool.{Bool, true, false, cond, _||_, or-false, or-assoc}
 use mathlib.Core.List.{List, [], _∷_, _++_, map, flatMap, append-nil, append-assoc}
 use Prim.Native.Nat.{ℕ, zero, suc, _+_, _≤_, _<_, min}
 use native.Mathlib.Omega.{arith}
@@ -28,14 +28,6 @@ use Rattle.ack.specs.declared.errs.Put.{Put}
 use Rattle.ack.proofs.Sizes.{errs-short}
 use Rattle.ack.proofs.Writing.{_then_, wrote-none, wrote-as, wrote-length, wrote-at-start}
 
-or-assoc : (a b c : Bool) → ((a || b) || c) ≡ (a || (b || c))
-or-assoc true b c = refl
-or-assoc false b c = refl
-
-or-none : (a : Bool) → (a || false) ≡ a
-or-none true = refl
-or-none false = refl
-
 has-append : (test : Finding → Bool) (l k : List Finding) → has test (l ++ k) ≡ (has test l || has test k)
 unfolding has
 has-append test [] k = refl
@@ -57,7 +49,7 @@ pub puts-one : {d : Delims} {f : Finding} {o p : List ℕ} {at next : ℕ} {faul
 unfolding errs flatMap has
 puts-one {d} {f} w e = record {
   wrote = wrote-as w (sym (append-nil (ended (errLine d f))));
-  faulty = e ∙ sym (or-none (isFault f));
+  faulty = e ∙ sym (or-false (isFault f));
 }
 
 pub puts-then : {d : Delims} {l k : List Finding} {o p q : List ℕ} {at : ℕ} {r s : Put} → Puts d l o at p r → Puts d k p (r .at) q s → Puts d (l ++ k) o at q (record { at = s .at; fault = r .fault || s .fault })
@@ -140,4 +132,4 @@ completes-more fault {put} inv split w after r others =
     rw (or-assoc fault (put .fault) (r .fault)) (inv after _ (puts-as split (puts-then w others)))
 
 pub completes-over : {d : Delims} {whole left : List Finding} {o now : List ℕ} {at to : ℕ} (fault : Bool) → Completes d whole left o at now to fault → left ≡ [] → length now < limit → to ≤ limit → Puts d whole o at now (record { at = to; fault = fault })
-completes-over {d} fault inv e room near = rw (or-none fault) at (inv _ _ (puts-as e (puts-none d room near)))
+completes-over {d} fault inv e room near = rw (or-false fault) at (inv _ _ (puts-as e (puts-none d room near)))

@@ -1,38 +1,31 @@
 -- What `answerOf` says: each refusal exactly when its row is the first to hold; and of the bytes that are written, read by the definitions for any message,
 -- that they are MSH, MSA and one ERR for each finding that the section has, in order, with AA in MSA-1 exactly when no finding is E or W. Assumes nothing.
 use mathlib.Core.Path.{_≡_, refl, sym, ap, subst, subst⁻¹, _∙_}
-use mathlib.Core.Bool.{Bool, true, false, cond, _||_, true≢false}
+use mathlib.Core.Bool.{Bool, true, false, cond, true≢false}
 use mathlib.Core.Logic.{_↔_}
 use mathlib.Core.List.{List, [], _∷_, _++_, map}
-use Prim.Native.Nat.{ℕ, zero, suc, _+_, _^_, _≤_, _<_}
+use Prim.Native.Nat.{ℕ, _+_, _^_, _≤_, _<_}
 use Prim.Native.Char.{code}
 use native.Mathlib.Omega.{arith}
 use native.Mathlib.Decide.{ℕ-discrete}
-use native.Mathlib.Numerals.{one-add}
-use lib.Dec.{eqb, ltb}
+use lib.Dec.{ltb}
 use lib.ListN.{length, getD, take, drop, length-append, length-drop}
-use lib.Seq.{split-at, take-at, drop-at, take-all}
-use borrow.Author.Tests.{ne-eqb, eqb-true, leb-true, ltb-false, not-false}
+use lib.Seq.{take-at, drop-at}
+use borrow.Author.Tests.{ltb-false, not-false}
 use Rattle.hl7.specs.Text.{bytes}
-use Rattle.hl7.specs.Bytes.{isDigit, isIn, distinct, all, differs}
+use Rattle.hl7.specs.Bytes.{isIn, distinct, all}
 use Rattle.hl7.specs.Place.{carriageReturn, delimsOf, nthOf, cutUnless, segmentsOf, place}
 use Rattle.hl7.specs.Delimiters.{mayDelimit, fiveOf, opens}
 use Rattle.hl7.specs.declared.place.Delims.{Delims}
 use Rattle.hl7.specs.Refusals.{messageLimit, Told, told, firstRow, numbersOf, apart, holdsAt, First, messageRows, formRows}
-use Rattle.hl7.proofs.Comparing.{and-both, all-append}
 use Rattle.hl7.proofs.Cutting.{part-short}
 use Rattle.hl7.proofs.Delimiting.{Delimiting, plain-without, delimiters-without, delimiter-at, opens-delimiting}
-use Rattle.grade.specs.Digits.{isSign, digitRun}
 use Rattle.grade.specs.Values.{isStamp}
-use Rattle.grade.specs.Rule.{severityLetter}
-use Rattle.grade.specs.Strict.{keep}
 use Rattle.grade.specs.Order.{mayFollow}
-use Rattle.grade.specs.Findings.{ruleNumbered, findingAt, findingOf, breaks, places, findings, Demand3}
-use Rattle.grade.specs.Header.{mshOf, headerOf, anyWrong, headerFinding, onlyIf, headerFindings}
+use Rattle.grade.specs.Findings.{findings, Demand3}
+use Rattle.grade.specs.Header.{mshOf, headerOf, anyWrong, headerFindings}
 use Rattle.grade.specs.Admission.{bookRows, admitRows}
 use Rattle.grade.specs.Grading.{sectionFor, findingsBy, findingsFor}
-use Rattle.grade.specs.declared.rule.Severity.{Severity}
-use Rattle.grade.specs.declared.rule.Rule.{Rule}
 use Rattle.grade.specs.declared.header.Header.{Header}
 use Rattle.grade.specs.declared.finding.Finding.{Finding}
 use Rattle.grade.proofs.Demand3.{findings-meet}
@@ -44,42 +37,12 @@ use Rattle.ack.specs.Answers.{Outcome, outcome, outcomeBy, ackFor, answe
 use Rattle.ack.specs.Pieces.{findingLimit, shortOr}
 use Rattle.ack.proofs.Sizes.{ack-short}
 use Rattle.ack.proofs.Admitting.{stamp-length, admitted-short, admitted-few}
-use Rattle.ack.proofs.Listing.{has-none, graded-plain, header-verdict}
+use Rattle.ack.proofs.Listing.{graded-plain, header-verdict}
 use Rattle.ack.proofs.Answering.{number-is, refused-is, written-is as ack-is, table-exactly, table-none, write-stamp, write-right, answer-admitted, answer-stopped}
+use Rattle.ack.proofs.Texts.{text-clean, stamp-text, listed-text}
 use Rattle.ack.proofs.Reading.{clean, Fine, Apart, part-without, ack-delims, ack-segments, ar-exactly, ae-exactly, aa-exactly}
 
 -- ---- what is listed
--- a severity is a letter
-severity-letter : (s : Severity) → eqb (severityLetter s) carriageReturn ≡ false
-severity-letter Severity.Error = refl
-severity-letter Severity.Warning = refl
-severity-letter Severity.Informational = refl
-
-module _ (o : ℕ → ℕ → Bool) (rules : List Rule) (sets : List (List (List ℕ))) (m : List ℕ) where
-  graded-letters : has (λ f. eqb (f .severity) carriageReturn) (findings o rules sets m) ≡ false
-  unfolding findings
-  graded-letters = has-none (λ f. eqb (f .severity) carriageReturn) (findingOf o rules sets m) (keep (breaks o rules sets m) (places o rules sets m)) (λ e. of (e .0) (e .1 .0) (e .1 .1))
-    where
-      of : (n j r : ℕ) → eqb (findingAt o rules sets m n j r .severity) carriageReturn ≡ false
-      of n zero r = refl
-      of n (suc i) r = severity-letter (ruleNumbered o rules sets m i .severity)
-
-only-letters : (b : Bool) (f : Finding) (l : List Finding) → eqb (f .severity) carriageReturn ≡ false → has (λ g. eqb (g .severity) carriageReturn) l ≡ false
-    → has (λ g. eqb (g .severity) carriageReturn) (onlyIf b f ++ l) ≡ false
-unfolding has
-only-letters true f l e h = rw e h
-only-letters false f l e h = h
-
-header-letters : (h : Header) → has (λ f. eqb (f .severity) carriageReturn) (headerFindings h) ≡ false
-unfolding headerFindings has
-header-letters h =
-    only-letters (h .«type_wrong») (headerFinding 200 9 1) _ refl
-    (only-letters (h .«event_wrong») (headerFinding 201 9 2) _ refl (only-letters (h .«processing_wrong») (headerFinding 202 11 1) _ refl (last (h .«version_wrong»))))
-  where
-    last : (e : Bool) → has (λ f. eqb (f .severity) carriageReturn) (onlyIf e (headerFinding 203 12 1)) ≡ false
-    last true = refl
-    last false = refl
-
 -- a finding about the header is an E
 header-errors : (h : Header) → has isHeader (headerFindings h) ≡ true → has isFault (headerFindings h) ≡ true
 unfolding headerFindings has
@@ -93,14 +56,6 @@ header-errors h = by (h .«type_wrong») (h .«event_wrong») (h .«processing_w
     by false false false false h = absurd (true≢false (sym h))
 
 module _ (m b : List ℕ) where
-  listed-letters : has (λ f. eqb (f .severity) carriageReturn) (findingsFor m b) ≡ false
-  unfolding findingsBy
-  listed-letters = of (anyWrong (headerOf (delimsOf m) (mshOf m)))
-    where
-      of : (wrong : Bool) → has (λ f. eqb (f .severity) carriageReturn) (cond wrong (headerFindings (headerOf (delimsOf m) (mshOf m))) (findings mayFollow (sectionFor m b .rules) (sectionFor m b .sets) m)) ≡ false
-      of true = header-letters (headerOf (delimsOf m) (mshOf m))
-      of false = graded-letters mayFollow (sectionFor m b .rules) (sectionFor m b .sets) m
-
   listed-errors : has isHeader (findingsFor m b) ≡ true → has isFault (findingsFor m b) ≡ true
   unfolding findingsBy
   listed-errors = of (anyWrong (headerOf (delimsOf m) (mshOf m)))
@@ -111,41 +66,6 @@ module _ (m b : List ℕ) where
       of : (wrong : Bool) → has isHeader (listed wrong) ≡ true → has isFault (listed wrong) ≡ true
       of true = header-errors (headerOf (delimsOf m) (mshOf m))
       of false = λ e. absurd (true≢false (sym e ∙ graded-plain mayFollow (sectionFor m b .rules) (sectionFor m b .sets) m))
-
--- ---- the stamp has no CR
-digit-fine : (x : ℕ) → isDigit x ≡ true → differs carriageReturn x ≡ true
-digit-fine x e =
-    let low = leb-true 48 x (and-both _ _ e .0) in
-    rw (ne-eqb x carriageReturn (λ z. omega (arith, z, low)))
-
-sign-fine : (x : ℕ) → isSign x ≡ true → differs carriageReturn x ≡ true
-sign-fine x e = of (eqb x 43) (eqb x 45) refl refl e
-  where
-    of : (plus minus : Bool) → eqb x 43 ≡ plus → eqb x 45 ≡ minus → (plus || minus) ≡ true → differs carriageReturn x ≡ true
-    of true minus p q e = rw (ne-eqb x carriageReturn (λ z. omega (arith, z, eqb-true x 43 p)))
-    of false true p q e = rw (ne-eqb x carriageReturn (λ z. omega (arith, z, eqb-true x 45 q)))
-    of false false p q e = absurd (true≢false (sym e))
-
-run-clean : (v : List ℕ) → clean (take (digitRun v) v)
-unfolding digitRun all
-run-clean [] = refl
-run-clean (x ∷ v) = of (isDigit x) refl (run-clean v)
-  where
-    of : (b : Bool) → isDigit x ≡ b → clean (take (digitRun v) v) → clean (take (cond b (1 + digitRun v) 0) (x ∷ v))
-    of true e rest = rw (one-add (digitRun v)) (rw (digit-fine x e) rest)
-    of false e rest = refl
-
-stamp-clean : (v : List ℕ) → isStamp v ≡ true → clean v
-unfolding isStamp all
-stamp-clean v e =
-    let zone-ends = and-both _ _ (and-both _ _ e .0) in
-    let signed = and-both _ _ (zone-ends .0) in
-    let time-ends = and-both _ _ (signed .0) in
-    let long : length v ≡ 19 = eqb-true (length v) 19 (time-ends .0) in
-    let time : clean (take 14 v) = rw (eqb-true (digitRun v) 14 (time-ends .1)) at (run-clean v) in
-    let zone-run : clean (take 4 (drop 15 v)) = rw (eqb-true (digitRun (drop 15 v)) 4 (zone-ends .1)) at (run-clean (drop 15 v)) in
-    let zone : clean (drop 15 v) = subst clean (take-all 4 (drop 15 v) (omega (arith, length-drop 15 v))) zone-run in
-    subst clean (sym (split-at v 14 0 (omega arith))) (all-append (differs carriageReturn) (take 14 v) (getD v 14 0 ∷ drop 15 v) time (rw (sign-fine (getD v 14 0) (signed .1)) zone))
 
 -- ---- which result
 module _ (m b stamp : List ℕ) (control : ℕ) (out : List ℕ) where
@@ -228,23 +148,23 @@ module _ (m b stamp : List ℕ) (control : ℕ) (out : List ℕ) (answered : ans
   pub written-segments : segmentsOf (writtenOf (answerOf m b stamp control out)) ≡ ackLines (delimsOf m) (mshOf m) stamp control (findingsFor m b)
   written-segments =
       ap segmentsOf (written-is .0)
-      ∙ ack-segments (delimsOf m) (fine-by own-delimiting) (mshOf m) stamp control (findingsFor m b) (msh-clean m) (stamp-clean stamp stamp-right) (listed-letters m b)
+      ∙ ack-segments (delimsOf m) (fine-by own-delimiting) (mshOf m) stamp control (findingsFor m b) (msh-clean m) (text-clean stamp (stamp-text stamp stamp-right)) (listed-text m b)
 
   -- MSA-1, read as the first field of the second segment
   pub written-aa : (place (delimsOf m) (writtenOf (answerOf m b stamp control out)) 2 1 1 0 .bytes ≡ bytes "AA") ↔ (has isFault (findingsFor m b) ≡ false)
   written-aa =
       rw (written-is .0)
-      (aa-exactly (delimsOf m) (fine-by own-delimiting) (apart-by own-delimiting) (mshOf m) stamp control (findingsFor m b) (msh-clean m) (stamp-clean stamp stamp-right) (listed-letters m b) (listed-errors m b))
+      (aa-exactly (delimsOf m) (fine-by own-delimiting) (apart-by own-delimiting) (mshOf m) stamp control (findingsFor m b) (msh-clean m) (text-clean stamp (stamp-text stamp stamp-right)) (listed-text m b) (listed-errors m b))
 
   pub written-ar : (place (delimsOf m) (writtenOf (answerOf m b stamp control out)) 2 1 1 0 .bytes ≡ bytes "AR") ↔ (has isHeader (findingsFor m b) ≡ true)
   written-ar =
       rw (written-is .0)
-      (ar-exactly (delimsOf m) (fine-by own-delimiting) (apart-by own-delimiting) (mshOf m) stamp control (findingsFor m b) (msh-clean m) (stamp-clean stamp stamp-right) (listed-letters m b))
+      (ar-exactly (delimsOf m) (fine-by own-delimiting) (apart-by own-delimiting) (mshOf m) stamp control (findingsFor m b) (msh-clean m) (text-clean stamp (stamp-text stamp stamp-right)) (listed-text m b))
 
   pub written-ae : (place (delimsOf m) (writtenOf (answerOf m b stamp control out)) 2 1 1 0 .bytes ≡ bytes "AE") ↔ ((has isHeader (findingsFor m b) ≡ false) × (has isFault (findingsFor m b) ≡ true))
   written-ae =
       rw (written-is .0)
-      (ae-exactly (delimsOf m) (fine-by own-delimiting) (apart-by own-delimiting) (mshOf m) stamp control (findingsFor m b) (msh-clean m) (stamp-clean stamp stamp-right) (listed-letters m b))
+      (ae-exactly (delimsOf m) (fine-by own-delimiting) (apart-by own-delimiting) (mshOf m) stamp control (findingsFor m b) (msh-clean m) (text-clean stamp (stamp-text stamp stamp-right)) (listed-text m b))
 
   -- where a header check fails, the ACK is MSH, MSA with AR, and one ERR for each check that fails, in order
   pub refused-header : anyWrong (headerOf (delimsOf m) (mshOf m)) ≡ true

@@ -1,42 +1,33 @@
 -- What a reader finds in a written ACK: cut by its CRs it is MSH, MSA and one ERR for each finding, in order, and MSA-1 is what the findings make it.
 -- Assumes nothing.
 use mathlib.Core.Path.{_≡_, refl, sym, ap, subst, _∙_}
-use mathlib.Core.Bool.{Bool, true, false, cond, not, _&&_, _||_, true≢false}
+use mathlib.Core.Bool.{Bool, true, false, cond, _&&_, true≢false}
 use mathlib.Core.Logic.{_↔_}
 use mathlib.Core.List.{List, [], _∷_, _++_, map, flatMap, append-assoc}
-use Prim.Native.Nat.{ℕ, zero, suc, _+_, _/_, _%_}
+use Prim.Native.Nat.{ℕ, zero, suc, _+_}
 use Prim.Native.Char.{code}
 use native.Mathlib.Omega.{arith}
-use lib.Dec.{eqb, ltb}
+use lib.Dec.{eqb}
 use lib.ListN.{length, getD, take, drop}
-use borrow.Author.Tests.{ne-eqb, eqb-false, not-true}
+use borrow.Author.Tests.{eqb-false, not-true}
 use Rattle.hl7.specs.Text.{bytes}
 use Rattle.hl7.specs.Bytes.{all, differs, begins}
 use Rattle.hl7.specs.Cut.{ahead, cut, partAt, butLast}
 use Rattle.hl7.specs.Place.{delimsOf, carriageReturn, segmentsOf, nthOf, cutUnless, partOfField, isMsh, neverCut, fieldOf, componentOf, inField, inSegment, place}
 use Rattle.hl7.specs.Delimiters.{fiveOf}
 use Rattle.hl7.specs.declared.place.Delims.{Delims}
-use Rattle.hl7.proofs.Comparing.{and-both, all-append, all-take, all-drop}
+use Rattle.hl7.proofs.Comparing.{and-both, or-neither, all-append, all-take, all-drop}
 use Rattle.hl7.proofs.Cutting.{cut-delimiter, cut-other}
 use Rattle.hl7.proofs.Placing.{field-stands}
-use Rattle.grade.specs.Rule.{theEnd, counted, segmentNames, nameBytes}
 use Rattle.grade.specs.declared.finding.Finding.{Finding}
-use Rattle.ack.specs.Decimal.{digit, lastDigits, decimal}
-use Rattle.ack.specs.Layout.{ownByte, own, marked, joined, copied, mshLine, has, isHeader, isFault, letter, verdict, msaLine, componentParts, valueParts, placeParts, codeText, errLine, ended, ackLines, ackBytes}
-use Rattle.grade.proofs.Naming.{at-counted, no-name}
+use Rattle.ack.specs.Decimal.{decimal}
+use Rattle.ack.specs.Layout.{ownByte, own, marked, joined, copied, mshLine, has, isHeader, isFault, letter, verdict, msaLine, placeParts, codeText, errLine, ended, ackLines, ackBytes}
+use Rattle.ack.proofs.Texts.{isText, Each, _also_, each-as, text-clean, own-text-clean, decimal-text, letter-text, place-text, code-own, isOdd, severity-is}
 
 -- ---- parts that hold no mark
 -- the mark is not among the bytes
 abbrev pub without : ℕ → List ℕ → Type 0
 without mark s = all (differs mark) s ≡ true
-
-abbrev pub Each : (List ℕ → Type 0) → List (List ℕ) → Type 0
-Each P [] = Unit {0}
-Each P (p ∷ ps) = P p × Each P ps
-
-infixr 20 _also_
-_also_ : {A B : Type 0} → A → B → A × B
-a also b = (a, b)
 
 -- what stands before the first mark is the first part
 cut-ended : (mark : ℕ) (s rest : List ℕ) → without mark s → cut mark (s ++ (mark ∷ rest)) ≡ s ∷ cut mark rest
@@ -92,21 +83,8 @@ but-last (p ∷ (q ∷ lines)) = ap (λ (ps : List (List ℕ)). p ∷ ps) (but-l
 abbrev pub clean : List ℕ → Type 0
 clean s = without carriageReturn s
 
-letter-clean : (header fault : Bool) → differs carriageReturn (letter header fault) ≡ true
-letter-clean true fault = refl
-letter-clean false true = refl
-letter-clean false false = refl
-
-or-false : (t u : Bool) → (t || u) ≡ false → (t ≡ false) × (u ≡ false)
-or-false true u e = absurd (true≢false e)
-or-false false u e = (refl, e)
-
 part-clean : (n from : ℕ) (s : List ℕ) → clean s → clean (take n (drop from s))
 part-clean n from s e = all-take (differs carriageReturn) n (drop from s) (all-drop (differs carriageReturn) from s e)
-
-cond-clean : (b : Bool) (s t : List ℕ) → clean s → clean t → clean (cond b s t)
-cond-clean true s t e f = e
-cond-clean false s t e f = f
 
 -- none of the five delimiters is a CR
 abbrev pub Fine : Delims → Type 0
@@ -122,28 +100,8 @@ unfolding joined all
 joined-clean mark [] h e = refl
 joined-clean mark (p ∷ ps) h e = all-append (differs carriageReturn) p (marked mark ps) (e .0) (marked-clean mark ps h (e .1))
 
--- a digit
-digit-clean : (n : ℕ) → clean (digit n ∷ [])
-unfolding all
-digit-clean n = rw (ne-eqb (48 + n) carriageReturn (λ e. omega (arith, e)))
-
 decimal-clean : (n : ℕ) → clean (decimal n)
-unfolding decimal lastDigits all
-decimal-clean n = of 20 n
-  where
-    of : (k n : ℕ) → clean (lastDigits k n)
-    of zero n = refl
-    of (suc k) n =
-        cond-clean (ltb n 10) (digit n ∷ []) (lastDigits k (n / 10) ++ (digit (n % 10) ∷ [])) (digit-clean n)
-        (all-append (differs carriageReturn) (lastDigits k (n / 10)) (digit (n % 10) ∷ []) (of k (n / 10)) (digit-clean (n % 10)))
-
-name-clean : (n : ℕ) → clean (nameBytes n)
-unfolding all nameBytes segmentNames
-name-clean n = by (counted n) refl
-  where
-    by : (t : Bool) → counted n ≡ t → clean (nameBytes n)
-    by true e = at-counted (λ (k : ℕ). all (differs carriageReturn) (nameBytes k)) refl n e
-    by false e = rw (no-name n e)
+decimal-clean n = text-clean (decimal n) (decimal-text n)
 
 -- a field is a part of its segment
 copied-clean : (d : Delims) (msh : List ℕ) (k : ℕ) → clean msh → clean (copied d msh k)
@@ -207,59 +165,37 @@ module _ (d : Delims) (fine : Fine d) where
       also own-clean d fine (bytes "Z23^CDCPHINVS") refl
       also tt)
 
-  msa-clean : (msh : List ℕ) (second : ℕ) → clean msh → differs carriageReturn second ≡ true → clean (msaLine d msh second)
+  msa-clean : (msh : List ℕ) (second : ℕ) → clean msh → all isText (second ∷ []) ≡ true → clean (msaLine d msh second)
   unfolding msaLine all
-  msa-clean msh second h s = joined-clean (d .bar) _ bar-clean (refl, (rw s, (copied-clean d msh 10 h, tt)))
+  msa-clean msh second h s = joined-clean (d .bar) _ bar-clean (refl also text-clean (second ∷ []) s also copied-clean d msh 10 h also tt)
 
-  code-clean : (n : ℕ) → clean (codeText n)
-  unfolding codeText all
-  code-clean n =
-      cond-clean (eqb n 100) _ _ refl
-      (cond-clean (eqb n 101) _ _ refl
-      (cond-clean (eqb n 102) _ _ refl
-      (cond-clean (eqb n 103) _ _ refl
-      (cond-clean (eqb n 200) _ _ refl (cond-clean (eqb n 201) _ _ refl (cond-clean (eqb n 202) _ _ refl (cond-clean (eqb n 203) _ _ refl refl)))))))
-
-  each-cond : (b : Bool) (ps : List (List ℕ)) → Each clean ps → Each clean (cond b [] ps)
-  each-cond true ps e = tt
-  each-cond false ps e = e
-
-  place-clean : (f : Finding) → Each clean (placeParts f)
-  unfolding placeParts valueParts componentParts
-  place-clean f =
-      each-cond (eqb (f .name) theEnd) _
-      (name-clean (f .name)
-      also decimal-clean (f .ordinal)
-      also each-cond (eqb (f .field) 0) _
-      (decimal-clean (f .field) also decimal-clean (f .repetition) also each-cond (eqb (f .component) 0) _ (decimal-clean (f .component) also tt)))
-
-  err-clean : (f : Finding) → eqb (f .severity) carriageReturn ≡ false → clean (errLine d f)
+  err-clean : (f : Finding) → isOdd f ≡ false → clean (errLine d f)
   unfolding errLine all
   err-clean f s =
       joined-clean (d .bar) _ bar-clean
       (refl
       also refl
-      also joined-clean (d .caret) _ caret-clean (place-clean f)
-      also own-clean d fine (codeText (f .code)) (code-clean (f .code))
-      also (rw s)
+      also joined-clean (d .caret) _ caret-clean (each-as text-clean (placeParts f) (place-text f))
+      also own-clean d fine (codeText (f .code)) (own-text-clean (codeText (f .code)) (code-own (f .code)))
+      also text-clean (f .severity ∷ []) (severity-is f s)
       also all-append (differs carriageReturn) (decimal (f .rule)) (own d (bytes "^^L")) (decimal-clean (f .rule)) (own-clean d fine (bytes "^^L") refl)
       also tt)
 
-  errs-clean : (findings : List Finding) → has (λ f. eqb (f .severity) carriageReturn) findings ≡ false → Each clean (map (errLine d) findings)
+  errs-clean : (findings : List Finding) → has isOdd findings ≡ false → Each clean (map (errLine d) findings)
   unfolding has
   errs-clean [] e = tt
   errs-clean (f ∷ findings) e =
-      let both = or-false (eqb (f .severity) carriageReturn) (has (λ g. eqb (g .severity) carriageReturn) findings) e in
+      let both = or-neither (isOdd f) (has isOdd findings) e in
       (err-clean f (both .0), errs-clean findings (both .1))
 
   -- ---- the ACK
   -- what it copies holds no CR
-  module _ (msh stamp : List ℕ) (control : ℕ) (findings : List Finding) (headClean : clean msh) (stampClean : clean stamp) (letters : has (λ f. eqb (f .severity) carriageReturn) findings ≡ false) where
+  module _ (msh stamp : List ℕ) (control : ℕ) (findings : List Finding) (headClean : clean msh) (stampClean : clean stamp) (letters : has isOdd findings ≡ false) where
     ack-cut : cut carriageReturn (ackBytes d msh stamp control findings) ≡ ackLines d msh stamp control findings ++ ([] ∷ [])
     unfolding ackBytes
     ack-cut =
         lines-cut (ackLines d msh stamp control findings)
-        (msh-clean msh stamp control headClean stampClean, (msa-clean msh (verdict findings) headClean (letter-clean (has isHeader findings) (has isFault findings)), errs-clean findings letters))
+        (msh-clean msh stamp control headClean stampClean, (msa-clean msh (verdict findings) headClean (letter-text (has isHeader findings) (has isFault findings)), errs-clean findings letters))
 
     -- the segments of the ACK are MSH, MSA, and one ERR for each finding, in order
     pub ack-segments : segmentsOf (ackBytes d msh stamp control findings) ≡ ackLines d msh stamp control findings
@@ -325,7 +261,7 @@ letter-aa true fault = (λ e. absurd (omega (arith, e)), λ e. absurd (true≢fa
 letter-aa false true = (λ e. absurd (omega (arith, e)), λ e. absurd (true≢false (e .1)))
 letter-aa false false = (λ e. (refl, refl), λ e. refl)
 
-module _ (d : Delims) (fine : Fine d) (apart : Apart d) (msh stamp : List ℕ) (control : ℕ) (findings : List Finding) (headClean : clean msh) (stampClean : clean stamp) (letters : has (λ f. eqb (f .severity) carriageReturn) findings ≡ false) where
+module _ (d : Delims) (fine : Fine d) (apart : Apart d) (msh stamp : List ℕ) (control : ℕ) (findings : List Finding) (headClean : clean msh) (stampClean : clean stamp) (letters : has isOdd findings ≡ false) where
   -- MSA-1 of the ACK, as the bytes at segment 2, field 1
   abbrev pub msa1 : List ℕ
   msa1 = place d (ackBytes d msh stamp control findings) 2 1 1 0 .bytes

@@ -1,27 +1,25 @@
 -- Which five delimiters a message is cut by does not matter to grading: where its bytes that may delimit are exchanged among each other, and the book's keys and
 -- codes stay as they are, number, detail and findings are the same. Assumes nothing.
-use mathlib.Core.Path.{_≡_, refl, sym, ap, ap₂, subst, _∙_}
-use mathlib.Core.Bool.{Bool, true, false, cond, _&&_, _||_}
+use mathlib.Core.Path.{_≡_, refl, sym, ap, ap₂, _∙_}
+use mathlib.Core.Bool.{Bool, true, false, cond, _&&_}
 use mathlib.Core.List.{List, [], _∷_, map, List·Memᴰ, List·Memᴰ·head, List·Memᴰ·tail, List·Memᴰ·not-nil, List·Memᴰ·cases-cons}
 use mathlib.Core.Logic.{⊎-elim}
-use Prim.Native.Nat.{ℕ, zero, suc, _+_, _-_}
+use Prim.Native.Nat.{ℕ, zero, suc, _-_}
 use native.Mathlib.Omega.{arith}
-use native.Mathlib.Numerals.{one-add}
-use lib.Dec.{eqb, leb}
-use lib.ListN.{length, getD, take, drop, length-map, List·getD-map, take-append-drop}
-use lib.Seq.{take-length}
-use borrow.Author.Tests.{eqb-true, leb-true}
+use lib.Dec.{leb}
+use lib.ListN.{length, getD, drop, length-map, List·getD-map}
+use borrow.Author.Tests.{leb-true}
 use Rattle.hl7.specs.Text.{bytes}
-use Rattle.hl7.specs.Bytes.{within, isDigit, isIn, all, same}
+use Rattle.hl7.specs.Bytes.{within, isIn, all, same}
 use Rattle.hl7.specs.Cut.{Piece}
 use Rattle.hl7.specs.Place.{delimsOf, segmentsOf, neverCut, repetitionsOf}
 use Rattle.hl7.specs.Delimiters.{mayDelimit}
 use Rattle.hl7.specs.declared.place.Delims.{Delims}
-use Rattle.hl7.proofs.Comparing.{and-both, none-of, all-append}
+use Rattle.hl7.proofs.Comparing.{and-both}
 use Rattle.hl7.proofs.Delimiting.{isPlain}
 use Rattle.hl7.proofs.Exchanging.{Exchange, exchanged, digit-plain, test-kept, digit-kept, plain-text, text-still, every, every-still, text-kept, byte-exchanged, same-exchanged, same-kept, among-kept, delims-exchanged, segments-exchanged, field-moved, never-kept, component-moved, repetitions-exchanged, in-segment-moved, segment-moved, exchanged-rows}
-use Rattle.grade.specs.Digits.{isSign, countWithin, digitRun}
-use Rattle.grade.specs.Values.{isUnsigned, isNumber, isDate, isYearAndPairs, isZone, isZoneOrNone, isFraction, isTime, isStamp}
+use Rattle.grade.specs.Digits.{isSign, countWithin}
+use Rattle.grade.specs.Values.{isUnsigned, isNumber, isDate, isTime}
 use Rattle.grade.specs.Rule.{segmentNames, numberFrom, nameOfLetters}
 use Rattle.grade.specs.Order.{nameOf, nameAt, nameBefore, earlier, mayFollow}
 use Rattle.grade.specs.Broken.{fits, broken, codesOf, breaksRule}
@@ -34,18 +32,12 @@ use Rattle.grade.specs.Grading.{sectionFor, findingsBy, findingsFor, gra
 use Rattle.grade.specs.declared.rule.Kind.{Kind}
 use Rattle.grade.specs.declared.rule.Kind.the-variants.{Required, Length, Number, Date, Time, Code}
 use Rattle.grade.specs.declared.rule.Rule.{Rule}
+use Rattle.grade.proofs.Spelling.{sign-passes, date-all, time-all}
 
--- ---- what digits, signs and points make up is plain
-plain-as : (x k : ℕ) → eqb x k ≡ true → isPlain k ≡ true → isPlain x ≡ true
-plain-as x k e p = rw (eqb-true x k e) p
-
+-- ---- digits, signs and points are plain
 sign-plain : (x : ℕ) → isSign x ≡ true → isPlain x ≡ true
 unfolding mayDelimit isIn
-sign-plain x e = by (eqb x 43) refl e
-  where
-    by : (plus : Bool) → eqb x 43 ≡ plus → (plus || eqb x 45) ≡ true → isPlain x ≡ true
-    by true p e = plain-as x 43 p refl
-    by false p e = plain-as x 45 e refl
+sign-plain = sign-passes isPlain refl refl
 
 point-plain : (x : ℕ) → within 46 46 x ≡ true → isPlain x ≡ true
 unfolding mayDelimit isIn
@@ -54,66 +46,12 @@ point-plain x e =
     let point : x ≡ 46 = omega (arith, leb-true 46 x (both .0), leb-true x 46 (both .1)) in
     rw point
 
-abbrev plain : List ℕ → Type 0
-plain v = all isPlain v ≡ true
+date-plain : (v : List ℕ) → isDate v ≡ true → all isPlain v ≡ true
+date-plain = date-all isPlain digit-plain
 
-run-plain : (v : List ℕ) → plain (take (digitRun v) v)
-unfolding digitRun all
-run-plain [] = refl
-run-plain (x ∷ v) = by (isDigit x) refl (run-plain v)
-  where
-    by : (b : Bool) → isDigit x ≡ b → plain (take (digitRun v) v) → plain (take (cond b (1 + digitRun v) 0) (x ∷ v))
-    by true e rest = rw (one-add (digitRun v)) (rw (digit-plain x e) rest)
-    by false e rest = refl
-
-whole-plain : (v : List ℕ) → digitRun v ≡ length v → plain v
-whole-plain v e = subst plain (ap (λ (n : ℕ). take n v) e ∙ take-length v) (run-plain v)
-
--- after the digits that it begins with
-after-plain : (v : List ℕ) → plain (drop (digitRun v) v) → plain v
-after-plain v e = subst plain (take-append-drop (digitRun v) v) (all-append isPlain (take (digitRun v) v) (drop (digitRun v) v) (run-plain v) e)
-
-date-plain : (v : List ℕ) → isDate v ≡ true → plain v
-unfolding isDate
-date-plain v e =
-    let both = and-both _ _ (and-both _ _ e .0) in
-    whole-plain v (eqb-true (digitRun v) 8 (both .1) ∙ sym (eqb-true (length v) 8 (both .0)))
-
-zone-plain : (v : List ℕ) → isZone v ≡ true → plain v
-unfolding isZone all
-zone-plain [] e = refl
-zone-plain (x ∷ v) e =
-    let zone = and-both _ _ (and-both _ _ (and-both _ _ e .0) .0) in
-    let signed = and-both _ _ (zone .0) in
-    let four : digitRun v ≡ length v = omega (arith, eqb-true (suc (length v)) 5 (signed .0), eqb-true (digitRun v) 4 (zone .1)) in
-    rw (sign-plain x (signed .1)) (whole-plain v four)
-
-ending-plain : (v : List ℕ) → isZoneOrNone v ≡ true → plain v
-unfolding isZoneOrNone all
-ending-plain v e = by (eqb (length v) 0) refl e
-  where
-    by : (b : Bool) → eqb (length v) 0 ≡ b → (b || isZone v) ≡ true → plain v
-    by true p e = rw (none-of v (omega (arith, eqb-true (length v) 0 p)))
-    by false p e = zone-plain v e
-
-fraction-plain : (v : List ℕ) → isFraction v ≡ true → plain v
-unfolding isFraction all mayDelimit isIn
-fraction-plain [] e = refl
-fraction-plain (x ∷ v) e =
-    let parts = and-both _ _ e in
-    rw (plain-as x 46 (and-both _ _ (parts .0) .0) refl) (after-plain v (ending-plain (drop (digitRun v) v) (parts .1)))
-
-pub time-plain : (low : ℕ) (v : List ℕ) → isTime low v ≡ true → plain v
-unfolding isTime
-time-plain low v e = after-plain v (by (isZoneOrNone (drop (digitRun v) v)) refl (and-both (leb low (digitRun v) && isYearAndPairs (take (digitRun v) v)) _ e .1))
-  where
-    by : (b : Bool) → isZoneOrNone (drop (digitRun v) v) ≡ b → (b || (eqb (digitRun v) 14 && isFraction (drop (digitRun v) v))) ≡ true → plain (drop (digitRun v) v)
-    by true p e = ending-plain (drop (digitRun v) v) p
-    by false p e = fraction-plain (drop (digitRun v) v) (and-both (eqb (digitRun v) 14) (isFraction (drop (digitRun v) v)) e .1)
-
-pub stamp-plain : (v : List ℕ) → isStamp v ≡ true → plain v
-unfolding isStamp
-stamp-plain v e = time-plain 14 v (and-both (eqb (length v) 19 && eqb (digitRun v) 14 && isSign (getD v 14 0) && eqb (digitRun (drop 15 v)) 4) (isTime 14 v) e .1)
+time-plain : (low : ℕ) (v : List ℕ) → isTime low v ≡ true → all isPlain v ≡ true
+unfolding mayDelimit isIn
+time-plain = time-all isPlain digit-plain sign-plain refl
 
 -- ---- a book that an exchange leaves as it is
 pub record Still (σ : ℕ → ℕ) (c : Contents) : Type 0 where

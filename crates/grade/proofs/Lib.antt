@@ -20,6 +20,7 @@ pub mod Segments
 pub mod Stepping
 pub mod Few
 pub mod Grading
+pub mod Spelling
 pub mod Exchanging
 pub mod Samples
 pub mod BookSamples

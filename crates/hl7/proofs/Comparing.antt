@@ -100,6 +100,12 @@ module _ (test : ℕ → Bool) where
   all-drop (suc n) [] e = refl
   all-drop (suc n) (x ∷ s) e = all-drop n s (and-both (test x) (all test s) e .1)
 
+-- a weaker test
+pub all-as : (test other : ℕ → Bool) → ((x : ℕ) → test x ≡ true → other x ≡ true) → (s : List ℕ) → all test s ≡ true → all other s ≡ true
+unfolding all
+all-as test other weaker [] e = refl
+all-as test other weaker (x ∷ s) e = let both = and-both (test x) (all test s) e in rw (weaker x (both .0)) (all-as test other weaker s (both .1))
+
 -- gathered by a loop without an early exit
 pub all-gathered : (test : ℕ → Bool) (v : List ℕ) (i : ℕ) (b : Bool) → i < length v → (b && all test (drop i v)) ≡ ((b && test (getD v i 0)) && all test (drop (i + 1) v))
 unfolding all
