@@ -118,6 +118,13 @@ unfolding ackBytes heading flatMap
 ack-is d msh stamp control findings =
     rw (each-ended d findings) (sym (append-assoc (ended (mshLine d msh stamp control)) (ended (msaLine d msh (verdict findings))) (errs d findings)))
 
+-- ---- a byte by the message's own delimiters, in the code's words, which asks for the last of the five first
+pub own-asked : (d : Delims) (x : ℕ) {last fourth third second first : ℕ}
+    → last ≡ cond (eqb x (code "&")) (d .ampersand) x → fourth ≡ cond (eqb x (code "\\")) (d .backslash) last → third ≡ cond (eqb x (code "~")) (d .tilde) fourth
+    → second ≡ cond (eqb x (code "^")) (d .caret) third → first ≡ cond (eqb x (code "|")) (d .bar) second → first ≡ ownByte d x
+unfolding ownByte
+own-asked d x e f g h i = rw (i, h, g, f, e)
+
 -- ---- with the standard delimiters a text stands as it is
 kept-byte : (x c : ℕ) {other : ℕ} → other ≡ x → cond (eqb x c) c other ≡ x
 kept-byte x c {other} e = by (eqb x c) refl

@@ -129,3 +129,7 @@ pub asked-each : (d : Delims) {a b c e f g : Bool}
     → (a && b && c && e && f && g) ≡ mayCut d
 unfolding mayCut all
 asked-each d p q r s t u = rw (p, q, r, s, t, u) (simp (and-true, and-assoc))
+
+pub asked-opens : (name m : List ℕ) {d : Delims} {named cuts : Bool} {again : ℕ} → d ≡ delimsOf m → named ≡ begins name m → cuts ≡ mayCut d → again ≡ getD m 8 0 → (named && cuts && eqb again (d .bar)) ≡ opens name m
+unfolding opens
+asked-opens name m own p q r = rw (p, q, r, own)
