@@ -15,11 +15,10 @@ use borrow.Author.Tests.{ltb-false, not-false}
 use Rattle.hl7.specs.Text.{bytes}
 use Rattle.hl7.specs.Bytes.{isIn, distinct, all}
 use Rattle.hl7.specs.Place.{carriageReturn, delimsOf, nthOf, cutUnless, segmentsOf, place}
-use Rattle.hl7.specs.Delimiters.{mayDelimit, fiveOf, opens}
-use Rattle.hl7.specs.declared.place.Delims.{Delims}
+use Rattle.hl7.specs.Delimiters.{opens}
 use Rattle.hl7.specs.Refusals.{messageLimit, Told, told, firstRow, numbersOf, apart, holdsAt, First, messageRows, formRows}
 use Rattle.hl7.proofs.Cutting.{part-short}
-use Rattle.hl7.proofs.Delimiting.{Delimiting, plain-without, delimiters-without, delimiter-at, opens-delimiting}
+use Rattle.hl7.proofs.Delimiting.{Delimiting, opens-delimiting}
 use Rattle.grade.specs.Values.{isStamp}
 use Rattle.grade.specs.Order.{mayFollow}
 use Rattle.grade.specs.Findings.{findings, Demand3}
@@ -40,7 +39,7 @@ use Rattle.ack.proofs.Admitting.{stamp-length, admitted-short, admitted
 use Rattle.ack.proofs.Listing.{graded-plain, header-verdict}
 use Rattle.ack.proofs.Answering.{number-is, refused-is, written-is as ack-is, table-exactly, table-none, write-stamp, write-right, answer-admitted, answer-stopped}
 use Rattle.ack.proofs.Texts.{text-clean, stamp-text, listed-text}
-use Rattle.ack.proofs.Reading.{clean, Fine, Apart, part-without, ack-delims, ack-segments, ar-exactly, ae-exactly, aa-exactly}
+use Rattle.ack.proofs.Reading.{clean, part-without, ack-delims, ack-segments, ar-exactly, ae-exactly, aa-exactly}
 
 -- ---- what is listed
 -- a finding about the header is an E
@@ -98,16 +97,6 @@ module _ (m b stamp : List ℕ) (control : ℕ) (out : List ℕ) where
   refusal-alters-nothing some = ap (λ (o : Outcome). o .output) (refused-is (firstRow (answerRows m b stamp control out)) (ackFor m b stamp control) out (λ e. some (first-number ∙ e)))
 
 -- ---- what was written
--- a CR and the letters of MSA and MSA-1 are plain
-fine-by : {d : Delims} → Delimiting d → Fine d
-unfolding mayDelimit isIn
-fine-by {d} own = delimiters-without carriageReturn (fiveOf d) refl (own .each)
-
-apart-by : {d : Delims} → Delimiting d → Apart d
-unfolding mayDelimit isIn all
-apart-by {d} own =
-    (plain-without (d .bar) (bytes "MSAER") (delimiter-at own 0 (omega arith)) refl, plain-without (d .tilde) (bytes "MSAER") (delimiter-at own 2 (omega arith)) refl)
-
 msh-clean : (m : List ℕ) → clean (mshOf m)
 unfolding nthOf cutUnless
 msh-clean m = part-without carriageReturn m 0
@@ -148,23 +137,23 @@ module _ (m b stamp : List ℕ) (control : ℕ) (out : List ℕ) (answered : ans
   pub written-segments : segmentsOf (writtenOf (answerOf m b stamp control out)) ≡ ackLines (delimsOf m) (mshOf m) stamp control (findingsFor m b)
   written-segments =
       ap segmentsOf (written-is .0)
-      ∙ ack-segments (delimsOf m) (fine-by own-delimiting) (mshOf m) stamp control (findingsFor m b) (msh-clean m) (text-clean stamp (stamp-text stamp stamp-right)) (listed-text m b)
+      ∙ ack-segments (delimsOf m) own-delimiting (mshOf m) stamp control (findingsFor m b) (msh-clean m) (text-clean stamp (stamp-text stamp stamp-right)) (listed-text m b)
 
   -- MSA-1, read as the first field of the second segment
   pub written-aa : (place (delimsOf m) (writtenOf (answerOf m b stamp control out)) 2 1 1 0 .bytes ≡ bytes "AA") ↔ (has isFault (findingsFor m b) ≡ false)
   written-aa =
       rw (written-is .0)
-      (aa-exactly (delimsOf m) (fine-by own-delimiting) (apart-by own-delimiting) (mshOf m) stamp control (findingsFor m b) (msh-clean m) (text-clean stamp (stamp-text stamp stamp-right)) (listed-text m b) (listed-errors m b))
+      (aa-exactly (delimsOf m) own-delimiting (mshOf m) stamp control (findingsFor m b) (msh-clean m) (text-clean stamp (stamp-text stamp stamp-right)) (listed-text m b) (listed-errors m b))
 
   pub written-ar : (place (delimsOf m) (writtenOf (answerOf m b stamp control out)) 2 1 1 0 .bytes ≡ bytes "AR") ↔ (has isHeader (findingsFor m b) ≡ true)
   written-ar =
       rw (written-is .0)
-      (ar-exactly (delimsOf m) (fine-by own-delimiting) (apart-by own-delimiting) (mshOf m) stamp control (findingsFor m b) (msh-clean m) (text-clean stamp (stamp-text stamp stamp-right)) (listed-text m b))
+      (ar-exactly (delimsOf m) own-delimiting (mshOf m) stamp control (findingsFor m b) (msh-clean m) (text-clean stamp (stamp-text stamp stamp-right)) (listed-text m b))
 
   pub written-ae : (place (delimsOf m) (writtenOf (answerOf m b stamp control out)) 2 1 1 0 .bytes ≡ bytes "AE") ↔ ((has isHeader (findingsFor m b) ≡ false) × (has isFault (findingsFor m b) ≡ true))
   written-ae =
       rw (written-is .0)
-      (ae-exactly (delimsOf m) (fine-by own-delimiting) (apart-by own-delimiting) (mshOf m) stamp control (findingsFor m b) (msh-clean m) (text-clean stamp (stamp-text stamp stamp-right)) (listed-text m b))
+      (ae-exactly (delimsOf m) own-delimiting (mshOf m) stamp control (findingsFor m b) (msh-clean m) (text-clean stamp (stamp-text stamp stamp-right)) (listed-text m b))
 
   -- where a header check fails, the ACK is MSH, MSA with AR, and one ERR for each check that fails, in order
   pub refused-header : anyWrong (headerOf (delimsOf m) (mshOf m)) ≡ true

@@ -1,28 +1,29 @@
 -- What a reader finds in a written ACK: cut by its CRs it is MSH, MSA and one ERR for each finding, in order, and MSA-1 is what the findings make it.
 -- Assumes nothing.
 use mathlib.Core.Path.{_≡_, refl, sym, ap, subst, _∙_}
-use mathlib.Core.Bool.{Bool, true, false, cond, _&&_, true≢false}
+use mathlib.Core.Bool.{Bool, true, false, cond, true≢false}
 use mathlib.Core.Logic.{_↔_}
 use mathlib.Core.List.{List, [], _∷_, _++_, map, flatMap, append-assoc}
-use Prim.Native.Nat.{ℕ, zero, suc, _+_}
+use Prim.Native.Nat.{ℕ, zero, suc, _+_, _<_}
 use Prim.Native.Char.{code}
 use native.Mathlib.Omega.{arith}
 use lib.Dec.{eqb}
 use lib.ListN.{length, getD, take, drop}
 use borrow.Author.Tests.{eqb-false, not-true}
 use Rattle.hl7.specs.Text.{bytes}
-use Rattle.hl7.specs.Bytes.{all, differs, begins}
+use Rattle.hl7.specs.Bytes.{isIn, all, differs, begins}
 use Rattle.hl7.specs.Cut.{ahead, cut, partAt, butLast}
 use Rattle.hl7.specs.Place.{delimsOf, carriageReturn, segmentsOf, nthOf, cutUnless, partOfField, isMsh, neverCut, fieldOf, componentOf, inField, inSegment, place}
-use Rattle.hl7.specs.Delimiters.{fiveOf}
+use Rattle.hl7.specs.Delimiters.{mayDelimit, fiveOf}
 use Rattle.hl7.specs.declared.place.Delims.{Delims}
-use Rattle.hl7.proofs.Comparing.{and-both, or-neither, all-append, all-take, all-drop}
+use Rattle.hl7.proofs.Comparing.{and-both, or-neither, all-at, all-append, all-take, all-drop}
 use Rattle.hl7.proofs.Cutting.{cut-delimiter, cut-other}
 use Rattle.hl7.proofs.Placing.{field-stands}
+use Rattle.hl7.proofs.Delimiting.{Delimiting, plain-without, delimiters-without, delimiter-at}
 use Rattle.grade.specs.declared.finding.Finding.{Finding}
 use Rattle.ack.specs.Decimal.{decimal}
 use Rattle.ack.specs.Layout.{ownByte, own, marked, joined, copied, mshLine, has, isHeader, isFault, letter, verdict, msaLine, placeParts, codeText, errLine, ended, ackLines, ackBytes}
-use Rattle.ack.proofs.Texts.{isText, Each, _also_, each-as, text-clean, own-text-clean, decimal-text, letter-text, place-text, code-own, isOdd, severity-is}
+use Rattle.ack.proofs.Texts.{isText, Each, _also_, each-as, text-plain, text-clean, own-text-clean, decimal-text, letter-text, place-text, code-own, isOdd, severity-is}
 
 -- ---- parts that hold no mark
 -- the mark is not among the bytes
@@ -86,10 +87,6 @@ clean s = without carriageReturn s
 part-clean : (n from : ℕ) (s : List ℕ) → clean s → clean (take n (drop from s))
 part-clean n from s e = all-take (differs carriageReturn) n (drop from s) (all-drop (differs carriageReturn) from s e)
 
--- none of the five delimiters is a CR
-abbrev pub Fine : Delims → Type 0
-Fine d = clean (fiveOf d)
-
 marked-clean : (mark : ℕ) (parts : List (List ℕ)) → differs carriageReturn mark ≡ true → Each clean parts → clean (marked mark parts)
 unfolding marked all
 marked-clean mark [] h e = refl
@@ -110,59 +107,52 @@ copied-clean d msh k e =
     let p = fieldOf d msh k in
     subst clean (field-stands (isMsh msh) (d .bar) msh k) (part-clean (length (p .bytes)) (p .start) msh e)
 
--- a text without CR has none either when the five are put into it
-own-clean : (d : Delims) → Fine d → (text : List ℕ) → clean text → clean (own d text)
-unfolding ownByte all
-own-clean d fine text e = of text e
-  where
-    pass : (b : Bool) (x y : ℕ) → differs carriageReturn x ≡ true → differs carriageReturn y ≡ true → differs carriageReturn (cond b x y) ≡ true
-    pass true x y e f = e
-    pass false x y e f = f
+-- ---- the lines, with delimiters that may be
+module _ (d : Delims) (may : Delimiting d) where
+  -- none of the five is a CR
+  mark-clean : (i : ℕ) → i < 5 → differs carriageReturn (getD (fiveOf d) i 0) ≡ true
+  unfolding mayDelimit isIn
+  mark-clean i h = all-at (differs carriageReturn) (fiveOf d) i (delimiters-without carriageReturn (fiveOf d) refl (may .each)) h
 
-    byte : (x : ℕ) → differs carriageReturn x ≡ true → differs carriageReturn (ownByte d x) ≡ true
-    byte x h =
-        let after-bar = and-both (differs carriageReturn (d .bar)) _ fine in
-        let after-caret = and-both (differs carriageReturn (d .caret)) _ (after-bar .1) in
-        let after-tilde = and-both (differs carriageReturn (d .tilde)) _ (after-caret .1) in
-        let after-backslash = and-both (differs carriageReturn (d .backslash)) _ (after-tilde .1) in
-        let after-ampersand = and-both (differs carriageReturn (d .ampersand)) _ (after-backslash .1) in
-        pass (eqb x 124) _ _ (after-bar .0)
-        (pass (eqb x 94) _ _ (after-caret .0)
-        (pass (eqb x 126) _ _ (after-tilde .0) (pass (eqb x 92) _ _ (after-backslash .0) (pass (eqb x 38) _ _ (after-ampersand .0) h))))
-
-    of : (text : List ℕ) → clean text → clean (own d text)
-    of [] e = refl
-    of (x ∷ text) e =
-        let both = and-both (differs carriageReturn x) (all (differs carriageReturn) text) e in
-        rw (byte x (both .0)) (of text (both .1))
-
--- ---- the lines
-module _ (d : Delims) (fine : Fine d) where
   bar-clean : differs carriageReturn (d .bar) ≡ true
-  unfolding all
-  bar-clean = and-both (differs carriageReturn (d .bar)) _ fine .0
+  bar-clean = mark-clean 0 (omega arith)
 
   caret-clean : differs carriageReturn (d .caret) ≡ true
-  unfolding all
-  caret-clean = and-both (differs carriageReturn (d .caret)) _ (and-both (differs carriageReturn (d .bar)) _ fine .1) .0
+  caret-clean = mark-clean 1 (omega arith)
+
+  -- a text without CR has none either when the five are put into it
+  own-clean : (text : List ℕ) → clean text → clean (own d text)
+  unfolding ownByte all
+  own-clean [] e = refl
+  own-clean (x ∷ text) e = let both = and-both (differs carriageReturn x) (all (differs carriageReturn) text) e in rw (byte (both .0)) (own-clean text (both .1))
+    where
+      pass : (b : Bool) (x y : ℕ) → differs carriageReturn x ≡ true → differs carriageReturn y ≡ true → differs carriageReturn (cond b x y) ≡ true
+      pass true x y e f = e
+      pass false x y e f = f
+
+      byte : differs carriageReturn x ≡ true → differs carriageReturn (ownByte d x) ≡ true
+      byte h =
+          pass (eqb x 124) _ _ bar-clean
+          (pass (eqb x 94) _ _ caret-clean
+          (pass (eqb x 126) _ _ (mark-clean 2 (omega arith)) (pass (eqb x 92) _ _ (mark-clean 3 (omega arith)) (pass (eqb x 38) _ _ (mark-clean 4 (omega arith)) h))))
 
   msh-clean : (msh stamp : List ℕ) (control : ℕ) → clean msh → clean stamp → clean (mshLine d msh stamp control)
   unfolding mshLine all
   msh-clean msh stamp control h s =
       joined-clean (d .bar) _ bar-clean
       (refl
-      also own-clean d fine (bytes "^~\\&") refl
+      also own-clean (bytes "^~\\&") refl
       also copied-clean d msh 5 h
       also copied-clean d msh 6 h
       also copied-clean d msh 3 h
       also copied-clean d msh 4 h
       also s
       also refl
-      also own-clean d fine (bytes "ACK^V04^ACK") refl
+      also own-clean (bytes "ACK^V04^ACK") refl
       also decimal-clean control
       also copied-clean d msh 11 h
       also refl also refl also refl also refl also refl also refl also refl also refl also refl
-      also own-clean d fine (bytes "Z23^CDCPHINVS") refl
+      also own-clean (bytes "Z23^CDCPHINVS") refl
       also tt)
 
   msa-clean : (msh : List ℕ) (second : ℕ) → clean msh → all isText (second ∷ []) ≡ true → clean (msaLine d msh second)
@@ -176,9 +166,9 @@ module _ (d : Delims) (fine : Fine d) where
       (refl
       also refl
       also joined-clean (d .caret) _ caret-clean (each-as text-clean (placeParts f) (place-text f))
-      also own-clean d fine (codeText (f .code)) (own-text-clean (codeText (f .code)) (code-own (f .code)))
+      also own-clean (codeText (f .code)) (own-text-clean (codeText (f .code)) (code-own (f .code)))
       also text-clean (f .severity ∷ []) (severity-is f s)
-      also all-append (differs carriageReturn) (decimal (f .rule)) (own d (bytes "^^L")) (decimal-clean (f .rule)) (own-clean d fine (bytes "^^L") refl)
+      also all-append (differs carriageReturn) (decimal (f .rule)) (own d (bytes "^^L")) (decimal-clean (f .rule)) (own-clean (bytes "^^L") refl)
       also tt)
 
   errs-clean : (findings : List Finding) → has isOdd findings ≡ false → Each clean (map (errLine d) findings)
@@ -208,40 +198,25 @@ unfolding delimsOf ackBytes flatMap mshLine joined marked ownByte
 ack-delims d msh stamp control findings = refl
 
 -- ---- MSA-1
--- the letters of MSA and MSA-1 are neither bar nor tilde
-abbrev pub Apart : Delims → Type 0
-Apart d = without (d .bar) (bytes "MSAER") × without (d .tilde) (bytes "MSAER")
-
 abbrev msa1Of : ℕ → List ℕ
 msa1Of second = code "A" ∷ second ∷ []
 
-letters-without : (mark : ℕ) (header fault : Bool) → without mark (bytes "MSAER") → without mark (msa1Of (letter header fault))
-unfolding all
-letters-without mark header fault e =
-    let m = and-both (differs mark (code "M")) _ e in
-    let s = and-both (differs mark (code "S")) _ (m .1) in
-    let a = and-both (differs mark (code "A")) _ (s .1) in
-    let l = and-both (differs mark (code "E")) _ (a .1) in
-    rw (a .0) (of header fault (a .0) (l .0) (and-both (differs mark (code "R")) _ (l .1) .0))
-  where
-    of : (header fault : Bool) → differs mark (code "A") ≡ true → differs mark (code "E") ≡ true → differs mark (code "R") ≡ true → (differs mark (letter header fault) && true) ≡ true
-    of true fault a e r = rw r
-    of false true a e r = rw e
-    of false false a e r = rw a
-
-name-without : (mark : ℕ) → without mark (bytes "MSAER") → without mark (bytes "MSA")
-name-without mark e = all-take (differs mark) 3 (bytes "MSAER") e
+-- its letters may be no delimiter
+letters-without : (mark : ℕ) (header fault : Bool) → mayDelimit mark ≡ true → without mark (msa1Of (letter header fault))
+unfolding all mayDelimit isIn
+letters-without mark header fault e = plain-without mark (msa1Of (letter header fault)) e (text-plain (msa1Of (letter header fault)) (letter-text header fault))
 
 -- field 1, repetition 1 of MSA, as a reader finds it
-msa1-read : (d : Delims) → Apart d → (msh : List ℕ) (header fault : Bool) → inSegment d (msaLine d msh (letter header fault)) 1 1 0 .bytes ≡ msa1Of (letter header fault)
-unfolding inSegment inField nthOf cutUnless componentOf neverCut partOfField msaLine joined marked begins
-msa1-read d apart msh header fault =
+msa1-read : (d : Delims) → Delimiting d → (msh : List ℕ) (header fault : Bool) → inSegment d (msaLine d msh (letter header fault)) 1 1 0 .bytes ≡ msa1Of (letter header fault)
+unfolding inSegment inField nthOf cutUnless componentOf neverCut partOfField msaLine joined marked begins all mayDelimit isIn
+msa1-read d may msh header fault =
     let second = letter header fault in
+    let bar : mayDelimit (d .bar) ≡ true = delimiter-at may 0 (omega arith) in
     let whole : cut (d .bar) (bytes "MSA" ++ (d .bar ∷ (msa1Of second ++ (d .bar ∷ (copied d msh 10 ++ []))))) ≡ bytes "MSA" ∷ msa1Of second ∷ cut (d .bar) (copied d msh 10 ++ []) =
-    cut-ended (d .bar) (bytes "MSA") (msa1Of second ++ (d .bar ∷ (copied d msh 10 ++ []))) (name-without (d .bar) (apart .0))
-    ∙ ap (λ (ps : List (List ℕ)). bytes "MSA" ∷ ps) (cut-ended (d .bar) (msa1Of second) (copied d msh 10 ++ []) (letters-without (d .bar) header fault (apart .0))) in
+    cut-ended (d .bar) (bytes "MSA") (msa1Of second ++ (d .bar ∷ (copied d msh 10 ++ []))) (plain-without (d .bar) (bytes "MSA") bar refl)
+    ∙ ap (λ (ps : List (List ℕ)). bytes "MSA" ∷ ps) (cut-ended (d .bar) (msa1Of second) (copied d msh 10 ++ []) (letters-without (d .bar) header fault bar)) in
     ap (λ (ps : List (List ℕ)). partAt (cut (d .tilde) (partAt ps 1)) 0) whole
-    ∙ ap (λ (ps : List (List ℕ)). partAt ps 0) (cut-whole (d .tilde) (msa1Of second) (letters-without (d .tilde) header fault (apart .1)))
+    ∙ ap (λ (ps : List (List ℕ)). partAt ps 0) (cut-whole (d .tilde) (msa1Of second) (letters-without (d .tilde) header fault (delimiter-at may 2 (omega arith))))
 
 both : {A B C : Type 0} → A ↔ B → B ↔ C → A ↔ C
 both f g = (λ a. g .0 (f .0 a), λ c. f .1 (g .1 c))
@@ -261,7 +236,7 @@ letter-aa true fault = (λ e. absurd (omega (arith, e)), λ e. absurd (true≢fa
 letter-aa false true = (λ e. absurd (omega (arith, e)), λ e. absurd (true≢false (e .1)))
 letter-aa false false = (λ e. (refl, refl), λ e. refl)
 
-module _ (d : Delims) (fine : Fine d) (apart : Apart d) (msh stamp : List ℕ) (control : ℕ) (findings : List Finding) (headClean : clean msh) (stampClean : clean stamp) (letters : has isOdd findings ≡ false) where
+module _ (d : Delims) (may : Delimiting d) (msh stamp : List ℕ) (control : ℕ) (findings : List Finding) (headClean : clean msh) (stampClean : clean stamp) (letters : has isOdd findings ≡ false) where
   -- MSA-1 of the ACK, as the bytes at segment 2, field 1
   abbrev pub msa1 : List ℕ
   msa1 = place d (ackBytes d msh stamp control findings) 2 1 1 0 .bytes
@@ -269,8 +244,8 @@ module _ (d : Delims) (fine : Fine d) (apart : Apart d) (msh stamp : List ℕ) (
   pub msa1-is : msa1 ≡ code "A" ∷ verdict findings ∷ []
   unfolding place nthOf cutUnless
   msa1-is =
-      ap (λ (ps : List (List ℕ)). inSegment d (partAt ps 1) 1 1 0 .bytes) (ack-cut d fine msh stamp control findings headClean stampClean letters)
-      ∙ msa1-read d apart msh (has isHeader findings) (has isFault findings)
+      ap (λ (ps : List (List ℕ)). inSegment d (partAt ps 1) 1 1 0 .bytes) (ack-cut d may msh stamp control findings headClean stampClean letters)
+      ∙ msa1-read d may msh (has isHeader findings) (has isFault findings)
 
   second-is : (letter : ℕ) → (msa1 ≡ code "A" ∷ letter ∷ []) ↔ (verdict findings ≡ letter)
   second-is letter =

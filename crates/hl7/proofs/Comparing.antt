@@ -1,6 +1,6 @@
 -- Laws of `specs/Bytes.antt`, each in the words of a loop that goes along the bytes by index. Assumes nothing.
 use mathlib.Core.Path.{_≡_, refl, sym, ap, ap₂, _∙_}
-use mathlib.Core.Bool.{Bool, true, false, cond, _&&_, _||_, and-true, and-false, and-assoc, true≢false}
+use mathlib.Core.Bool.{Bool, true, false, cond, not, _&&_, _||_, and-true, and-false, and-assoc, true≢false}
 use mathlib.Core.List.{List, [], _∷_, _++_, map}
 use Prim.Native.Nat.{ℕ, zero, suc, _+_, _-_, _≤_, _<_}
 use native.Mathlib.Numerals.{add-one}
@@ -9,8 +9,8 @@ use native.Mathlib.Omega.{arith}
 use lib.Dec.{eqb}
 use lib.ListN.{length, getD, take, drop, length-drop, drop-of-length-le}
 use lib.Seq.{drop-cons, getD-drop, take-all, drop-length, take-nil, slice}
-use borrow.Author.Tests.{eq-eqb, ne-eqb, eqb-true, eqb-false}
-use Rattle.hl7.specs.Bytes.{all, same, among, begins}
+use borrow.Author.Tests.{eq-eqb, ne-eqb, eqb-true, eqb-false, not-true}
+use Rattle.hl7.specs.Bytes.{isIn, distinct, all, same, among, begins}
 use Rattle.hl7.specs.Spans.{occurrences}
 
 -- ---- lists
@@ -130,6 +130,21 @@ module _ (d : ℕ) (v : List ℕ) (i : ℕ) where
   pub occurs-none : length v ≤ i → occurrences d (drop i v) ≡ 0
   unfolding occurrences
   occurs-none h = ap (occurrences d) (drop-of-length-le v h)
+
+-- ---- numbers that differ pairwise
+not-in : (n : ℕ) (l : List ℕ) (k : ℕ) → isIn n l ≡ false → k < length l → n ≡ getD l k 0 → ⊥
+unfolding isIn
+not-in n [] k e h same = absurd (omega arith)
+not-in n (x ∷ l) zero e h same = eqb-false n x (or-neither (eqb n x) (isIn n l) e .0) same
+not-in n (x ∷ l) (suc k) e h same = not-in n l k (or-neither (eqb n x) (isIn n l) e .1) (omega arith) same
+
+pub distinct-one : (l : List ℕ) (j k : ℕ) → distinct l ≡ true → j < length l → k < length l → getD l j 0 ≡ getD l k 0 → j ≡ k
+unfolding distinct
+distinct-one [] j k e h g same = absurd (omega arith)
+distinct-one (n ∷ l) zero zero e h g same = refl
+distinct-one (n ∷ l) zero (suc k) e h g same = absurd (not-in n l k (not-true _ (and-both (not (isIn n l)) (distinct l) e .0)) (omega arith) same)
+distinct-one (n ∷ l) (suc j) zero e h g same = absurd (not-in n l j (not-true _ (and-both (not (isIn n l)) (distinct l) e .0)) (omega arith) (sym same))
+distinct-one (n ∷ l) (suc j) (suc k) e h g same = ap suc (distinct-one l j k (and-both (not (isIn n l)) (distinct l) e .1) (omega arith) (omega arith) same)
 
 -- ---- the same bytes
 pub same-lengths : (v w : List ℕ) → (length v ≡ length w → ⊥) → same v w ≡ false

@@ -1,35 +1,20 @@
 -- Laws of `specs/Delimiters.antt`: what is known of the delimiters of every message that passes row 4. Assumes nothing.
 use mathlib.Core.Path.{_≡_, refl, sym, ap, _∙_}
 use mathlib.Core.Bool.{Bool, true, false, not, _&&_, _||_, and-true, and-assoc, or-false, or-assoc, true≢false}
-use mathlib.Core.List.{List, [], _∷_}
-use Prim.Native.Nat.{ℕ, zero, suc, _≤_, _<_}
+use mathlib.Core.List.{List}
+use Prim.Native.Nat.{ℕ, _≤_, _<_}
 use Prim.Native.Char.{code}
 use native.Mathlib.Omega.{arith}
 use native.Mathlib.Decide.{decLt}
 use lib.Dec.{eqb}
 use lib.ListN.{length, getD, List·getD-eq-default}
-use borrow.Author.Tests.{ne-eqb, eqb-true, eqb-false, not-true}
+use borrow.Author.Tests.{ne-eqb, eqb-true, not-true}
 use Rattle.hl7.specs.declared.place.Delims.{Delims}
 use Rattle.hl7.specs.Bytes.{within, isIn, distinct, all, differs, same, begins}
 use Rattle.hl7.specs.Place.{delimsOf}
 use Rattle.hl7.specs.Delimiters.{mayDelimit, fiveOf, mayCut, opens}
 use Rattle.hl7.specs.Text.{bytes}
-use Rattle.hl7.proofs.Comparing.{and-both, or-neither, all-at, same-equal}
-
--- ---- numbers that differ pairwise
-not-in : (n : ℕ) (l : List ℕ) (k : ℕ) → isIn n l ≡ false → k < length l → n ≡ getD l k 0 → ⊥
-unfolding isIn
-not-in n [] k e h same = absurd (omega arith)
-not-in n (x ∷ l) zero e h same = eqb-false n x (or-neither (eqb n x) (isIn n l) e .0) same
-not-in n (x ∷ l) (suc k) e h same = not-in n l k (or-neither (eqb n x) (isIn n l) e .1) (omega arith) same
-
-pub distinct-one : (l : List ℕ) (j k : ℕ) → distinct l ≡ true → j < length l → k < length l → getD l j 0 ≡ getD l k 0 → j ≡ k
-unfolding distinct
-distinct-one [] j k e h g same = absurd (omega arith)
-distinct-one (n ∷ l) zero zero e h g same = refl
-distinct-one (n ∷ l) zero (suc k) e h g same = absurd (not-in n l k (not-true _ (and-both (not (isIn n l)) (distinct l) e .0)) (omega arith) same)
-distinct-one (n ∷ l) (suc j) zero e h g same = absurd (not-in n l j (not-true _ (and-both (not (isIn n l)) (distinct l) e .0)) (omega arith) (sym same))
-distinct-one (n ∷ l) (suc j) (suc k) e h g same = ap suc (distinct-one l j k (and-both (not (isIn n l)) (distinct l) e .1) (omega arith) (omega arith) same)
+use Rattle.hl7.proofs.Comparing.{and-both, all-at, all-as, same-equal, distinct-one}
 
 -- ---- plain bytes: those that may be no delimiter
 abbrev pub isPlain : ℕ → Bool
@@ -40,19 +25,11 @@ delimits-other x y e p same = true≢false (sym e ∙ ap mayDelimit same ∙ not
 
 -- a plain text holds no delimiter
 pub plain-without : (x : ℕ) (text : List ℕ) → mayDelimit x ≡ true → all isPlain text ≡ true → all (differs x) text ≡ true
-unfolding all
-plain-without x [] e p = refl
-plain-without x (y ∷ text) e p =
-    let both = and-both (isPlain y) (all isPlain text) p in
-    rw (ne-eqb y x (λ same. delimits-other x y e (both .0) (sym same))) (plain-without x text e (both .1))
+plain-without x text e = all-as isPlain (differs x) (λ y p. rw (ne-eqb y x (λ same. delimits-other x y e p (sym same)))) text
 
 -- and a plain byte is none of the delimiters
 pub delimiters-without : (y : ℕ) (s : List ℕ) → isPlain y ≡ true → all mayDelimit s ≡ true → all (differs y) s ≡ true
-unfolding all
-delimiters-without y [] p e = refl
-delimiters-without y (x ∷ s) p e =
-    let both = and-both (mayDelimit x) (all mayDelimit s) e in
-    rw (ne-eqb x y (delimits-other x y (both .0) p)) (delimiters-without y s p (both .1))
+delimiters-without y s p = all-as mayDelimit (differs y) (λ x e. rw (ne-eqb x y (delimits-other x y e p))) s
 
 -- ---- the law of every message that passes row 4
 pub record Delimiting (d : Delims) : Type 0 where

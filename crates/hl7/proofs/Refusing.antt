@@ -22,9 +22,9 @@ use Rattle.hl7.specs.Place.{delimsOf, carriageReturn, segmentsOf, segmen
 use Rattle.hl7.specs.Delimiters.{opens}
 use Rattle.hl7.specs.Spans.{between}
 use Rattle.hl7.specs.Refusals.{Told, told, Row, row, rowAt, firstRow, passes, numbersOf, apart, holdsAt, First, messageLimit, allowed, wrongBytes, hasForm, wrongSegments, formRows, messageRows, firstOf, isSome, readingTold, readsSound, readingOf, isSound, located}
-use Rattle.hl7.proofs.Comparing.{rest-at, none-of, and-both}
+use Rattle.hl7.proofs.Comparing.{rest-at, none-of, and-both, distinct-one}
 use Rattle.hl7.proofs.Cutting.{first, first-at, first-begins, cut-some, parts-more, parts-last}
-use Rattle.hl7.proofs.Delimiting.{Delimiting, distinct-one, opens-begins, opens-delimiting}
+use Rattle.hl7.proofs.Delimiting.{Delimiting, opens-begins, opens-delimiting}
 use Rattle.hl7.proofs.Walking.{ended-same}
 
 -- ---- tables of rows
