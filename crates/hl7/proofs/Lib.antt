@@ -1,4 +1,5 @@
 pub mod Comparing
+pub mod Numbering
 pub mod Cutting
 pub mod Noting
 pub mod Walking

@@ -1,5 +1,7 @@
 pub mod Text
 pub mod Bytes
+pub mod Number
+pub mod Counted
 pub mod Cut
 pub mod Place
 pub mod Delimiters

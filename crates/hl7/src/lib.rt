@@ -3,5 +3,6 @@ pub mod bytes;
 pub mod cut;
 pub mod delimiters;
 pub mod locate;
+pub mod number;
 pub mod place;
 pub mod refusal;
