@@ -2,15 +2,17 @@
 use mathlib.Core.Path.{_≡_, sym, ap, _∙_}
 use mathlib.Core.Bool.{true, false}
 use mathlib.Core.List.{List}
-use Prim.Native.Nat.{ℕ, _≤_}
+use Prim.Native.Nat.{ℕ, _+_, _*_, _≤_, _<_}
 use native.Mathlib.Omega.{arith}
 use lib.ListN.{length}
 use borrow.Author.Tests.{eqb-true}
+use Rattle.hl7.specs.Text.{bytes}
 use Rattle.hl7.specs.Place.{delimsOf, isMsh}
 use Rattle.hl7.specs.Refusals.{messageLimit, Told, told, firstRow}
 use Rattle.hl7.proofs.Comparing.{and-both}
 use Rattle.hl7.specs.declared.place.Delims.{Delims}
-use Rattle.hl7.proofs.Refusing.{sound-short, sound-msh}
+use Rattle.hl7.proofs.Delimiting.{opens-long}
+use Rattle.hl7.proofs.Refusing.{sound-short, sound-opens, sound-msh}
 use Rattle.grade.specs.Values.{isStamp}
 use Rattle.grade.specs.Header.{mshOf}
 use Rattle.grade.specs.Admission.{admitRows, admittedTold}
@@ -19,7 +21,7 @@ use Rattle.grade.specs.Standing.{Admits, Holds}
 use Rattle.grade.specs.Rest.{findingsIn}
 use Rattle.grade.proofs.Admitting.{admitted-none, admitted-by}
 use Rattle.grade.proofs.Grading.{listed}
-use Rattle.grade.proofs.Stepping.{all-few}
+use Rattle.grade.proofs.Stepping.{all-within}
 use Rattle.grade.specs.declared.header.Header.{Header}
 use Rattle.grade.specs.declared.walk.Section.{Section}
 use Rattle.grade.specs.declared.admit.Admitted.{Admitted}
@@ -48,8 +50,14 @@ module _ (m b : List ℕ) {s : Section} {h : Header} (is : Admits m b (By s h)) 
   pub admitted-holds : Holds b s
   admitted-holds = admitted-by m b is .opens .holds
 
+  pub admitted-long : 0 < length m
+  admitted-long = omega (arith, opens-long (bytes "MSH") m (sound-opens m (admitted-by m b is .sound)))
+
+  pub admitted-within : length (findingsIn b s h m) ≤ (length m + 1) * (257 * 32769)
+  admitted-within = all-within m b s h admitted-short admitted-holds
+
   pub admitted-few : length (findingsIn b s h m) ≤ findingLimit
-  admitted-few = omega (arith, all-few m b s h admitted-short admitted-holds)
+  admitted-few = omega (arith, admitted-within, admitted-short)
 
 -- ---- the ways out of the call
 module _ (m b stamp : List ℕ) (control : ℕ) (out : List ℕ) where

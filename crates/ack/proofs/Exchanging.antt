@@ -1,7 +1,7 @@
 -- Which five delimiters a message is cut by does not matter to its answer: where its bytes that may delimit are exchanged among each other, and the book's keys
 -- and codes stay as they are, number and detail are the same and the ACK differs by the exchange alone. Assumes nothing.
 use mathlib.Core.Path.{_≡_, refl, sym, ap, ap₂, _∙_}
-use mathlib.Core.Bool.{Bool, true, false, cond, not, _||_}
+use mathlib.Core.Bool.{Bool, true, false, cond, _||_}
 use mathlib.Core.List.{List, [], _∷_, _++_, map, flatMap, map-append}
 use Prim.Native.Nat.{ℕ}
 use Prim.Native.Char.{code}
@@ -13,7 +13,7 @@ use Rattle.hl7.specs.Bytes.{isIn, all, differs}
 use Rattle.hl7.specs.Cut.{Piece}
 use Rattle.hl7.specs.Place.{carriageReturn, delimsOf}
 use Rattle.hl7.specs.Delimiters.{mayDelimit, fiveOf}
-use Rattle.hl7.specs.Refusals.{Told, told, Row, row, firstRow, messageRows, formRows}
+use Rattle.hl7.specs.Refusals.{Told, told, Row, firstRow, messageRows, formRows}
 use Rattle.hl7.specs.declared.place.Delims.{Delims}
 use Rattle.hl7.proofs.Comparing.{and-both, or-neither}
 use Rattle.hl7.proofs.Delimiting.{Delimiting, isPlain}
@@ -27,17 +27,17 @@ use Rattle.grade.specs.declared.finding.Finding.{Finding}
 use Rattle.grade.proofs.Exchanging.{Unmoved, allIn, unmoved-by, msh-exchanged, admit-kept, listed-kept, exchanged-grade}
 use Rattle.ack.specs.Decimal.{decimal}
 use Rattle.ack.specs.Layout.{ownByte, own, marked, joined, copied, mshLine, has, isHeader, isFault, verdict, msaLine, placeParts, codeText, errLine, ended, ackLines, ackBytes}
-use Rattle.ack.specs.Answers.{outcomeBy, byRows, writeRows, ackFor, answerOf}
+use Rattle.ack.specs.Answers.{outcomeBy, byRows, shortRow, ackFor, tenRows, answerOf}
 use Rattle.ack.proofs.Answering.{answer-unstamped}
 use Rattle.ack.proofs.Texts.{isText, isOwn, Each, IsText, isOdd, text-plain, decimal-text, stamp-text, letter-text, place-text, code-own, severity-is, listed-text}
 use Rattle.ack.proofs.Promises.{answered-exactly, writtenOf, written-is}
 
 -- ---- number and detail depend on the ACK by its length alone
-told-alike : (rows : List Row) (stamp out ack other : List ℕ) → length other ≡ length ack → byRows (rows ++ writeRows stamp other out) other out .told ≡ byRows (rows ++ writeRows stamp ack out) ack out .told
-told-alike rows stamp out ack other e = ap (λ (n : ℕ). outcomeBy (firstRow (rows ++ long n)) other out .told) e ∙ by (firstRow (rows ++ writeRows stamp ack out)) _ refl
+told-alike : (rows : List Row) (out ack other : List ℕ) → length other ≡ length ack → byRows (rows ++ (shortRow other out ∷ [])) other out .told ≡ byRows (rows ++ (shortRow ack out ∷ [])) ack out .told
+told-alike rows out ack other e = ap (λ (n : ℕ). outcomeBy (firstRow (rows ++ long n)) other out .told) e ∙ by (firstRow (rows ++ (shortRow ack out ∷ []))) _ refl
   where
     long : ℕ → List Row
-    long n = row 10 (not (isStamp stamp)) ∷ record { holds = ltb (length out) n; tells = told 11 n } ∷ []
+    long n = record { holds = ltb (length out) n; tells = told 11 n } ∷ []
 
     by : (t : Told) (zero : Bool) → eqb (t .number) 0 ≡ zero → outcomeBy t other out .told ≡ outcomeBy t ack out .told
     by t true z = rw z (ap (told 0) e)
@@ -173,7 +173,7 @@ module _ {σ : ℕ → ℕ} (ex : Exchange σ) where
         by false e = rw (answer-unstamped (map σ m) b stamp control out e, answer-unstamped m b stamp control out e, admit-kept ex m b still)
         by true e =
             let long = ap length (ack-for e) ∙ length-map (ackFor m b stamp control) σ in
-            rw (admit-kept ex m b still) (told-alike (admitRows m b) stamp out (ackFor m b stamp control) (ackFor (map σ m) b stamp control) long)
+            rw (admit-kept ex m b still) (told-alike (tenRows m b stamp) out (ackFor m b stamp control) (ackFor (map σ m) b stamp control) long)
 
     -- and where the number is 0 the ACK is exchanged as the message is
     pub exchanged-answer : answerOf m b stamp control out .told .number ≡ 0 → writtenOf (answerOf (map σ m) b stamp control out) ≡ map σ (writtenOf (answerOf m b stamp control out))

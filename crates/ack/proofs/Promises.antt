@@ -4,7 +4,7 @@ use mathlib.Core.Path.{_≡_, refl, sym, ap, subst, subst⁻¹, _∙_}
 use mathlib.Core.Bool.{Bool, true, false, cond, true≢false}
 use mathlib.Core.Logic.{_↔_}
 use mathlib.Core.List.{List, [], _∷_, _++_, map}
-use Prim.Native.Nat.{ℕ, _+_, _^_, _≤_, _<_}
+use Prim.Native.Nat.{ℕ, _+_, _*_, _^_, _≤_, _<_}
 use Prim.Native.Char.{code}
 use native.Mathlib.Omega.{arith}
 use native.Mathlib.Decide.{ℕ-discrete}
@@ -16,7 +16,7 @@ use Rattle.hl7.specs.Text.{bytes}
 use Rattle.hl7.specs.Bytes.{isIn, distinct, all}
 use Rattle.hl7.specs.Place.{carriageReturn, delimsOf, nthOf, cutUnless, segmentsOf, place}
 use Rattle.hl7.specs.Delimiters.{opens}
-use Rattle.hl7.specs.Refusals.{messageLimit, Told, told, firstRow, numbersOf, apart, holdsAt, First, messageRows, formRows}
+use Rattle.hl7.specs.Refusals.{Told, told, firstRow, numbersOf, apart, holdsAt, First, messageRows, formRows}
 use Rattle.hl7.proofs.Cutting.{part-short}
 use Rattle.hl7.proofs.Delimiting.{Delimiting, opens-delimiting}
 use Rattle.grade.specs.Values.{isStamp}
@@ -33,9 +33,9 @@ use Rattle.grade.proofs.Grading.{listed}
 use Rattle.grade.proofs.Admitting.{admitted-by, admits-passed, admit-bounded}
 use Rattle.ack.specs.Layout.{has, isHeader, isFault, mshLine, msaLine, errLine, ackLines}
 use Rattle.ack.specs.Answers.{Outcome, outcome, outcomeBy, ackFor, answerRows, answerOf}
-use Rattle.ack.specs.Pieces.{findingLimit, shortOr}
-use Rattle.ack.proofs.Sizes.{ack-short}
-use Rattle.ack.proofs.Admitting.{stamp-length, admitted-short, admitted-few}
+use Rattle.ack.specs.Pieces.{shortOr}
+use Rattle.ack.proofs.Sizes.{ack-size}
+use Rattle.ack.proofs.Admitting.{stamp-length, admitted-short, admitted-long, admitted-within}
 use Rattle.ack.proofs.Listing.{graded-plain, header-verdict}
 use Rattle.ack.proofs.Answering.{number-is, refused-is, written-is as ack-is, table-exactly, table-none, write-stamp, write-right, answer-admitted, answer-stopped}
 use Rattle.ack.proofs.Texts.{text-clean, stamp-text, listed-text}
@@ -177,14 +177,21 @@ msh-within : (m : List ℕ) → length (mshOf m) ≤ length m
 unfolding nthOf cutUnless
 msh-within m = part-short carriageReturn m 0
 
-module _ (m b stamp : List ℕ) (control : ℕ) (out : List ℕ) where
-  -- a message that passes rows 1 to 9 is short, and its findings are few
-  listed-few : firstRow (admitRows m b) .number ≡ 0 → length (findingsFor m b) ≤ findingLimit
-  listed-few e =
+-- a message that passes rows 1 to 9 is short, and its findings are few for each byte
+module _ (m b stamp : List ℕ) (control : ℕ) (e : firstRow (admitRows m b) .number ≡ 0) where
+  listed-within : length (findingsFor m b) ≤ (length m + 1) * (257 * 32769)
+  listed-within =
       let is = admits-passed m b e in
       let by = admitted-by m b is in
-      subst (λ (l : List Finding). length l ≤ findingLimit) (listed m b _ (by .opens) (by .reads)) (admitted-few m b is)
+      subst (λ (l : List Finding). length l ≤ (length m + 1) * (257 * 32769)) (listed m b _ (by .opens) (by .reads)) (admitted-within m b is)
 
+  -- so its ACK is longer than the message by this factor at most
+  pub ack-within : isStamp stamp ≡ true → length (ackFor m b stamp control) ≤ length m * 2 ^ 32
+  ack-within right =
+      let is = admits-passed m b e in
+      omega (arith, ack-size (delimsOf m) (mshOf m) stamp control (findingsFor m b), msh-within m, stamp-length stamp right, listed-within, admitted-long m b is)
+
+module _ (m b stamp : List ℕ) (control : ℕ) (out : List ℕ) where
   -- no detail reaches 2 ^ 48, and no number 12
   pub answer-bounded : (answerOf m b stamp control out .told .number < 12) × (answerOf m b stamp control out .told .detail ≤ 2 ^ 48)
   unfolding firstRow
@@ -207,10 +214,8 @@ module _ (m b stamp : List ℕ) (control : ℕ) (out : List ℕ) where
       stamped : firstRow (admitRows m b) .number ≡ 0 → (right : Bool) → isStamp stamp ≡ right → Small (answerOf m b stamp control out .told)
       stamped e false w = rw (answer-admitted m b stamp control out e, write-stamp m (findingsFor m b) stamp control out w) (omega arith, omega arith)
       stamped e true w =
-          let is = admits-passed m b e in
-          let msh-short : length (mshOf m) ≤ messageLimit = omega (arith, msh-within m, admitted-short m b is) in
           rw (answer-admitted m b stamp control out e, write-right m (findingsFor m b) stamp control out w)
-          (last (omega (arith, ack-short (delimsOf m) (mshOf m) stamp control (findingsFor m b) msh-short (omega (arith, stamp-length stamp w)) (listed-few e))))
+          (last (omega (arith, ack-within m b stamp control e w, admitted-short m b (admits-passed m b e))))
 
       by : Dec (firstRow (admitRows m b) .number ≡ 0) → Small (answerOf m b stamp control out .told)
       by (yes e) = stamped e (isStamp stamp) refl

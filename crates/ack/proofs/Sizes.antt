@@ -2,7 +2,7 @@
 use mathlib.Core.Path.{_≡_, refl, ap, subst}
 use mathlib.Core.Bool.{Bool, true, false, cond}
 use mathlib.Core.List.{List, [], _∷_, flatMap}
-use Prim.Native.Nat.{ℕ, _+_, _-_, _*_, _^_, _≤_, _<_}
+use Prim.Native.Nat.{ℕ, _+_, _*_, _^_, _≤_, _<_}
 use native.Mathlib.Omega.{arith}
 use lib.ListN.{length, length-append, length-map}
 use lib.Dec.{eqb, lit≤}
@@ -146,9 +146,13 @@ errs-short d [] = lit≤ tt
 errs-short d (f ∷ findings) =
     omega (arith, length-append (ended (errLine d f)) (errs d findings), err-short d f, errs-short d findings)
 
+-- so long at most, by what it is made of
+pub ack-size : (d : Delims) (msh stamp : List ℕ) (control : ℕ) (findings : List Finding) → length (ackBytes d msh stamp control findings) ≤ 110 + length stamp + 6 * length msh + 160 * length findings
+ack-size d msh stamp control findings =
+    rw (ack-is d msh stamp control findings, length-append)
+    (omega (arith, heading-short d msh stamp control (verdict findings), errs-short d findings))
+
 -- an ACK is far shorter than an index can be: the message has at most 32,768 bytes, the stamp 19, and the findings are few
 pub ack-short : (d : Delims) (msh stamp : List ℕ) (control : ℕ) (findings : List Finding) → length msh ≤ 32768 → length stamp ≤ 19 → length findings ≤ 2 ^ 40
     → length (ackBytes d msh stamp control findings) < 2 ^ 48
-ack-short d msh stamp control findings h s few =
-    rw (ack-is d msh stamp control findings, length-append)
-    (omega (arith, heading-short d msh stamp control (verdict findings), errs-short d findings))
+ack-short d msh stamp control findings h s few = omega (arith, ack-size d msh stamp control findings)

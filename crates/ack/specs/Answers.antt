@@ -32,13 +32,17 @@ outcomeBy t ack out = cond (eqb (t .number) 0) (outcome (told 0 (length ack)) (a
 abbrev pub byRows : List Row → (ack out : List ℕ) → Outcome
 byRows rows ack out = outcomeBy (firstRow rows) ack out
 
+-- row 10: the stamp is none
+abbrev pub stampRow : (stamp : List ℕ) → Row
+stampRow stamp = row 10 (not (isStamp stamp))
+
 -- row 11: the output is shorter than the ACK; its detail is the length needed
 abbrev pub shortRow : (ack out : List ℕ) → Row
 shortRow ack out = record { holds = ltb (length out) (length ack); tells = told 11 (length ack) }
 
 -- rows 10 and 11, about the stamp and the output
 abbrev pub writeRows : (stamp ack out : List ℕ) → List Row
-writeRows stamp ack out = row 10 (not (isStamp stamp)) ∷ shortRow ack out ∷ []
+writeRows stamp ack out = stampRow stamp ∷ shortRow ack out ∷ []
 
 -- the ACK to a message that lists findings: its delimiters and its MSH are the message's own
 abbrev pub ackOf : (m : List ℕ) → List Finding → (stamp : List ℕ) → ℕ → List ℕ
@@ -56,9 +60,13 @@ thenWrite g m stamp control out = cond (eqb (g .told .number) 0) (writeOf m (g .
 abbrev pub ackFor : (m book stamp : List ℕ) → ℕ → List ℕ
 ackFor m book stamp control = ackOf m (findingsFor m book) stamp control
 
+-- rows 1 to 10, which do not look at the output
+abbrev pub tenRows : (m book stamp : List ℕ) → List Row
+tenRows m book stamp = admitRows m book ++ (stampRow stamp ∷ [])
+
 -- the eleven rows, in the order in which they are tried
 abbrev pub answerRows : (m book stamp : List ℕ) → ℕ → (out : List ℕ) → List Row
-answerRows m book stamp control out = admitRows m book ++ writeRows stamp (ackFor m book stamp control) out
+answerRows m book stamp control out = tenRows m book stamp ++ (shortRow (ackFor m book stamp control) out ∷ [])
 
 -- the answer to a message by a book
 unfoldable pub answerOf : (m book stamp : List ℕ) → ℕ → (out : List ℕ) → Outcome

@@ -9,11 +9,14 @@ use crate::refusal::of_reading;
 use crate::refusal::refused;
 use grade::admit::Admitted;
 use grade::admit::admit;
+use grade::book::Indexed;
+use grade::book::index_book;
 use grade::date::is_stamp;
 use grade::header::Header;
 use grade::header::any_wrong;
 use grade::limits::FIELD_PLACES;
 use grade::limits::LINKS;
+use grade::limits::SECTION_LIMIT;
 use grade::limits::SET_PLACES;
 use grade::lookup::links_of;
 use grade::lookup::sets_of;
@@ -30,7 +33,7 @@ ghost use lib.ListN.{length, take};
 ghost use Rattle.hl7.specs.Place.{delimsOf, isMsh};
 ghost use Rattle.hl7.specs.Refusals.{messageLimit};
 ghost use Rattle.grade.specs.declared.admit.Admitted.the-variants.{By};
-ghost use Rattle.grade.specs.Standing.{Admits, Holds, Placed, rulesIn};
+ghost use Rattle.grade.specs.Standing.{Indexes, Admits, Holds, Placed, rulesIn};
 ghost use Rattle.grade.specs.Limits.{fieldPlaces};
 ghost use Rattle.grade.specs.Linked.{Linked};
 ghost use Rattle.grade.specs.Rest.{findingsIn};
@@ -124,11 +127,20 @@ fn answer_admitted(
     refused(10)
 }
 
-// The answer to a message by a book: the ACK in the first bytes of the output, or the first refusal that applies, which alters nothing.
-pub fn answer(m: &[u8], book: &[u8], stamp: &[u8], control: u32, out: &mut [u8]) -> Answer
+// The answer to a message by a book whose sections' starts were noted by `index_book`: many messages can be answered by one index.
+pub fn answer_indexed(
+    m: &[u8],
+    book: &[u8],
+    sections: &[usize],
+    indexed: Indexed,
+    stamp: &[u8],
+    control: u32,
+    out: &mut [u8],
+) -> Answer
+    requires { ⌜ Indexes (now book) (now sections) indexed ⌝ }
     ensures { λ r. ⌜ Gives r (now (out .exit)) (answerOf (now (m .entry)) (now (book .entry)) (now (stamp .entry)) control (now (out .entry))) ⌝ }
 {
-    match admit(m, book) {
+    match admit(m, book, sections, indexed) {
         Admitted::By(section, header) => {
             answer_admitted(out, m, book, section, header, stamp, control)
         }
@@ -138,4 +150,13 @@ pub fn answer(m: &[u8], book: &[u8], stamp: &[u8], control: u32, out: &mut [u8])
         Admitted::OtherVersion => refused(8),
         Admitted::NoSection => refused(9),
     }
+}
+
+// The answer to a message by a book: the ACK in the first bytes of the output, or the first refusal that applies, which alters nothing.
+pub fn answer(m: &[u8], book: &[u8], stamp: &[u8], control: u32, out: &mut [u8]) -> Answer
+    ensures { λ r. ⌜ Gives r (now (out .exit)) (answerOf (now (m .entry)) (now (book .entry)) (now (stamp .entry)) control (now (out .entry))) ⌝ }
+{
+    let mut sections = [0usize; SECTION_LIMIT];
+    let indexed = index_book(book, &mut sections);
+    answer_indexed(m, book, &sections, indexed, stamp, control, out)
 }

@@ -64,10 +64,9 @@ module _ (o : ℕ → ℕ → Bool) (c : List Rule) (t : List (List (List ℕ)))
       let rules : suc (length c) ≡ length c + 1 = omega arith in
       rw (length-map, ← rules) (omega (arith, places-few))
 
-  pub findings-few : length m ≤ 32768 → length c ≤ 256 → length (findings o c t m) ≤ 32769 * (257 * 32769)
+  -- so many for each byte
+  pub findings-few : length m ≤ 32768 → length c ≤ 256 → length (findings o c t m) ≤ (length m + 1) * (257 * 32769)
   findings-few h k =
       let bytes : length m + 1 ≤ 32769 = omega arith in
       let rules : length c + 1 ≤ 257 = omega arith in
-      le-trans findings-within
-      (le-trans (mul-le-mul-right ((length c + 1) * (length m + 1)) bytes)
-      (mul-le-mul-left 32769 (le-trans (mul-le-mul-right (length m + 1) rules) (mul-le-mul-left 257 bytes))))
+      le-trans findings-within (mul-le-mul-left (length m + 1) (le-trans (mul-le-mul-right (length m + 1) rules) (mul-le-mul-left 257 bytes)))

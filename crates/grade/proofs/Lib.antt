@@ -3,6 +3,7 @@ pub mod Naming
 pub mod Parts
 pub mod Holding
 pub mod Opening
+pub mod Indexing
 pub mod Encoded
 pub mod Decoded
 pub mod Counting

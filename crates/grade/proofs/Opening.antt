@@ -2,23 +2,23 @@
 use Prim.Native.Nat.{ℕ, _+_}
 use native.Mathlib.Omega.{arith}
 use mathlib.Core.Path.{_≡_, refl, sym, ap, subst, _∙_}
-use mathlib.Core.Bool.{Bool, true, false, cond, not, _||_, false≢true}
+use mathlib.Core.Bool.{Bool, true, false, cond, _||_, false≢true}
 use mathlib.Core.List.{List, [], _∷_, map}
-use lib.Dec.{eqb, leb}
+use lib.Dec.{leb}
 use lib.ListN.{length, getD}
 use borrow.Author.Tests.{leb-true, not-true, not-false}
 use Rattle.hl7.specs.Bytes.{all, same, among}
-use Rattle.hl7.specs.Refusals.{Told, told, Row, row, firstRow}
+use Rattle.hl7.specs.Refusals.{Told, told, Row, firstRow}
 use Rattle.hl7.proofs.Comparing.{and-both, same-equal}
 use Rattle.grade.specs.declared.rule.Rule.{Rule}
 use Rattle.grade.specs.declared.walk.Section.{Section}
 use Rattle.grade.specs.declared.book.Opened.{Opened}
-use Rattle.grade.specs.Limits.{headSize, bookVersion, ruleLimit, setLimit}
+use Rattle.grade.specs.Limits.{headSize, ruleLimit, setLimit}
 use Rattle.grade.specs.Reader.{Parsed, fault, found, isFound, itemsOf, times}
-use Rattle.grade.specs.Book.{Contents, section, distinct, keys, sections, headRight, version, decoded, under, malformed, otherVersion, noSection}
-use Rattle.grade.specs.Admission.{bookRows, openedTold}
-use Rattle.grade.specs.Standing.{endOf, textAt, standsAt, contentsAt, siteAt, starting, siteOf, siteIn, OpensBook, rulesIn, setsIn, Holds}
-use Rattle.grade.proofs.Readings.{then-found, found-same, starts-stand}
+use Rattle.grade.specs.Book.{Contents, section, distinct, keys, sections, decoded, under, noSection}
+use Rattle.grade.specs.Admission.{openedTold}
+use Rattle.grade.specs.Standing.{endOf, textAt, standsAt, contentsAt, siteAt, starting, startsIn, siteOf, siteIn, OpensBook, rulesIn, setsIn, Holds}
+use Rattle.grade.proofs.Readings.{is-found, then-found, found-same, starts-stand}
 use Rattle.grade.proofs.Parts.{SectionParts, stands-parts, stands-key, sections-say, book-parts}
 
 -- ---- the ways out
@@ -34,20 +34,6 @@ opens-at e is = record { toldIs = e; at = λ none. ap Opened.At is }
 -- rows that tell the same allow the same
 pub opens-as : {rows others : List Row} {site place : Section} {r : Opened} → firstRow rows ≡ firstRow others → site ≡ place → OpensBook rows site r → OpensBook others place r
 opens-as same is w = record { toldIs = w .toldIs ∙ same; at = λ none. w .at (ap (λ (t : Told). t .number) same ∙ none) ∙ ap Opened.At is }
-
-module _ (b key : List ℕ) where
-  pub head-wrong : headRight b ≡ false → OpensBook (bookRows b key) (siteIn b key) Opened.Malformed
-  unfolding bookRows firstRow malformed
-  head-wrong h = opens-refused (rw h) (λ e. omega (arith, e))
-
-  module _ (h : headRight b ≡ true) where
-    pub version-other : otherVersion b ≡ true → OpensBook (bookRows b key) (siteIn b key) Opened.OtherVersion
-    unfolding bookRows firstRow malformed otherVersion
-    version-other e = opens-refused (rw (h, not-true (eqb (version b) bookVersion) e)) (λ e. omega (arith, e))
-
-    pub version-right : {r : Opened} → otherVersion b ≡ false → OpensBook (row 7 (not (isFound (sections b headSize))) ∷ row 9 (noSection b key) ∷ []) (siteIn b key) r → OpensBook (bookRows b key) (siteIn b key) r
-    unfolding bookRows firstRow malformed otherVersion
-    version-right e = opens-as (rw (h, not-false (eqb (version b) bookVersion) e)) refl
 
 -- ---- the section that was found
 
@@ -128,23 +114,42 @@ chosen-under b key starts d c =
         x ≡ record { key = key; rules = rules; sets = sets }
     same-contents x key rules sets k r s = rw (k, ← r, ← s)
 
-pub opened-under : (b key : List ℕ) → noSection b key ≡ false → Under b key (siteIn b key)
-unfolding noSection decoded among
-opened-under b key none = go (sections b headSize) refl (not-false (among key (keys (decoded b))) none)
+-- a book whose sections were read, by where they start: they stand there, and differ by their keys
+pub record Started (b : List ℕ) : Type 0 where
+  pub stand : all (standsAt b) (startsIn b) ≡ true
+  pub say : decoded b ≡ map (contentsAt b) (startsIn b)
+  pub differ : distinct (keys (decoded b)) ≡ true
+
+pub sections-started : (b : List ℕ) → isFound (sections b headSize) ≡ true → Started b
+unfolding decoded
+sections-started b h =
+    let r = is-found (sections b headSize) h in
+    let q = book-parts b (r .0) (r .1) (r .2) in
+    let n = getD b headSize 0 in
+    let s = then-found (times n (starting section) b (headSize + 1)) _ (r .0) (length b) (sym (sections-say b n (headSize + 1)) ∙ q .read) in
+    let says : map (contentsAt b) (s .0) ≡ r .0 = found-same (map (contentsAt b) (s .0)) (r .0) (s .1) (length b) (s .3) .0 in
+    let are : s .0 ≡ startsIn b = sym (ap itemsOf (s .2)) in
+    record {
+      stand = subst (λ (xs : List ℕ). all (standsAt b) xs ≡ true) are (starts-stand section b n (headSize + 1) (s .0) (s .1) (s .2));
+      say = ap itemsOf (r .2) ∙ sym says ∙ ap (map (contentsAt b)) are;
+      differ = ap (λ (x : Parsed (List Contents)). distinct (keys (itemsOf x))) (r .2) ∙ q .differ;
+    }
+
+has-sections : (b key : List ℕ) → among key (keys (decoded b)) ≡ true → isFound (sections b headSize) ≡ true
+unfolding decoded among
+has-sections b key = by (sections b headSize)
   where
-    go : (r : Parsed (List Contents)) → sections b headSize ≡ r → among key (keys (decoded b)) ≡ true → Under b key (siteIn b key)
-    go fault e m = absurd (false≢true (ap (λ (x : Parsed (List Contents)). among key (keys (itemsOf x))) (sym e) ∙ m))
-    go (found all end) e m =
-        let q = book-parts b all end e in
-        let n = getD b headSize 0 in
-        let s = then-found (times n (starting section) b (headSize + 1)) _ all (length b) (sym (sections-say b n (headSize + 1)) ∙ q .read) in
-        let says : map (contentsAt b) (s .0) ≡ all = found-same (map (contentsAt b) (s .0)) all (s .1) (length b) (s .3) .0 in
-        let d : decoded b ≡ map (contentsAt b) (s .0) = ap itemsOf e ∙ sym says in
-        let c =
-        chosen-in b key (s .0) (starts-stand section b n (headSize + 1) (s .0) (s .1) (s .2)) (ap (λ (xs : List Contents). distinct (keys xs)) says ∙ q .differ)
-        (ap (λ (xs : List Contents). among key (keys xs)) (sym d) ∙ m)
-        in
-        subst (λ (xs : List ℕ). Under b key (siteOf b key xs)) (sym (ap itemsOf (s .2))) (chosen-under b key (s .0) d c)
+    by : (r : Parsed (List Contents)) → among key (keys (itemsOf r)) ≡ true → isFound r ≡ true
+    by fault m = absurd (false≢true m)
+    by (found all end) m = refl
+
+pub opened-under : (b key : List ℕ) → noSection b key ≡ false → Under b key (siteIn b key)
+unfolding noSection
+opened-under b key none =
+    let m = not-false (among key (keys (decoded b))) none in
+    let w = sections-started b (has-sections b key m) in
+    chosen-under b key (startsIn b) (w .say)
+    (chosen-in b key (startsIn b) (w .stand) (ap (λ (xs : List Contents). distinct (keys xs)) (sym (w .say)) ∙ w .differ) (ap (λ (xs : List Contents). among key (keys xs)) (sym (w .say)) ∙ m))
 
 -- two books whose sections with a key say the same give the same rules and sets
 pub which-registry : (b b′ key : List ℕ) (s s′ : Section) → Under b key s → Under b′ key s′ →

@@ -1,5 +1,5 @@
 -- What a caller of the grader knows of its steps: the laws that upper crates cite. Assumes nothing.
-use Prim.Native.Nat.{ℕ, _*_, _≤_, _<_}
+use Prim.Native.Nat.{ℕ, _+_, _*_, _≤_, _<_}
 use mathlib.Core.Path.{_≡_, refl, sym, ap, subst, subst⁻¹, _∙_}
 use mathlib.Core.Bool.{Bool, true, false, cond}
 use mathlib.Core.List.{List, [], _∷_, _++_, append-nil}
@@ -91,9 +91,9 @@ pub start-all : (m b : List ℕ) (s : Section) (h : Header) {out : ℕ → ℕ �
 start-all m b s h e f = ap (headerOr h) (list-as m b s mayFollow e f)
 
 -- ---- so many findings at most
-pub all-few : (m b : List ℕ) (s : Section) (h : Header) → length m ≤ messageLimit → Holds b s → length (findingsIn b s h m) ≤ 32769 * (257 * 32769)
-all-few m b s h short holds = by (anyWrong h)
+pub all-within : (m b : List ℕ) (s : Section) (h : Header) → length m ≤ messageLimit → Holds b s → length (findingsIn b s h m) ≤ (length m + 1) * (257 * 32769)
+all-within m b s h short holds = by (anyWrong h)
   where
-    by : (wrong : Bool) → length (cond wrong (headerFindings h) (findings mayFollow (rulesIn b s) (setsIn b s) m)) ≤ 32769 * (257 * 32769)
+    by : (wrong : Bool) → length (cond wrong (headerFindings h) (findings mayFollow (rulesIn b s) (setsIn b s) m)) ≤ (length m + 1) * (257 * 32769)
     by true = omega (arith, header-few h)
     by false = findings-few mayFollow (rulesIn b s) (setsIn b s) m short (omega (arith, rules-length b s holds, holds .fewRules))

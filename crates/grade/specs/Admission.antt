@@ -9,6 +9,7 @@ use Rattle.hl7.specs.Refusals.{Told, told, Row, row, messageRows, readingTold}
 use Rattle.hl7.specs.declared.place.Delims.{Delims}
 use Rattle.grade.specs.Book.{malformed, otherVersion, noSection}
 use Rattle.grade.specs.Header.{mshOf, mshAt}
+use Rattle.grade.specs.declared.book.Indexed.{Indexed}
 use Rattle.grade.specs.declared.book.Opened.{Opened}
 use Rattle.grade.specs.declared.admit.Admitted.{Admitted}
 use Rattle.grade.specs.declared.admit.Admitted.the-variants.{Unreadable, NoControlId, MalformedBook, OtherVersion, NoSection, By}
@@ -34,6 +35,11 @@ unfoldable pub admitRows : List ℕ → List ℕ → List Row
 admitRows m b = messageRows m ++ mshRows (delimsOf m) (mshOf m) b
 
 -- ---- the code's answers on paper
+abbrev pub indexedTold : Indexed → Told
+indexedTold (Indexed.Of count) = told 0 0
+indexedTold Indexed.Malformed = told 7 0
+indexedTold Indexed.OtherVersion = told 8 0
+
 abbrev pub openedTold : Opened → Told
 openedTold (Opened.At section) = told 0 0
 openedTold Opened.Malformed = told 7 0

@@ -7,18 +7,19 @@ use lib.ListN.{length, getD, take}
 use lib.Seq.{slice}
 use Rattle.hl7.specs.Bytes.{same}
 use Rattle.hl7.specs.Place.{delimsOf}
-use Rattle.hl7.specs.Refusals.{Row, firstRow}
+use Rattle.hl7.specs.Refusals.{Row, row, firstRow}
 use Rattle.hl7.specs.declared.place.Delims.{Delims}
 use Rattle.grade.specs.Rule.{nameBytes}
 use Rattle.grade.specs.Limits.{headSize, ruleLimit, ruleSize, setLimit}
 use Rattle.grade.specs.Reader.{Parsed, fault, found, isFound, itemsOf, Reader, andThen, pair, times}
-use Rattle.grade.specs.Book.{plain, ruleIn, codeSet, Contents, section}
+use Rattle.grade.specs.Book.{plain, ruleIn, codeSet, Contents, section, malformed, otherVersion}
 use Rattle.grade.specs.Header.{mshOf, headerOf}
-use Rattle.grade.specs.Admission.{keyOf, admitRows, openedTold, admittedTold}
+use Rattle.grade.specs.Admission.{keyOf, admitRows, indexedTold, openedTold, admittedTold}
 use Rattle.grade.specs.declared.rule.Rule.{Rule}
 use Rattle.grade.specs.declared.walk.Next.{Next}
 use Rattle.grade.specs.declared.walk.Section.{Section}
 use Rattle.grade.specs.declared.lookup.Looked.{Looked}
+use Rattle.grade.specs.declared.book.Indexed.{Indexed}
 use Rattle.grade.specs.declared.book.Opened.{Opened}
 use Rattle.grade.specs.declared.admit.Admitted.{Admitted}
 use Rattle.grade.specs.declared.admit.Admitted.the-variants.{By}
@@ -114,7 +115,21 @@ siteOf b key (at ∷ rest) = cond (same key (textAt b at)) (siteAt b at) (siteOf
 abbrev pub siteIn : List ℕ → List ℕ → Section
 siteIn b key = siteOf b key (startsIn b)
 
--- ---- what opening and admitting answer
+-- ---- what indexing, opening and admitting answer
+
+-- the first count of the positions are where the sections of the book start
+pub record Listed (b starts : List ℕ) (count : ℕ) : Type 0 where
+  pub fits : count ≤ length starts
+  pub are : take count starts ≡ startsIn b
+
+-- the first of the rows that holds, or else how many sections the book has, and where they start
+pub record IndexesBy (rows : List Row) (b starts : List ℕ) (r : Indexed) : Type 0 where
+  pub toldIs : indexedTold r ≡ firstRow rows
+  pub listed : (count : ℕ) → r ≡ Indexed.Of count → Listed b starts count
+
+-- a book without a key: rows 7 and 8
+abbrev pub Indexes : (b starts : List ℕ) → Indexed → Type 0
+Indexes b starts r = IndexesBy (row 7 (malformed b) ∷ row 8 (otherVersion b) ∷ []) b starts r
 
 -- the first of the rows that holds, or else where the section stands
 pub record OpensBook (rows : List Row) (site : Section) (r : Opened) : Type 0 where

@@ -1,6 +1,7 @@
 // Refusals 1 to 9, in the order in which they are tried, or the section that the message names with what its header says.
+use crate::book::Indexed;
 use crate::book::Opened;
-use crate::book::open_book;
+use crate::book::open_at;
 use crate::header::Header;
 use crate::header::header_of;
 use crate::header::msh_value;
@@ -19,7 +20,7 @@ ghost use mathlib.Core.Bool.{true};
 ghost use Rattle.hl7.specs.Noted.{MshNoted};
 ghost use Rattle.hl7.specs.Place.{isMsh};
 ghost use Rattle.grade.specs.Admission.{hasControlId, mshRows, openedTold, admittedTold};
-ghost use Rattle.grade.specs.Standing.{AdmitsBy, Admits};
+ghost use Rattle.grade.specs.Standing.{Indexes, AdmitsBy, Admits};
 ghost use Rattle.grade.specs.declared.walk.Section.{Section};
 ghost use Rattle.grade.specs.declared.book.Opened.{Opened};
 ghost use Rattle.grade.specs.declared.admit.Admitted.the-variants.{By};
@@ -53,28 +54,29 @@ fn by_section(opened: Opened, header: Header) -> Admitted
 }
 
 // Rows 6 to 9, of a message whose first segment is given: it is cut once.
-fn admit_msh(d: Delims, msh: &[u8], book: &[u8]) -> Admitted
-    requires { ⌜ isMsh (now msh) ≡ true ⌝ }
+fn admit_msh(d: Delims, msh: &[u8], book: &[u8], sections: &[usize], indexed: Indexed) -> Admitted
+    requires { ⌜ (isMsh (now msh) ≡ true) × Indexes (now book) (now sections) indexed ⌝ }
     ensures { λ r. ⌜ AdmitsBy (mshRows d (now (msh .entry)) (now (book .entry))) d (now (msh .entry)) (now (book .entry)) r ⌝ }
 {
     let mut starts = [0usize; MSH_PLACES];
     let count = note_fields(d, msh, &mut starts);
     if has_control_id(d, msh, &starts, count) {
         let key = msh_value(d, msh, &starts, count, 6, 1);
-        let opened = open_book(book, key);
+        let opened = open_at(book, sections, indexed, key);
         by_section(opened, header_of(d, msh, &starts, count))
     } else {
         Admitted::NoControlId
     }
 }
 
-// Whether a message can be graded by a book, and by which section.
-pub fn admit(m: &[u8], book: &[u8]) -> Admitted
+// Whether a message can be graded by a book, and by which section; `index_book` noted where the book's sections start.
+pub fn admit(m: &[u8], book: &[u8], sections: &[usize], indexed: Indexed) -> Admitted
+    requires { ⌜ Indexes (now book) (now sections) indexed ⌝ }
     ensures { λ r. ⌜ Admits (now (m .entry)) (now (book .entry)) r ⌝ }
 {
     let reading = check(m);
     if is_sound_reading(reading) {
-        admit_msh(delims_of(m), segment(m, 1), book)
+        admit_msh(delims_of(m), segment(m, 1), book, sections, indexed)
     } else {
         Admitted::Unreadable(reading)
     }

@@ -6,11 +6,11 @@ ghost use mathlib.Core.List.{[], _∷_, map};
 ghost use lib.ListN.{length, getD, drop, take};
 ghost use Rattle.hl7.specs.Bytes.{all, among};
 ghost use Rattle.hl7.specs.Refusals.{row};
-ghost use Rattle.grade.specs.Limits.{headSize};
+ghost use Rattle.grade.specs.Limits.{headSize, sectionLimit};
 ghost use Rattle.grade.specs.Reader.{isFound, times};
-ghost use Rattle.grade.specs.Book.{section, distinct, headRight, sections, noSection};
+ghost use Rattle.grade.specs.Book.{section, distinct, headRight, sections};
 ghost use Rattle.grade.specs.Admission.{bookRows};
-ghost use Rattle.grade.specs.Standing.{upTo, textAt, TextFits, TellsPlain, standsAt, siteAt, starting, siteOf, siteIn, OpensBook};
+ghost use Rattle.grade.specs.Standing.{upTo, textAt, TextFits, TellsPlain, standsAt, siteAt, starting, siteOf, siteIn, IndexesBy, Indexes, OpensBook};
 use crate::limits::BOOK_LIMIT;
 use crate::limits::BOOK_VERSION;
 use crate::limits::HEAD_SIZE;
@@ -25,6 +25,12 @@ use crate::walk::text_after;
 use crate::walk::text_part;
 use hl7::bytes::begins_with;
 use hl7::bytes::same_bytes;
+
+pub enum Indexed {
+    Of(usize),
+    Malformed,
+    OtherVersion,
+}
 
 pub enum Opened {
     At(Section),
@@ -127,42 +133,55 @@ fn head_right(book: &[u8]) -> bool
     (HEAD_SIZE <= book.len()) & (book.len() <= BOOK_LIMIT) & marked
 }
 
-fn open_sections(book: &[u8], key: &[u8]) -> Opened
-    ensures { λ r. ⌜ OpensBook (row 7 (not (isFound (sections (now (book .entry)) headSize))) ∷ row 9 (noSection (now (book .entry)) (now (key .entry))) ∷ []) (siteIn (now (book .entry)) (now (key .entry))) r ⌝ }
+fn index_sections(book: &[u8], starts: &mut [usize]) -> Indexed
+    requires { ⌜ sectionLimit ≤ length (now starts) ⌝ }
+    ensures { λ r. ⌜ IndexesBy (row 7 (not (isFound (sections (now (book .entry)) headSize))) ∷ []) (now (book .entry)) (now (starts .exit)) r ⌝ }
 {
     if book.len() <= HEAD_SIZE {
-        return Opened::Malformed;
+        return Indexed::Malformed;
     }
     let count = book[HEAD_SIZE] as usize;
     if !((1 <= count) & (count <= SECTION_LIMIT)) {
-        return Opened::Malformed;
+        return Indexed::Malformed;
     }
-    let mut starts = [0usize; SECTION_LIMIT];
     // made once, and lent: a constant is made anew wherever it is named
     let table = PLAIN;
-    let Next::At(end) = walk_sections(&table, book, HEAD_SIZE + 1, count, &mut starts) else {
-        return Opened::Malformed;
+    let Next::At(end) = walk_sections(&table, book, HEAD_SIZE + 1, count, starts) else {
+        return Indexed::Malformed;
     };
     if end != book.len() {
-        return Opened::Malformed;
+        return Indexed::Malformed;
     }
-    let used = &starts[..count];
-    if keys_distinct(book, used) {
-        find_section(book, used, key)
+    if keys_distinct(book, &starts[..count]) {
+        Indexed::Of(count)
     } else {
-        Opened::Malformed
+        Indexed::Malformed
     }
 }
 
-// The book's refusals in their order, or the section with the key. The whole book is checked before any of it is used.
-pub(crate) fn open_book(book: &[u8], key: &[u8]) -> Opened
-    ensures { λ r. ⌜ OpensBook (bookRows (now (book .entry)) (now (key .entry))) (siteIn (now (book .entry)) (now (key .entry))) r ⌝ }
+// How many sections a book has, and first in the lent slice where they start; or why the book cannot be used. The whole book is checked, once for any
+// number of keys.
+pub fn index_book(book: &[u8], starts: &mut [usize]) -> Indexed
+    requires { ⌜ sectionLimit ≤ length (now starts) ⌝ }
+    ensures { λ r. ⌜ Indexes (now (book .entry)) (now (starts .exit)) r ⌝ }
 {
     if !head_right(book) {
-        return Opened::Malformed;
+        return Indexed::Malformed;
     }
     if pair_at(book, 3) != BOOK_VERSION {
-        return Opened::OtherVersion;
+        return Indexed::OtherVersion;
     }
-    open_sections(book, key)
+    index_sections(book, starts)
+}
+
+// The book's refusals in their order, or the section with the key, by what `index_book` answered and noted.
+pub(crate) fn open_at(book: &[u8], starts: &[usize], indexed: Indexed, key: &[u8]) -> Opened
+    requires { ⌜ Indexes (now book) (now starts) indexed ⌝ }
+    ensures { λ r. ⌜ OpensBook (bookRows (now (book .entry)) (now (key .entry))) (siteIn (now (book .entry)) (now (key .entry))) r ⌝ }
+{
+    match indexed {
+        Indexed::Of(count) => find_section(book, &starts[..count], key),
+        Indexed::Malformed => Opened::Malformed,
+        Indexed::OtherVersion => Opened::OtherVersion,
+    }
 }

@@ -23,7 +23,7 @@ admit-msh-requires : tie.Need-admit-msh-requires
 admit-msh-requires c κs =
     let sound = c .before .before in
     let checked = sound .before .before in
-    ap isMsh (c .segment .ensures .bytes) ∙ sound-msh _ (sym (sound-is _ (checked .check .result) (checked .check .ensures)) ∙ sym (sound .before .is-sound-reading .ensures) ∙ sound .if1 .taken)
+    (ap isMsh (c .segment .ensures .bytes) ∙ sound-msh _ (sym (sound-is _ (checked .check .result) (checked .check .ensures)) ∙ sym (sound .before .is-sound-reading .ensures) ∙ sound .if1 .taken), checked .before .before .before .before .pre)
 
 returns : tie.Need-returns
 returns c =

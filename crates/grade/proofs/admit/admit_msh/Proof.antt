@@ -23,8 +23,8 @@ slice-aggregate-msh-value c = search needs
 msh-value-requires : tie.Need-msh-value-requires
 msh-value-requires c κs = search needs
 
-open-book-requires : tie.Need-open-book-requires
-open-book-requires c κs = search needs
+open-at-requires : tie.Need-open-at-requires
+open-at-requires c κs = search needs
 
 slice-aggregate-header-of : tie.Need-slice-aggregate-header-of
 slice-aggregate-header-of c = search needs
@@ -40,7 +40,7 @@ returns c =
     let opened = c .before .before .before in
     let key = opened .before in
     let chosen = key .before .before in
-    admit-some _ _ _ (sym (chosen .before .has-control-id .ensures) ∙ chosen .if1 .taken) (key .msh-value .ensures) (opened .open-book .ensures) (c .before .header-of .ensures) (c .by-section .ensures)
+    admit-some _ _ _ (sym (chosen .before .has-control-id .ensures) ∙ chosen .if1 .taken) (key .msh-value .ensures) (opened .open-at .ensures) (c .before .header-of .ensures) (c .by-section .ensures)
 
 returns-2 : tie.Need-returns-2
 returns-2 c = admit-none _ _ _ (sym (c .before .has-control-id .ensures) ∙ c .if1 .left)
@@ -55,7 +55,7 @@ admit-msh-spec =
     has-control-id-requires
     slice-aggregate-msh-value
     msh-value-requires
-    open-book-requires
+    open-at-requires
     slice-aggregate-header-of
     header-of-requires
     by-section-requires

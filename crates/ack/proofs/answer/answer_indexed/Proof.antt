@@ -1,12 +1,12 @@
--- `ack::answer::answer` meets its contract. Assumes nothing.
+-- `ack::answer::answer_indexed` meets its contract. Assumes nothing.
 use mathlib.Core.Path.{subst}
 use native.Mathlib.Omega.{arith}
 use borrow.Author.Needs.{needs}
 use Rattle.grade.specs.Standing.{Admits}
 use Rattle.grade.proofs.Admitting.{unreadable-some}
 use Rattle.ack.proofs.Admitting.{answer-refused}
-use Rattle.ack.proofs.answer.answer.Statement.{statement}
-use Rattle.ack.proofs.answer.answer.Tie as tie
+use Rattle.ack.proofs.answer.answer_indexed.Statement.{statement}
+use Rattle.ack.proofs.answer.answer_indexed.Tie as tie
 
 answer-admitted-requires : tie.Need-answer-admitted-requires
 answer-admitted-requires c κs =
@@ -39,11 +39,11 @@ returns-6 c =
     let at-told = c .before in
     answer-refused _ _ _ _ _ _ (subst (Admits _ _) (at-told .enum-told4 .given .1) (at-told .before .before .admit .ensures)) (c .refused4 .ensures) (λ e. omega (arith, e))
 
-pub answer-spec : {M : Type 1} → statement M
-answer-spec =
+pub answer-indexed-spec : {M : Type 1} → statement M
+answer-indexed-spec =
     tie.close
     (tie.spec
-    (λ c κs. tt)
+    (λ c κs. search needs)
     (λ c. search needs)
     answer-admitted-requires
     (λ c. search needs)
