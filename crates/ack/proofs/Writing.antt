@@ -25,13 +25,13 @@ splice-length out at [] = refl
 splice-length out at (b ∷ bytes) = splice-length (set out at b) (suc at) bytes ∙ length-set out at b
 
 -- two writes, one after the other, are one write of the joined bytes
-splice-join : (out : List ℕ) (at : ℕ) (xs ys : List ℕ) → splice (splice out at xs) (at + length xs) ys ≡ splice out at (xs ++ ys)
+pub splice-join : (out : List ℕ) (at : ℕ) (xs ys : List ℕ) → splice (splice out at xs) (at + length xs) ys ≡ splice out at (xs ++ ys)
 unfolding splice
 splice-join out at [] ys = rw add-zero
 splice-join out at (x ∷ xs) ys = rw (add-suc, ← suc-add) (splice-join (set out at x) (suc at) xs ys)
 
 -- where the bytes fit, what stands before and after them is as it was
-splice-fits : (out : List ℕ) (at : ℕ) (bytes : List ℕ) → at + length bytes ≤ length out → splice out at bytes ≡ take at out ++ bytes ++ drop (at + length bytes) out
+pub splice-fits : (out : List ℕ) (at : ℕ) (bytes : List ℕ) → at + length bytes ≤ length out → splice out at bytes ≡ take at out ++ bytes ++ drop (at + length bytes) out
 unfolding splice
 splice-fits out at bytes h = as-sets out at bytes ∙ sets-eq bytes out at h
   where

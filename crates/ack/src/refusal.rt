@@ -31,7 +31,7 @@ pub fn of_reading(reading: Reading) -> Answer
 }
 
 // A number without a detail.
-pub(crate) fn refused(number: u8) -> Answer
+pub fn refused(number: u8) -> Answer
     ensures { λ r. ⌜ paper r ≡ told number 0 ⌝ }
 {
     Answer { number, detail: 0 }

@@ -59,7 +59,7 @@ fn may_cut(d: Delims) -> bool
 }
 
 // Whether m begins with a name, five bytes that it may be cut by, and the first of them again.
-pub(crate) fn opens_with(m: &[u8], name: &[u8]) -> bool
+pub fn opens_with(m: &[u8], name: &[u8]) -> bool
     ensures { λ r. ⌜ r ≡ opens (now (name .entry)) (now (m .entry)) ⌝ }
 {
     let d = delims_of(m);

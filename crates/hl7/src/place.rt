@@ -73,7 +73,7 @@ fn nth(s: &[u8], d: u8, whole: bool, k: usize) -> Span
 }
 
 // Whether a segment is named MSH.
-fn is_msh(seg: &[u8]) -> bool
+pub fn is_msh(seg: &[u8]) -> bool
     ensures { λ r. ⌜ r ≡ isMsh (now (seg .entry)) ⌝ }
 {
     begins_with(seg, b"MSH")
@@ -141,7 +141,7 @@ fn bar_span(d: Delims, msh: &[u8]) -> Span
 }
 
 // Where field f of a segment stands.
-fn field_span(d: Delims, seg: &[u8], f: usize) -> Span
+pub fn field_span(d: Delims, seg: &[u8], f: usize) -> Span
     ensures { λ r. ⌜ Spans (now (seg .entry)) (fieldOf d (now (seg .entry)) f) r ⌝ }
 {
     match field_at(is_msh(seg), f) {

@@ -61,7 +61,7 @@ fn first_wrong_byte(m: &[u8]) -> Found
 }
 
 // The first byte that is not allowed; it is looked for only where there is one.
-fn wrong_byte(m: &[u8]) -> Found
+pub fn wrong_byte(m: &[u8]) -> Found
     ensures { λ r. ⌜ r ≡ firstOf (wrongBytes 0 (now (m .entry))) ⌝ }
 {
     if all_allowed(m) {
@@ -93,7 +93,7 @@ fn has_form(d: Delims, seg: &[u8]) -> bool
 }
 
 // Where the first segment of wrong form starts, or the last, if it has no CR.
-fn wrong_segment(d: Delims, m: &[u8]) -> Found
+pub fn wrong_segment(d: Delims, m: &[u8]) -> Found
     ensures { λ r. ⌜ r ≡ firstOf (wrongSegments d 0 (cut carriageReturn (now (m .entry)))) ⌝ }
 {
     let mut at = 0;

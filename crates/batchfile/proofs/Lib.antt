@@ -1,0 +1,5 @@
+pub mod Gathering
+pub mod Framing
+pub mod Measuring
+pub mod Joining
+pub mod Answering

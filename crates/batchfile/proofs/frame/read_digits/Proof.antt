@@ -1,0 +1,47 @@
+-- `batchfile::frame::read_digits` meets its contract. The invariant of its loop: what was read so far, and its value, counted. Assumes nothing.
+use mathlib.Core.Path.{_≡_, refl, sym, ap, _∙_}
+use mathlib.Core.Bool.{_&&_}
+use Prim.Native.Nat.{_-_, min}
+use native.Mathlib.Omega.{arith}
+use borrow.Author.Needs.{needs}
+use lib.ListN.{length, take, drop}
+use Rattle.hl7.specs.Bytes.{isDigit, all}
+use Rattle.hl7.specs.Counted.{tooLarge}
+use Rattle.hl7.specs.Number.{valueOf}
+use Rattle.batchfile.proofs.Framing.{Read, read-none, read-more, read-all}
+use Rattle.batchfile.proofs.frame.read_digits.Statement.{statement}
+use Rattle.batchfile.proofs.frame.read_digits.Tie as tie
+
+abbrev Inv-loop : tie.InvT-loop
+Inv-loop field all₀ value₀ i₀ every value i = Read field every value i
+
+abbrev μ-loop : tie.MeasureT-loop
+μ-loop field all₀ value₀ i₀ every value i = length field - i
+
+loop-holds : tie.Need-loop-holds Inv-loop μ-loop
+loop-holds c = read-none _
+
+loop-again : tie.Need-loop-again Inv-loop μ-loop
+loop-again c =
+    let at-within = c .before .before in
+    let at-test = at-within .before .before in
+    read-more _ (at-test .before .loop .inv) (at-test .loop-test .taken) (at-within .is-within .ensures) (c .with-digit .ensures)
+
+returns : tie.Need-returns Inv-loop μ-loop
+returns c = read-all _ (c .before .loop .inv) (c .loop-test .left)
+
+pub read-digits-spec : {M : Type 1} → statement M
+read-digits-spec =
+    tie.close
+    (tie.spec
+    Inv-loop
+    μ-loop
+    loop-holds
+    (λ c. search needs)
+    (λ c κs. tt)
+    (λ c. search needs)
+    (λ c κs. tt)
+    (λ c. search needs)
+    (λ c. search needs)
+    loop-again
+    returns)

@@ -1,0 +1,5 @@
+pub mod Messages
+pub mod Frame
+pub mod Batch
+pub mod Walk
+pub mod Sized
