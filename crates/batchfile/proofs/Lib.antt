@@ -3,3 +3,4 @@ pub mod Framing
 pub mod Measuring
 pub mod Joining
 pub mod Answering
+pub mod Promises
