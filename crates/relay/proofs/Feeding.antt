@@ -2,7 +2,7 @@
 use mathlib.Core.Path.{_≡_, refl, sym, ap, ap₂, _∙_}
 use mathlib.Core.Bool.{Bool, true, false, cond, not, _&&_, and-true, and-false, and-assoc}
 use mathlib.Core.List.{List, [], _∷_, _++_, append-nil, append-assoc}
-use Prim.Native.Nat.{ℕ, _+_, _-_, _*_, _≤_, _<_, min}
+use Prim.Native.Nat.{ℕ, _+_, _≤_, _<_, min}
 use native.Mathlib.Numerals.{add-one}
 use native.Mathlib.Omega.{arith}
 use lib.Dec.{eqb}
@@ -10,15 +10,18 @@ use lib.ListN.{length, getD, take, set, length-append, length-set}
 use lib.Seq.{take-all, take-take, take-suc, take-append-le, take-suc-set}
 use borrow.Author.Tests.{ltb-true, ltb-false, lt-ltb, le-ltb, le-leb, lt-leb, ne-eqb}
 use Rattle.hl7.specs.Bytes.{isDigit, all}
+use Rattle.hl7.specs.Number.{valueAfter, valueOf}
+use Rattle.hl7.specs.Counted.{withDigit}
 use Rattle.hl7.specs.Cut.{cut}
 use Rattle.hl7.proofs.Comparing.{all-last}
+use Rattle.hl7.proofs.Numbering.{value-more}
 use Rattle.hl7.proofs.Cutting.{cut-delimiter, cut-other, cut-last}
-use Rattle.relay.specs.Line.{lineFeed, space, lineOf, occurs, beforeLast, afterLast, stampOf, lastItem, valueAfter, valueOf, largestControl, isControl, badLine, goodLine, said}
-use Rattle.relay.specs.Fed.{headLength, tooLarge, Heads, Items, Fed, shortened}
+use Rattle.relay.specs.Line.{lineFeed, space, lineOf, occurs, beforeLast, afterLast, stampOf, lastItem, largestControl, isControl, badLine, goodLine, said}
+use Rattle.relay.specs.Fed.{headLength, Heads, Items, Fed, shortened}
 use Rattle.relay.specs.declared.line.Head.{Head}
 use Rattle.relay.specs.declared.line.Item.{Item}
 use Rattle.relay.specs.declared.line.State.{State}
-use Rattle.relay.proofs.Lines.{before-front, before-within, has-delimiter, before-delimiter, after-delimiter, has-other, before-other, after-other, value-last, first-ended, first-open, take-counted}
+use Rattle.relay.proofs.Lines.{before-front, before-within, has-delimiter, before-delimiter, after-delimiter, has-other, before-other, after-other, first-ended, first-open, take-counted}
 
 -- ---- the first bytes of the line
 module _ {line : List ℕ} {h : Head} (a : Heads line h) (x : ℕ) where
@@ -58,7 +61,7 @@ module _ {line : List ℕ} {i : Item} (a : Items line i) where
         value = rw none v;
       }
 
-  pub items-other : {x value : ℕ} {digit : Bool} → (x ≡ space → ⊥) → digit ≡ isDigit x → value ≡ min (10 * min (i .value) tooLarge + (x - 48)) tooLarge → Items (line ++ (x ∷ [])) (record { spaced = i .spaced; stamp = i .stamp; filled = true; digits = i .digits && digit; value = value })
+  pub items-other : {x value : ℕ} {digit : Bool} → (x ≡ space → ⊥) → digit ≡ isDigit x → value ≡ withDigit (i .value) x → Items (line ++ (x ∷ [])) (record { spaced = i .spaced; stamp = i .stamp; filled = true; digits = i .digits && digit; value = value })
   items-other {x} {value} {digit} n d v =
       let more = after-other space x n line in
       record {
@@ -66,7 +69,7 @@ module _ {line : List ℕ} {i : Item} (a : Items line i) where
         stamp = rw (before-other space x n line) (a .stamp);
         filled = rw (more, length-append (lastItem line) (x ∷ []), ne-eqb (length (lastItem line) + 1) 0 (λ e. omega arith));
         digits = rw (more, all-last isDigit (lastItem line) x, ← a .digits, d);
-        value = rw (more, value-last 0 (lastItem line) x) (omega (arith, a .value));
+        value = rw more (v ∙ value-more 0 (lastItem line) x (a .value));
       }
 
 -- ---- the input

@@ -2,7 +2,7 @@
 use mathlib.Core.Path.{_≡_, refl, sym, ap, _∙_}
 use mathlib.Core.Bool.{Bool, true, false, cond, _||_, true≢false}
 use mathlib.Core.List.{List, [], _∷_, _++_}
-use Prim.Native.Nat.{ℕ, _+_, _-_, _*_, _≤_, _<_, min}
+use Prim.Native.Nat.{ℕ, _≤_, _<_, min}
 use native.Mathlib.Omega.{arith}
 use native.Mathlib.Nat.{min-eq-left, min-eq-right}
 use native.Mathlib.Decide.{decLe}
@@ -12,7 +12,7 @@ use lib.Seq.{take-length, take-all}
 use borrow.Author.Tests.{eq-eqb, ne-eqb, eqb-true}
 use Rattle.hl7.specs.Cut.{ahead, cut, partAt}
 use Rattle.hl7.proofs.Cutting.{first}
-use Rattle.relay.specs.Line.{occurs, beforeLast, afterLast, valueAfter}
+use Rattle.relay.specs.Line.{occurs, beforeLast, afterLast}
 
 -- ---- the last d of some bytes parts them
 pub last-parts : (d : ℕ) (s : List ℕ) → occurs d s ≡ true → s ≡ beforeLast d s ++ (d ∷ afterLast d s)
@@ -103,11 +103,6 @@ module _ (d x : ℕ) (n : x ≡ d → ⊥) where
       by-tests true b = refl
       by-tests false true = refl
       by-tests false false = refl
-
-pub value-last : (n : ℕ) (item : List ℕ) (x : ℕ) → valueAfter n (item ++ (x ∷ [])) ≡ 10 * valueAfter n item + (x - 48)
-unfolding valueAfter
-value-last n [] x = refl
-value-last n (y ∷ item) x = value-last (10 * n + (y - 48)) item x
 
 -- ---- the first part of a cut, with more behind it
 -- it has ended

@@ -3,9 +3,10 @@ use Prim.Native.String.{String}
 use mathlib.Core.Path.{_≡_, refl}
 use mathlib.Core.List.{List, [], _∷_, map}
 use Rattle.hl7.specs.Bytes.{all}
+use Rattle.hl7.specs.Number.{valueAfter}
 use Rattle.hl7.specs.Cut.{ahead, cut}
 use Rattle.hl7.specs.Text.{bytes}
-use Rattle.relay.specs.Line.{lineOf, occurs, beforeLast, afterLast, valueAfter, isControl, Said, badLine, goodLine, said}
+use Rattle.relay.specs.Line.{lineOf, occurs, beforeLast, afterLast, isControl, Said, badLine, goodLine, said}
 
 -- an input and what its line says
 record Sample : Type 0 where

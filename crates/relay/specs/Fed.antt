@@ -1,13 +1,15 @@
 -- Inner: only contracts inside the crates use these names; nothing here has to be believed.
 -- What the reader of the line keeps of the input. Assumes nothing.
-use Prim.Native.Nat.{ℕ, _+_, min}
+use Prim.Native.Nat.{ℕ, min}
 use mathlib.Core.Path.{_≡_}
 use mathlib.Core.Bool.{not}
 use mathlib.Core.List.{List}
 use lib.Dec.{eqb, ltb}
 use lib.ListN.{length, take}
 use Rattle.hl7.specs.Bytes.{isDigit, all}
-use Rattle.relay.specs.Line.{lineOf, space, occurs, stampOf, lastItem, valueOf, largestControl, Said, badLine, goodLine, said}
+use Rattle.hl7.specs.Number.{valueOf}
+use Rattle.hl7.specs.Counted.{tooLarge}
+use Rattle.relay.specs.Line.{lineOf, space, occurs, stampOf, lastItem, Said, badLine, goodLine, said}
 use Rattle.relay.specs.declared.line.Head.{Head}
 use Rattle.relay.specs.declared.line.Item.{Item}
 use Rattle.relay.specs.declared.line.State.{State}
@@ -17,10 +19,6 @@ use Rattle.relay.specs.declared.line.Line.the-variants.{Bad, Good}
 -- one byte more than a stamp has
 abbrev pub headLength : ℕ
 headLength = 20
-
--- values are told apart up to here
-abbrev pub tooLarge : ℕ
-tooLarge = largestControl + 1
 
 -- h holds the first bytes of the line
 pub record Heads (line : List ℕ) (h : Head) : Type 0 where

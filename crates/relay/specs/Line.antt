@@ -1,10 +1,11 @@
 -- To be believed. The line that the program reads: stamp, space, control number. Assumes nothing.
-use Prim.Native.Nat.{ℕ, _+_, _-_, _*_}
+use Prim.Native.Nat.{ℕ}
 use mathlib.Core.Bool.{Bool, false, cond, not, _&&_, _||_}
 use mathlib.Core.List.{List, [], _∷_}
 use lib.Dec.{eqb, leb}
 use lib.ListN.{length}
 use Rattle.hl7.specs.Bytes.{isDigit, all}
+use Rattle.hl7.specs.Number.{valueOf}
 use Rattle.hl7.specs.Cut.{cut, partAt}
 
 abbrev pub lineFeed : ℕ
@@ -39,14 +40,6 @@ stampOf line = beforeLast space line
 -- and what stands after it is the last item
 abbrev pub lastItem : List ℕ → List ℕ
 lastItem line = afterLast space line
-
--- the value of digits that follow a number n, leading zeros allowed
-unfoldable pub valueAfter : ℕ → List ℕ → ℕ
-valueAfter n [] = n
-valueAfter n (x ∷ item) = valueAfter (10 * n + (x - 48)) item
-
-abbrev pub valueOf : List ℕ → ℕ
-valueOf item = valueAfter 0 item
 
 abbrev pub largestControl : ℕ
 largestControl = 4294967295

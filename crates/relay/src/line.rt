@@ -1,16 +1,15 @@
 // The line of standard input, read byte by byte. What is kept of it has one size for lines of any length.
 use hl7::bytes::is_within;
+use hl7::number::TOO_LARGE;
+use hl7::number::with_digit;
 ghost use mathlib.Core.Path.{_≡_};
 ghost use mathlib.Core.List.{List, _++_, _∷_, []};
-ghost use Prim.Native.Nat.{ℕ, _-_, _≤_, min};
+ghost use Prim.Native.Nat.{ℕ, min};
 ghost use lib.ListN.{length};
-ghost use Rattle.relay.specs.Fed.{headLength, tooLarge, Heads, Items, Fed, Says};
+ghost use Rattle.relay.specs.Fed.{headLength, Heads, Items, Fed, Says};
 
 // One byte more than a stamp has.
 const HEAD_LENGTH: usize = 20;
-
-// One past the largest control number.
-const TOO_LARGE: usize = 0x1_0000_0000;
 
 // The first bytes of the line, and how many there are.
 pub struct Head {
@@ -55,26 +54,6 @@ impl Head {
     }
 }
 
-// The value of a digit.
-fn digit_value(byte: u8) -> usize
-    ensures { λ r. ⌜ (r ≡ byte - 48) × (r ≤ 207) ⌝ }
-{
-    if byte < 48 {
-        return 0;
-    }
-    (byte - 48) as usize
-}
-
-// A value, counted up to one past the largest control number.
-fn capped(value: usize) -> usize
-    ensures { λ r. ⌜ r ≡ min value tooLarge ⌝ }
-{
-    if TOO_LARGE < value {
-        return TOO_LARGE;
-    }
-    value
-}
-
 impl Item {
     // One byte more on a line that has so many bytes in its head.
     fn push(self, byte: u8, count: usize) -> Item
@@ -89,13 +68,12 @@ impl Item {
                 value: 0,
             };
         }
-        // The value is capped already: capping it again shows that ten times it fits.
         Item {
             spaced: self.spaced,
             stamp: self.stamp,
             filled: true,
             digits: self.digits & is_within(byte, b'0', b'9'),
-            value: capped(10 * capped(self.value) + digit_value(byte)),
+            value: with_digit(self.value, byte),
         }
     }
 }

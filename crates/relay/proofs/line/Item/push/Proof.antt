@@ -11,33 +11,11 @@ returns c line i k = items-space i (c .if1 .taken) k (omega arith)
 is-within-requires : tie.Need-is-within-requires
 is-within-requires c κs = search needs
 
-capped-requires : tie.Need-capped-requires
-capped-requires c κs = search needs
-
-mul-capped : tie.Need-mul-capped
-mul-capped c = search needs
-
-digit-value-requires : tie.Need-digit-value-requires
-digit-value-requires c κs = search needs
-
-add-capped : tie.Need-add-capped
-add-capped c = search needs
-
-capped-requires-2 : tie.Need-capped-requires-2
-capped-requires-2 c κs = search needs
+with-digit-requires : tie.Need-with-digit-requires
+with-digit-requires c κs = search needs
 
 returns-2 : tie.Need-returns-2
-returns-2 c line i k = items-other i (c .before .before .before .before .before .if1 .left) (c .before .before .before .before .is-within .ensures) (omega arith)
+returns-2 c line i k = items-other i (c .before .before .before .if1 .left) (c .before .before .is-within .ensures) (c .with-digit .ensures)
 
 pub push-spec : {M : Type 1} → statement M
-push-spec =
-    tie.close
-    (tie.spec
-    returns
-    is-within-requires
-    capped-requires
-    mul-capped
-    digit-value-requires
-    add-capped
-    capped-requires-2
-    returns-2)
+push-spec = tie.close (tie.spec returns is-within-requires with-digit-requires returns-2)
