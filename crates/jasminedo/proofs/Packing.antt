@@ -2,7 +2,7 @@
 use mathlib.Core.Path.{_≡_, refl, sym, ap, subst, _∙_}
 use mathlib.Core.Bool.{Bool, true, false}
 use mathlib.Core.List.{List}
-use Prim.Native.Nat.{ℕ, _+_, _-_, _*_, _/_, _%_, _^_, _≤_, _<_}
+use Prim.Native.Nat.{ℕ, _-_, _/_, _%_, _^_, _≤_, _<_}
 use native.Mathlib.Omega.{arith}
 use lib.ListN.{length, drop, length-take, length-drop}
 use Rattle.hl7.specs.Cut.{Piece}
@@ -13,32 +13,47 @@ use Rattle.hl7.proofs.Refusing.{reading-bounded, sound-short, located-refused}
 use Rattle.ack.specs.Answers.{Outcome, answerOf, paper, Gives}
 use Rattle.ack.specs.declared.refusal.Answer.{Answer}
 use Rattle.ack.proofs.Promises.{answer-bounded}
+use Rattle.batchfile.specs.Batch.{batchOf}
+use Rattle.batchfile.proofs.Promises.{batch-bounded}
 use Rattle.jasminedo.specs.Packed.{packed, packedPlace, packedSpan}
 
 -- ---- answers
-packed-back : (number detail : ℕ) → number < 256 → ((detail * 256 + number) % 256 ≡ number) × ((detail * 256 + number) / 256 ≡ detail)
-packed-back number detail h = (omega arith, omega arith)
+packed-back : (t : Told) → t .number < 256 → (packed t % 256 ≡ t .number) × (packed t / 256 ≡ t .detail)
+packed-back t h = (omega arith, omega arith)
 
 -- the number of every answer is its code modulo 256, and the detail its code over 256
 pub answer-unpacked : (m b stamp : List ℕ) (control : ℕ) (out : List ℕ)
     → (packed (answerOf m b stamp control out .told) % 256 ≡ answerOf m b stamp control out .told .number) × (packed (answerOf m b stamp control out .told) / 256 ≡ answerOf m b stamp control out .told .detail)
 answer-unpacked m b stamp control out =
     let bounded = answer-bounded m b stamp control out in
-    packed-back (answerOf m b stamp control out .told .number) (answerOf m b stamp control out .told .detail) (omega arith)
+    packed-back (answerOf m b stamp control out .told) (omega arith)
+
+pub batch-unpacked : (f b stamp : List ℕ) (control : ℕ) (out : List ℕ)
+    → (packed (batchOf f b stamp control out .told) % 256 ≡ batchOf f b stamp control out .told .number) × (packed (batchOf f b stamp control out .told) / 256 ≡ batchOf f b stamp control out .told .detail)
+batch-unpacked f b stamp control out =
+    let bounded = batch-bounded f b stamp control out in
+    packed-back (batchOf f b stamp control out .told) (omega arith)
 
 pub reading-unpacked : (m : List ℕ) → (packed (firstRow (messageRows m)) % 256 ≡ firstRow (messageRows m) .number) × (packed (firstRow (messageRows m)) / 256 ≡ firstRow (messageRows m) .detail)
-reading-unpacked m = let bounded = reading-bounded m in packed-back (firstRow (messageRows m) .number) (firstRow (messageRows m) .detail) (omega arith)
+reading-unpacked m = let bounded = reading-bounded m in packed-back (firstRow (messageRows m)) (omega arith)
 
 -- ---- answers, in the words of the code
-module _ (m b stamp : List ℕ) (control : ℕ) (out : List ℕ) {a : Answer} {after : List ℕ} (w : Gives a after (answerOf m b stamp control out)) where
-  pub answer-small : a .detail ≤ 2 ^ 48
-  answer-small = subst (λ (n : ℕ). n ≤ 2 ^ 48) (sym (ap (λ (o : Outcome). o .told .detail) w)) (answer-bounded m b stamp control out .1)
+module _ {o : Outcome} {a : Answer} {after : List ℕ} (w : Gives a after o) where
+  given-small : o .told .detail ≤ 2 ^ 52 → a .detail ≤ 2 ^ 52
+  given-small = subst (λ (n : ℕ). n ≤ 2 ^ 52) (sym (ap (λ (o : Outcome). o .told .detail) w))
 
-  pub answer-packed : {code : ℕ} → code ≡ packed (paper a) → (code ≡ packed (answerOf m b stamp control out .told)) × (after ≡ answerOf m b stamp control out .output)
-  answer-packed e = (e ∙ ap (λ (o : Outcome). packed (o .told)) w, ap (λ (o : Outcome). o .output) w)
+  pub given-packed : {code : ℕ} → code ≡ packed (paper a) → (code ≡ packed (o .told)) × (after ≡ o .output)
+  given-packed e = (e ∙ ap (λ (o : Outcome). packed (o .told)) w, ap (λ (o : Outcome). o .output) w)
+
+module _ (m b stamp : List ℕ) (control : ℕ) (out : List ℕ) {a : Answer} {after : List ℕ} where
+  pub answer-small : Gives a after (answerOf m b stamp control out) → a .detail ≤ 2 ^ 52
+  answer-small w = let bounded = answer-bounded m b stamp control out in given-small w (omega arith)
+
+  pub batch-small : Gives a after (batchOf m b stamp control out) → a .detail ≤ 2 ^ 52
+  batch-small w = given-small w (batch-bounded m b stamp control out .1)
 
 module _ (m : List ℕ) {a : Answer} (w : paper a ≡ firstRow (messageRows m)) where
-  pub reading-small : a .detail ≤ 2 ^ 48
+  pub reading-small : a .detail ≤ 2 ^ 52
   reading-small = let bounded = reading-bounded m in let same = ap (λ (t : Told). t .detail) w in omega arith
 
   pub reading-packed : {code : ℕ} → code ≡ packed (paper a) → code ≡ packed (firstRow (messageRows m))

@@ -2,6 +2,7 @@
 use ack::answer::answer;
 use ack::refusal::Answer;
 use ack::refusal::of_reading;
+use batchfile::batch::answer_batch;
 use hl7::cut::Span;
 use hl7::locate::locate_span;
 use hl7::refusal::check;
@@ -9,11 +10,12 @@ ghost use mathlib.Core.Path.{_≡_};
 ghost use Prim.Native.Nat.{_≤_, _^_};
 ghost use Rattle.hl7.specs.Refusals.{firstRow, messageRows, located};
 ghost use Rattle.ack.specs.Answers.{answerOf, paper};
+ghost use Rattle.batchfile.specs.Batch.{batchOf};
 ghost use Rattle.jasminedo.specs.Packed.{packed, packedSpan, packedPlace};
 
 // The number in the low byte, the detail above.
 fn pack(answer: Answer) -> u64
-    requires { ⌜ answer .detail ≤ 2 ^ 48 ⌝ }
+    requires { ⌜ answer .detail ≤ 2 ^ 52 ⌝ }
     ensures { λ r. ⌜ r ≡ packed (paper answer) ⌝ }
 {
     (answer.detail as u64) * 256 + (answer.number as u64)
@@ -38,6 +40,19 @@ pub extern "C" fn jasminedo_answer(
     ensures { λ r. ⌜ (r ≡ packed (answerOf (now (message .entry)) (now (book .entry)) (now (stamp .entry)) control (now (output .entry)) .told)) × (now (output .exit) ≡ answerOf (now (message .entry)) (now (book .entry)) (now (stamp .entry)) control (now (output .entry)) .output) ⌝ }
 {
     pack(answer(message, book, stamp, control, output))
+}
+
+#[no_mangle]
+pub extern "C" fn jasminedo_batch(
+    file: &[u8],
+    book: &[u8],
+    stamp: &[u8],
+    control: u32,
+    output: &mut [u8],
+) -> u64
+    ensures { λ r. ⌜ (r ≡ packed (batchOf (now (file .entry)) (now (book .entry)) (now (stamp .entry)) control (now (output .entry)) .told)) × (now (output .exit) ≡ batchOf (now (file .entry)) (now (book .entry)) (now (stamp .entry)) control (now (output .entry)) .output) ⌝ }
+{
+    pack(answer_batch(file, book, stamp, control, output))
 }
 
 #[no_mangle]

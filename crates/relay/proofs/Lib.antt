@@ -1,5 +1,1 @@
-pub mod Lines
-pub mod Feeding
-pub mod Stamping
 pub mod Replying
-pub mod Samples

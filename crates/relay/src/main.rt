@@ -1,14 +1,13 @@
 // Reads a message, a rule book and a line, and prints the answer: the ACK, a refusal, or that the line is bad.
-mod input;
-mod line;
 mod reply;
 
 use hl7::bytes::front;
-use input::read_file;
+use line::input::read_file;
+use line::input::read_line;
 
 // Each file has room for one byte more than it may have, so that a longer one is seen to be longer.
 fn main() {
-    let state = input::read_line();
+    let state = read_line();
     let mut message = [0u8; 32769];
     let message_length = read_file(b"message.hl7", &mut message);
     let mut book = [0u8; 65537];

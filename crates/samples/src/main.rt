@@ -1,8 +1,11 @@
-// Runs the packed cases of a file, one after the other, and prints the place that each asks for and its answer.
+// Runs the packed cases of a file, one after the other, and prints the answer to each; for a message, before it, the place that is asked for.
 //
-// A case is message length, message, book length, book, stamp length, stamp, control number, output length, and a place:
-// segment, field, repetition, component. A number has four bytes, the high byte first.
+// A number has four bytes, the high byte first. A case is its kind (1 a message, 2 a batch file), the length of the message or file, its
+// bytes, book length, book, stamp length, stamp, control number, output length. A message's case goes on with a place: segment, field,
+// repetition, component.
 use ack::answer::answer;
+use ack::refusal::Answer;
+use batchfile::batch::answer_batch;
 use hl7::bytes::front;
 use hl7::bytes::pick;
 use hl7::bytes::wide;
@@ -11,6 +14,10 @@ use libc::STDOUT_FILENO;
 use show::text::put_answer;
 ghost use mathlib.Core.Path.{_≡_};
 ghost use Rattle.samples.specs.Pack.{numberOf};
+
+const MESSAGE: u32 = 1;
+
+const BATCH: u32 = 2;
 
 // A number of the pack: how many of its bytes there were, and its value.
 struct Number {
@@ -35,14 +42,26 @@ fn read_number(fd: i32) -> Number {
     }
 }
 
-// Reads as many bytes as the number says, and answers whether there were so many and there was room for them.
-fn read_bytes(fd: i32, number: Number, into: &mut [u8]) -> bool {
+// Bytes of the pack with their length before them: whether all are there and had room, and how many they are.
+struct Part {
+    whole: bool,
+    length: usize,
+}
+
+fn read_part(fd: i32, into: &mut [u8]) -> Part {
+    let number = read_number(fd);
     let length = number.value as usize;
     if into.len() < length {
-        return false;
+        return Part {
+            whole: false,
+            length,
+        };
     }
     let count = io::read_full(fd, &mut into[0..length]);
-    (number.count == 4) & (count == length)
+    Part {
+        whole: (number.count == 4) & (count == length),
+        length,
+    }
 }
 
 // A place that is asked for.
@@ -75,9 +94,38 @@ fn print_place(message: &[u8], asked: Asked) {
     io::write_all(STDOUT_FILENO, b"\n");
 }
 
+// The place of a message's case; a batch file's asks for none. Answers whether the case is whole.
+fn run_place(fd: i32, kind: u32, input: &[u8]) -> bool {
+    if kind == MESSAGE {
+        let asked = read_place(fd);
+        // the last number is there only where the ones before it are
+        if asked.component.count < 4 {
+            return false;
+        }
+        print_place(input, asked);
+    }
+    true
+}
+
+// The answer to a message or a batch file.
+fn answer_to(
+    kind: u32,
+    input: &[u8],
+    book: &[u8],
+    stamp: &[u8],
+    control: u32,
+    out: &mut [u8],
+) -> Answer {
+    if kind == BATCH {
+        return answer_batch(input, book, stamp, control, out);
+    }
+    answer(input, book, stamp, control, out)
+}
+
 // Answers a case with the first so many bytes of out lent, and prints the answer. Answers whether there are so many.
-fn print_case(
-    message: &[u8],
+fn print_answer(
+    kind: u32,
+    input: &[u8],
     book: &[u8],
     stamp: &[u8],
     control: u32,
@@ -87,54 +135,58 @@ fn print_case(
     if out.len() < length {
         return false;
     }
-    let answer = answer(message, book, stamp, control, &mut out[0..length]);
+    let answer = answer_to(kind, input, book, stamp, control, &mut out[0..length]);
     let end = put_answer(out, answer);
     io::write_all(STDOUT_FILENO, front(out, end));
     true
 }
 
-// The rest of a message's case. Answers whether the case is whole.
-fn run_message(fd: i32, message: &[u8]) -> bool {
-    let mut book = [0u8; 65537];
-    let book_length = read_number(fd);
-    let has_book = read_bytes(fd, book_length, &mut book);
-    let mut stamp = [0u8; 1024];
-    let stamp_length = read_number(fd);
-    let has_stamp = read_bytes(fd, stamp_length, &mut stamp);
+// The rest of a case, after the stamp. Answers whether it is whole.
+fn run_rest(fd: i32, kind: u32, input: &[u8], book: &[u8], stamp: &[u8]) -> bool {
     let control = read_number(fd);
-    let out_length = read_number(fd);
-    let asked = read_place(fd);
-    // the last number is there only where the ones before it are
-    if has_book & has_stamp & (asked.component.count == 4) {
-        print_place(message, asked);
-        return print_case(
-            message,
-            front(&book, book_length.value as usize),
-            front(&stamp, stamp_length.value as usize),
+    let length = read_number(fd);
+    if (length.count == 4) && run_place(fd, kind, input) {
+        return print_answer(
+            kind,
+            input,
+            book,
+            stamp,
             control.value,
             &mut [0u8; 131072],
-            out_length.value as usize,
+            length.value as usize,
         );
     }
     false
 }
 
-// The case of a message of so many bytes, which come next. Answers whether the case is whole.
-fn run_case(fd: i32, message_length: Number) -> bool {
-    let mut message = [0u8; 32769];
-    if read_bytes(fd, message_length, &mut message) {
-        return run_message(fd, front(&message, message_length.value as usize));
+// A case of this kind. Answers whether it is whole.
+fn run_case(fd: i32, kind: u32) -> bool {
+    let mut input = [0u8; 131072];
+    let input_part = read_part(fd, &mut input);
+    let mut book = [0u8; 65537];
+    let book_part = read_part(fd, &mut book);
+    let mut stamp = [0u8; 1024];
+    let stamp_part = read_part(fd, &mut stamp);
+    if input_part.whole & book_part.whole & stamp_part.whole {
+        return run_rest(
+            fd,
+            kind,
+            front(&input, input_part.length),
+            front(&book, book_part.length),
+            front(&stamp, stamp_part.length),
+        );
     }
     false
 }
 
 // The next case, if there is one. Answers whether to go on.
 fn run_next(fd: i32) -> bool {
-    let message_length = read_number(fd);
-    if message_length.count == 0 {
+    let kind = read_number(fd);
+    if kind.count == 0 {
         return false;
     }
-    let is_whole = run_case(fd, message_length);
+    let is_known = (kind.value == MESSAGE) | (kind.value == BATCH);
+    let is_whole = is_known && run_case(fd, kind.value);
     if !is_whole {
         io::write_all(STDOUT_FILENO, b"bad pack\n");
     }

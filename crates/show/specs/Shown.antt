@@ -1,4 +1,4 @@
--- To be believed. The text that a program prints for an answer. Assumes nothing.
+-- To be believed. The text that a program prints: for an answer, or for a bad line. Assumes nothing.
 use Prim.Native.Nat.{ℕ, min}
 use mathlib.Core.Path.{_≡_}
 use mathlib.Core.Bool.{cond}
@@ -20,6 +20,10 @@ lineFeeds ack = map lineFeed ack
 -- `refused`, number and detail with a space between them and a line feed after
 unfoldable pub refusal : ℕ → ℕ → List ℕ
 refusal number detail = bytes "refused " ++ (decimal number ++ (bytes " " ++ (decimal detail ++ bytes "\n")))
+
+-- a bad line prints `bad line` and a line feed
+abbrev pub badText : List ℕ
+badText = bytes "bad line\n"
 
 -- the longest of them has two numbers of twenty digits
 abbrev pub refusalRoom : ℕ

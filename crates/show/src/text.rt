@@ -10,7 +10,7 @@ ghost use mathlib.Core.List.{_++_};
 ghost use lib.ListN.{length, take, drop};
 ghost use Rattle.ack.specs.Answers.{paper};
 ghost use Rattle.ack.specs.Splice.{Wrote};
-ghost use Rattle.show.specs.Shown.{lineFeed, lineFeeds, refusal, Printed};
+ghost use Rattle.show.specs.Shown.{lineFeed, lineFeeds, refusal, badText, Printed};
 
 fn put_refusal(text: &mut [u8], number: u8, detail: usize) -> usize
     ensures { λ r. ⌜ Wrote (now (text .entry)) 0 (refusal number detail) (now (text .exit)) r ⌝ }
@@ -19,6 +19,13 @@ fn put_refusal(text: &mut [u8], number: u8, detail: usize) -> usize
     let after_number = put_number(text, after_word, b' ', number as usize);
     let after_detail = put_number(text, after_number, b' ', detail);
     put_byte(text, after_detail, b'\n')
+}
+
+// The text for a bad line.
+pub fn put_bad_line(text: &mut [u8]) -> usize
+    ensures { λ r. ⌜ Wrote (now (text .entry)) 0 badText (now (text .exit)) r ⌝ }
+{
+    put(text, 0, b"bad line\n")
 }
 
 fn line_feed_for(b: u8) -> u8

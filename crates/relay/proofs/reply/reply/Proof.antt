@@ -1,6 +1,7 @@
 -- `relay::reply::reply` meets its contract. Assumes nothing.
-use Rattle.relay.proofs.Replying.{replies-bad, replies-good}
 use borrow.Author.Needs.{needs}
+use Rattle.line.proofs.Replying.{replies-bad, replies-good}
+use Rattle.relay.proofs.Replying.{answers-stamp}
 use Rattle.relay.proofs.reply.reply.Statement.{statement}
 use Rattle.relay.proofs.reply.reply.Tie as tie
 
@@ -10,11 +11,8 @@ line-says-requires c κs = search needs
 enum-told : tie.Need-enum-told
 enum-told c = search needs
 
-slice-aggregate-put : tie.Need-slice-aggregate-put
-slice-aggregate-put c = search needs
-
-put-requires : tie.Need-put-requires
-put-requires c κs = search needs
+put-bad-line-requires : tie.Need-put-bad-line-requires
+put-bad-line-requires c κs = search needs
 
 enum-known-control : tie.Need-enum-known-control
 enum-known-control c = search needs
@@ -37,9 +35,9 @@ same-length c = search needs
 returns : tie.Need-returns
 returns c input f =
     let at-put = c .before .before in
-    let at-told = at-put .before .before .before in
+    let at-told = at-put .before .before in
     let told = rw (at-told .enum-told .given .1) at (at-told .before .before .line-says .ensures input f) in
-    replies-bad _ _ _ _ told (at-put .put .ensures)
+    replies-bad _ _ told (at-put .put-bad-line .ensures)
 
 same-length-2 : tie.Need-same-length-2
 same-length-2 c = search needs
@@ -51,7 +49,7 @@ returns-2 c input f =
     let at-front = at-answer .before .before in
     let at-control = at-front .before .before .before .before .before in
     let told = rw (at-control .control .given .1) at (at-control .before .before .line-says .ensures input f) in
-    replies-good _ _ _ _ _ _ told (at-front .front .ensures) (at-answer .answer .ensures) (at-put-answer .put-answer .ensures)
+    replies-good _ (answers-stamp _ _ _) _ _ _ told (at-front .front .ensures) (at-answer .answer .ensures) (at-put-answer .put-answer .ensures)
 
 pub reply-spec : {M : Type 1} → statement M
 reply-spec =
@@ -59,8 +57,7 @@ reply-spec =
     (tie.spec
     line-says-requires
     enum-told
-    slice-aggregate-put
-    put-requires
+    put-bad-line-requires
     enum-known-control
     slice-aggregate-front
     front-requires

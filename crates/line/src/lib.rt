@@ -1,0 +1,3 @@
+// What the programs share: the line that they read, and their replies to it.
+pub mod input;
+pub mod kept;
