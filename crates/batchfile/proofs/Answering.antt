@@ -7,15 +7,18 @@ use native.Mathlib.Omega.{arith}
 use native.Mathlib.Decide.{decLe}
 use lib.Dec.{eqb, leb, ltb}
 use lib.ListN.{length, getD, drop}
-use borrow.Author.Tests.{lt-ltb, le-ltb, le-leb, lt-leb, eqb-true, ltb-false, not-false}
-use Rattle.hl7.specs.Refusals.{Told, told, isSome, firstRow}
+use borrow.Author.Tests.{lt-ltb, le-ltb, le-leb, lt-leb, eqb-true, ltb-false, not-true, not-false}
+use Rattle.hl7.specs.Text.{bytes}
+use Rattle.hl7.specs.Delimiters.{opens}
+use Rattle.hl7.specs.Place.{delimsOf}
+use Rattle.hl7.specs.Refusals.{told, isSome, firstRow}
 use Rattle.hl7.proofs.Comparing.{and-both, or-neither, none-of}
 use Rattle.ack.specs.declared.refusal.Answer.{Answer}
 use Rattle.ack.specs.Answers.{Outcome, outcome, outcomeBy, byRows, paper, Gives}
 use Rattle.ack.specs.Splice.{Wrote}
 use Rattle.ack.proofs.Writing.{splice-at-start}
 use Rattle.batchfile.specs.Messages.{gathered}
-use Rattle.batchfile.specs.Frame.{bodyOf, messagesIn, isFramed, isCounted}
+use Rattle.batchfile.specs.Frame.{fhsOf, bhsOf, bodyOf, messagesIn, trailerOf, btsOf, ftsOf, keepsRows, isSegment, isNone, isFramed, isCounted}
 use Rattle.batchfile.specs.Batch.{fileLimit, controls, isWrong, meetsOne, refusedFrom, acksFrom, joinedRows, batchOf}
 use Rattle.batchfile.specs.Walk.{messagesAt, Framing}
 use Rattle.batchfile.specs.Sized.{Starts, MeasuresAll}
@@ -41,7 +44,7 @@ module _ (ms : List (List ℕ)) (book stamp : List ℕ) (control : ℕ) (out : L
   -- there are none
   pub joined-empty : {a : Answer} → ms ≡ [] → paper a ≡ told 0 0 → Gives a out Given
   unfolding firstRow refusedFrom acksFrom
-  joined-empty none e = rw (none, e)
+  joined-empty none e = rw (none, e, le-ltb (length out) 0 (omega arith))
 
   module _ {sizes : Sizes} (known : MeasuresAll ms book stamp control sizes) where
     -- one of them is refused
@@ -89,6 +92,16 @@ right-by true true n limit = by (decLe n limit)
     by (yes h) = rw (le-leb n limit h, le-ltb limit n h)
     by (no h) = rw (lt-leb n limit (omega arith), lt-ltb limit n (omega arith))
 
+-- nothing stands before the first message
+framed-started : (f : List ℕ) → isFramed f ≡ true → isNone (bodyOf f .before) ≡ true
+unfolding isFramed
+framed-started f =
+    fourth (opens (bytes "FHS") f) (keepsRows (delimsOf f) (fhsOf f)) (isSegment (delimsOf f) (bytes "BHS") (bhsOf f)) (isNone (bodyOf f .before))
+    (isSegment (delimsOf f) (bytes "BTS") (btsOf f)) (isSegment (delimsOf f) (bytes "FTS") (ftsOf f)) (isNone (drop 2 (trailerOf f)))
+  where
+    fourth : (a b c d e g h : Bool) → (a && b && c && d && e && g && h) ≡ true → d ≡ true
+    fourth a b c d e g h is = and-both (a && b && c) d (and-both (a && b && c && d) e (and-both (a && b && c && d && e) g (and-both (a && b && c && d && e && g) h is .0) .0) .0) .1
+
 module _ (f : List ℕ) (control : ℕ) where
   pub right-is : {framed counted : Bool} {count : ℕ} → length f ≤ fileLimit → framed ≡ isFramed f → counted ≡ isCounted f → count ≡ length (messagesIn f) → (framed && counted && leb (control + count) controls) ≡ not (isWrong f control)
   unfolding isWrong
@@ -100,27 +113,38 @@ module _ (f : List ℕ) (control : ℕ) where
   too-long h = rw (lt-ltb fileLimit (length f) h)
 
   pub right-starts : (frame : Frame) → Framing f frame → length f ≤ fileLimit → isWrong f control ≡ false → Starts f (frame .start) (frame .count) × (control + frame .count ≤ controls)
-  unfolding isWrong isFramed
+  unfolding isWrong
   right-starts frame w short right =
       let fits = or-neither (ltb fileLimit (length f) || not (isFramed f) || not (isCounted f)) (ltb controls (control + length (messagesIn f))) right in
       let shaped = not-false (isFramed f) (or-neither (ltb fileLimit (length f)) (not (isFramed f)) (or-neither (ltb fileLimit (length f) || not (isFramed f)) (not (isCounted f)) (fits .0) .0) .1) in
-      let none = none-of (bodyOf f .before) (omega (arith, eqb-true (length (bodyOf f .before)) 0 (and-both _ _ (and-both _ _ (and-both _ _ (and-both _ _ shaped .0) .0) .0) .1))) in
+      let none = none-of (bodyOf f .before) (omega (arith, eqb-true (length (bodyOf f .before)) 0 (framed-started f shaped))) in
       let count : length (messagesAt f (frame .start)) ≡ frame .count = ap (λ (ls : List (List ℕ)). length (gathered ls .messages)) (w .body) ∙ sym (w .count) in
       let stands = w .forward in (
         record {
           within = omega (arith, stands .1, stands .2, stands .3, stands .4);
           limited = short;
           started = ap (λ (ls : List (List ℕ)). gathered ls .before) (w .body) ∙ none;
-          count = count;
+          messages = count;
         },
         omega (arith, ltb-false controls (control + length (messagesIn f)) (fits .1), w .count),
       )
+
+  -- what the code asks first, with the control number as a wider one
+  module _ {right : Bool} {first : ℕ} (asked : right ≡ not (isWrong f first)) (same : first ≡ control) where
+    pub asked-wrong : not right ≡ true → isWrong f control ≡ true
+    asked-wrong e = ap (isWrong f) (sym same) ∙ not-false (isWrong f first) (sym asked ∙ not-true right e)
+
+    pub asked-right : not right ≡ false → isWrong f control ≡ false
+    asked-right e = ap (isWrong f) (sym same) ∙ not-true (isWrong f first) (sym asked ∙ not-false right e)
 
 module _ (f book stamp : List ℕ) (control : ℕ) (out : List ℕ) where
   pub batch-wrong : {a : Answer} → isWrong f control ≡ true → paper a ≡ told 14 0 → Gives a out (batchOf f book stamp control out)
   unfolding batchOf firstRow
   batch-wrong wrong e = rw (wrong, e)
 
-  pub batch-right : {a : Answer} {after : List ℕ} {ms : List (List ℕ)} → isWrong f control ≡ false → ms ≡ messagesIn f → Gives a after (byRows (joinedRows ms book stamp control out) (acksFrom book stamp control ms) out) → Gives a after (batchOf f book stamp control out)
+  -- the messages begin where BHS ends
+  pub batch-right : {a : Answer} {after : List ℕ} {frame : Frame} {first : ℕ} → isWrong f control ≡ false → Framing f frame → first ≡ control
+      → Gives a after (byRows (joinedRows (messagesAt f (frame .start)) book stamp first out) (acksFrom book stamp first (messagesAt f (frame .start))) out) → Gives a after (batchOf f book stamp control out)
   unfolding batchOf firstRow
-  batch-right right is g = rw is at g ∙ rw right
+  batch-right right w same g =
+      g ∙ ap₂ (λ (ls : List (List ℕ)) (n : ℕ). byRows (joinedRows (gathered ls .messages) book stamp n out) (acksFrom book stamp n (gathered ls .messages)) out) (w .body) same ∙ rw right

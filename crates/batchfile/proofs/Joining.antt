@@ -1,7 +1,7 @@
 -- The ACKs written one after the other: what is written when those of the messages that are left are written too. Assumes nothing.
 use mathlib.Core.Path.{_≡_, refl, sym, ap, subst, _∙_}
 use mathlib.Core.Bool.{Bool, true, false}
-use mathlib.Core.List.{List, [], _∷_, _++_, append-nil}
+use mathlib.Core.List.{List, [], _∷_, _++_, append-assoc, append-nil}
 use Prim.Native.Nat.{ℕ, suc, _+_, _-_, _≤_, _<_, min}
 use native.Mathlib.Omega.{arith}
 use lib.ListN.{length, take, drop, length-drop, length-append, drop-of-length-le}
@@ -28,7 +28,7 @@ wrote-part out at ack {part} fits room is ends =
     let rest : part ≡ ack ++ drop (at + length ack) out = is ∙ rw (tail-whole out at, drop-drop (length ack) at out) in
     record {
       room = fits;
-      holds = rw (none, append-nil part, rest) (sym (splice-fits out at ack room));
+      holds = rw (none, append-nil part, rest) (sym (splice-fits out at ack room ∙ append-assoc (take at out) ack (drop (at + length ack) out)));
       ends = omega arith;
     }
 
@@ -67,11 +67,12 @@ module _ (f : List ℕ) (at count : ℕ) (book stamp : List ℕ) (control : ℕ)
         by true is = absurd (omega (arith, ap length (sym (p .refused) ∙ refused-here book stamp (k + 1) (between f from r) (messagesAt f r) left is)))
         by false is = refl
 
-    pub ack-room : to + length (ackFor (between f from r) book stamp (control + k)) ≤ length out
-    ack-room = omega (arith, p .room, ap length acks, length-append (ackFor (between f from r) book stamp (control + k)) (acksFrom book stamp (suc (control + k)) (messagesAt f r)))
+    pub ack-room : {number : ℕ} → number ≡ control + k → to + length (ackFor (between f from r) book stamp number) ≤ length out
+    ack-room counted = rw counted (omega (arith, p .room, ap length acks, length-append (ackFor (between f from r) book stamp (control + k)) (acksFrom book stamp (suc (control + k)) (messagesAt f r))))
 
-    pub writing-more : {next : ℕ} {out′ : List ℕ} → Wrote out to (ackFor (between f from r) book stamp (control + k)) out′ next → Writing r (k + 1) next out′
-    writing-more {next} {out′} w =
+    pub writing-more : {number next : ℕ} {out′ : List ℕ} → number ≡ control + k → Wrote out to (ackFor (between f from r) book stamp number) out′ next → Writing r (k + 1) next out′
+    writing-more {number} {next} {out′} counted written =
+        let w = subst (λ (n : ℕ). Wrote out to (ackFor (between f from r) book stamp n) out′ next) counted written in
         let rest = messagesAt f r in
         let following : control + (k + 1) ≡ suc (control + k) = omega arith in
         let others : acksFrom book stamp (control + (k + 1)) rest ≡ acksFrom book stamp (suc (control + k)) rest = ap (λ (c : ℕ). acksFrom book stamp c rest) following in

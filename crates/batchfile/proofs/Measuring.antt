@@ -1,5 +1,5 @@
 -- Laws of `specs/Sized.antt`: what the answer to one message tells, and what is known of all when the messages before one are measured. Assumes nothing.
-use mathlib.Core.Path.{_≡_, refl, sym, ap, _∙_}
+use mathlib.Core.Path.{_≡_, refl, sym, ap, subst, _∙_}
 use mathlib.Core.Bool.{Bool, true, false, cond, not, true≢false}
 use mathlib.Core.List.{List, [], _∷_, _++_}
 use Prim.Native.Nat.{ℕ, suc, _+_, _-_, _*_, _^_, _≤_, _<_}
@@ -35,6 +35,9 @@ short-told ack out = by (ltb (length out) (length ack))
 
 refusal-is : (t : Told) → (t .number ≡ 0 → ⊥) × (t .number ≡ 11 → ⊥) → isRefusal t ≡ true
 refusal-is t some = rw (ne-eqb (t .number) 0 (some .0), ne-eqb (t .number) 11 (some .1))
+
+pub measured-is : (a : Answer) {n : ℕ} → n ≡ cond (isRefusal (paper a)) 0 (a .detail) → record { meets = isRefusal (paper a); length = n } ≡ measuredTold (paper a)
+measured-is a e = rw e
 
 module _ (m book stamp : List ℕ) (control : ℕ) (out : List ℕ) {a : Answer} {after : List ℕ} (g : Gives a after (answerOf m book stamp control out)) where
   tells : paper a ≡ answerOf m book stamp control out .told
@@ -94,7 +97,7 @@ pub record Walked (f : List ℕ) (count from k : ℕ) : Type 0 where
   pub left : k + length (messagesAt f from) ≡ count
 
 pub walked-none : (f : List ℕ) (at count : ℕ) → Starts f at count → Walked f count at 0
-walked-none f at count s = record { within = s .within; started = s .started; left = omega (arith, s .count) }
+walked-none f at count s = record { within = s .within; started = s .started; left = omega (arith, s .messages) }
 
 no-messages : (ms : List (List ℕ)) → length ms ≡ 0 → ms ≡ []
 no-messages [] e = refl
@@ -138,7 +141,10 @@ module _ (f : List ℕ) (at count : ℕ) (book stamp : List ℕ) (control : ℕ)
       let none = p .refused ∙ refused-none book stamp (k + 1) over in
       record { refused = sym (ap (λ (l : List ℕ). getD l 0 0) none); total = λ _. omega (arith, p .lengths, ap length (acks-none book stamp (control + k) over)) }
 
-  module _ (from k total r : ℕ) {one : Measured} (p : Measuring from k total) (more : k < count) (e : MessageEnds f from r) (is : Measures (between f from r) book stamp (control + k) one) where
+  module _ (from k total r : ℕ) {number : ℕ} {one : Measured} (p : Measuring from k total) (more : k < count) (e : MessageEnds f from r) (counted : number ≡ control + k) (measured : Measures (between f from r) book stamp number one) where
+    is : Measures (between f from r) book stamp (control + k) one
+    is = subst (λ (n : ℕ). Measures (between f from r) book stamp n one) counted measured
+
     ms : messagesAt f from ≡ between f from r ∷ messagesAt f r
     ms = message-here f count from k r (p .walked) more e
 

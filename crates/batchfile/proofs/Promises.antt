@@ -54,7 +54,7 @@ module _ (f book stamp : List ℕ) (control : ℕ) (out : List ℕ) where
   -- a batch without messages: no bytes, and neither book nor stamp nor output is looked at
   pub empty-batch : isWrong f control ≡ false → messagesIn f ≡ [] → batchOf f book stamp control out ≡ outcome (told 0 0) out
   unfolding batchOf firstRow refusedFrom acksFrom
-  empty-batch right none = rw (right, none)
+  empty-batch right none = rw (right, none, le-ltb (length out) 0 (omega arith))
 
 -- ---- the lowest ordinal
 -- the message with an ordinal, counted from n, is the first of some messages to meet one of 1 to 10
@@ -98,14 +98,14 @@ none-among book stamp n [] m after none = by (meetsOne book stamp m) none
     by : (b : Bool) → cond b (n ∷ refusedFrom book stamp (suc n) after) (refusedFrom book stamp (suc n) after) ≡ [] → b ≡ false
     by true none = absurd (omega (arith, ap length none))
     by false none = refl
-none-among book stamp n (x ∷ before) m after none = by (meetsOne book stamp x) none
+none-among book stamp n (x ∷ before) m after none = by (meetsOne book stamp x) none (none-among book stamp (suc n) before m after)
   where
     rest : List ℕ
     rest = refusedFrom book stamp (suc n) (before ++ (m ∷ after))
 
-    by : (b : Bool) → cond b (n ∷ rest) rest ≡ [] → meetsOne book stamp m ≡ false
-    by true none = absurd (omega (arith, ap length none))
-    by false none = none-among book stamp (suc n) before m after none
+    by : (b : Bool) → cond b (n ∷ rest) rest ≡ [] → (rest ≡ [] → meetsOne book stamp m ≡ false) → meetsOne book stamp m ≡ false
+    by true none ih = absurd (omega (arith, ap length none))
+    by false none ih = ih none
 
 -- ---- what was written
 -- the ACKs of some messages, then those of others
@@ -134,15 +134,20 @@ module _ (m book stamp : List ℕ) (control : ℕ) (alone : List ℕ) (none : me
 joined-alone : (book stamp : List ℕ) (n control : ℕ) (ms : List (List ℕ)) (alone : List ℕ) → refusedFrom book stamp n ms ≡ [] → length (acksFrom book stamp control ms) ≤ length alone → acksFrom book stamp control ms ≡ aloneFrom book stamp control ms alone
 unfolding acksFrom aloneFrom refusedFrom
 joined-alone book stamp n control [] alone none room = refl
-joined-alone book stamp n control (m ∷ ms) alone none room = by (meetsOne book stamp m) refl none
+joined-alone book stamp n control (m ∷ ms) alone none room = by (meetsOne book stamp m) refl none (joined-alone book stamp (suc n) (suc control) ms alone)
   where
-    long : length (acksFrom book stamp control (m ∷ ms)) ≡ length (ackFor m book stamp control) + length (acksFrom book stamp (suc control) ms)
-    long = length-append (ackFor m book stamp control) (acksFrom book stamp (suc control) ms)
+    ack : List ℕ
+    ack = ackFor m book stamp control
 
-    by : (b : Bool) → meetsOne book stamp m ≡ b → cond b (n ∷ refusedFrom book stamp (suc n) ms) (refusedFrom book stamp (suc n) ms) ≡ [] → acksFrom book stamp control (m ∷ ms) ≡ aloneFrom book stamp control (m ∷ ms) alone
-    by true e none = absurd (omega (arith, ap length none))
-    by false e none =
-        ap₂ _++_ (sym (alone-written m book stamp control alone e (omega (arith, room, long)))) (joined-alone book stamp (suc n) (suc control) ms alone none (omega (arith, room, long)))
+    rest : List ℕ
+    rest = acksFrom book stamp (suc control) ms
+
+    by : (b : Bool) → meetsOne book stamp m ≡ b → cond b (n ∷ refusedFrom book stamp (suc n) ms) (refusedFrom book stamp (suc n) ms) ≡ []
+        → (refusedFrom book stamp (suc n) ms ≡ [] → length rest ≤ length alone → rest ≡ aloneFrom book stamp (suc control) ms alone) → ack ++ rest ≡ writtenOf (answerOf m book stamp control alone) ++ aloneFrom book stamp (suc control) ms alone
+    by true e none ih = absurd (omega (arith, ap length none))
+    by false e none ih =
+        let long = length-append ack rest in
+        ap₂ _++_ (sym (alone-written m book stamp control alone e (omega (arith, room, long)))) (ih none (omega (arith, room, long)))
 
 module _ (f book stamp : List ℕ) (control : ℕ) (out : List ℕ) where
   -- 15's detail is the lowest ordinal of a message that meets one of 1 to 10

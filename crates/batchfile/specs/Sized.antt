@@ -18,7 +18,7 @@ pub record Starts (f : List ℕ) (at count : ℕ) : Type 0 where
   pub within : at ≤ length f
   pub limited : length f ≤ fileLimit
   pub started : gatheredAt f at .before ≡ []
-  pub count : length (messagesAt f at) ≡ count
+  pub messages : length (messagesAt f at) ≡ count
 
 -- one of refusals 1 to 10
 abbrev pub isRefusal : Told → Bool

@@ -72,15 +72,7 @@ fn measure(
     ensures { λ r. ⌜ Measures (now (m .entry)) (now (book .entry)) (now (stamp .entry)) control r ⌝ }
 {
     let mut nothing = [0u8; 0];
-    measured_by(answer_indexed(
-        m,
-        book,
-        starts,
-        indexed,
-        stamp,
-        control,
-        &mut nothing,
-    ))
+    measured_by(answer_indexed(m, book, starts, indexed, stamp, control, &mut nothing))
 }
 
 // Writes the ACK of a message into the output from a position on, and answers where it ends.
