@@ -642,7 +642,8 @@ mod tests {
     #[test]
     fn lines_of_the_program() {
         let Sample { case, expected, .. } = worked_example();
-        let printed = |input: &[u8]| String::from_utf8(crate::line::printed(&case.message, &case.book, input)).unwrap();
+        let printed =
+            |input: &[u8]| String::from_utf8(crate::line::RELAY.printed(&case.message, &case.book, input)).unwrap();
         assert_eq!(printed(b"20250113120000+0000 7\n"), expected);
         assert_eq!(printed(b"20250113120000+0000 007"), expected);
         assert_eq!(printed(b"20250113120000+0000  7\n"), "refused 10 0\n");

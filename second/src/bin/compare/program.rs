@@ -32,7 +32,7 @@ fn compare_in(folder: &Path, command: &mut Command, seed: u64, cases: u64) -> Re
     for index in 0..cases {
         let random = &mut Random::new(seed + 1, index);
         let run = make(random, generator.case(index).0);
-        let expected = line::printed(
+        let expected = line::RELAY.printed(
             run.message.as_deref().unwrap_or_default(),
             run.book.as_deref().unwrap_or_default(),
             &run.input,
