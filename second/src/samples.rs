@@ -1,6 +1,7 @@
 //! The samples of 01, the boundaries of its refusals and the slips to shut out, as cases, and those of the requests
 //! that have landed. What is to be said of them is written here by hand and not worked out by this program.
 
+pub mod batches;
 mod delimiters;
 
 use crate::book::BOOK_LIMIT;

@@ -1,5 +1,6 @@
 //! Inputs of the relay: one case, and a generator of them that depends on a seed alone.
 
+mod batches;
 mod delimiters;
 mod drafts;
 mod faults;
@@ -9,6 +10,7 @@ mod places;
 mod plans;
 mod random;
 
+pub use batches::BatchCase;
 pub use delimiters::{exchange, Five, ALLOWED};
 #[cfg(test)]
 pub(crate) use faults::FAULTY_RULES;
