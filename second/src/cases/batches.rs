@@ -11,10 +11,22 @@ pub struct BatchCase {
 }
 
 impl BatchCase {
+    pub fn answer(&self, out: &mut [u8]) -> (u8, u64) {
+        crate::batch(&self.file, &self.book, &self.stamp, self.control, out)
+    }
+
     /// What the batch program prints for this case.
     pub fn printed(&self) -> Vec<u8> {
         let mut out = vec![0; self.output_length];
-        let (number, detail) = crate::batch(&self.file, &self.book, &self.stamp, self.control, &mut out);
+        let (number, detail) = self.answer(&mut out);
         crate::line::printed_answer(number, detail, out)
+    }
+
+    /// The length of the joined ACKs, if there would be some.
+    pub fn joined_length(&self) -> Option<u64> {
+        match self.answer(&mut []) {
+            (11, length) => Some(length),
+            _ => None,
+        }
     }
 }

@@ -33,10 +33,14 @@ pub struct Case {
 }
 
 impl Case {
+    pub fn answer(&self, out: &mut [u8]) -> (u8, u64) {
+        crate::answer(&self.message, &self.book, &self.stamp, self.control, out)
+    }
+
     /// What the relay program prints for this case.
     pub fn printed(&self) -> Vec<u8> {
         let mut out = vec![0; self.output_length];
-        let (number, detail) = crate::answer(&self.message, &self.book, &self.stamp, self.control, &mut out);
+        let (number, detail) = self.answer(&mut out);
         crate::line::printed_answer(number, detail, out)
     }
 
@@ -48,9 +52,33 @@ impl Case {
 
     /// The length of the ACK, if there would be one.
     pub fn ack_length(&self) -> Option<u64> {
-        match crate::answer(&self.message, &self.book, &self.stamp, self.control, &mut []) {
+        match self.answer(&mut []) {
             (11, length) => Some(length),
             _ => None,
+        }
+    }
+}
+
+/// What is asked of the main code: an answer to one message, or to a batch.
+#[derive(Clone, Debug, PartialEq, Eq)]
+pub enum AnyCase {
+    Message(Case),
+    Batch(BatchCase),
+}
+
+impl AnyCase {
+    pub fn output_length(&self) -> usize {
+        match self {
+            AnyCase::Message(case) => case.output_length,
+            AnyCase::Batch(case) => case.output_length,
+        }
+    }
+
+    /// The second program's number and detail.
+    pub fn answer(&self, out: &mut [u8]) -> (u8, u64) {
+        match self {
+            AnyCase::Message(case) => case.answer(out),
+            AnyCase::Batch(case) => case.answer(out),
         }
     }
 }
@@ -303,8 +331,7 @@ mod tests {
     use super::*;
 
     fn number(case: &Case) -> u8 {
-        let mut out = vec![0; case.output_length];
-        crate::answer(&case.message, &case.book, &case.stamp, case.control, &mut out).0
+        case.answer(&mut vec![0; case.output_length]).0
     }
 
     #[test]

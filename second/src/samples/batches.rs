@@ -631,7 +631,7 @@ mod tests {
         for BatchSample { name, case, expected } in samples() {
             let mut out = vec![0xA5; 2_000];
             let length = case.output_length.min(out.len());
-            let (number, _) = crate::batch(&case.file, &case.book, &case.stamp, case.control, &mut out[..length]);
+            let (number, _) = case.answer(&mut out[..length]);
             let written = if number == 0 { expected.len() } else { 0 };
             assert!(out[written..].iter().all(|b| *b == 0xA5), "{name}");
         }
