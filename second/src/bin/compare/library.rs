@@ -2,7 +2,7 @@
 //! and locate.
 
 use crate::coverage::Coverage;
-use second::cases::{AnyCase, Generator, Pair};
+use second::cases::{AllCases, AnyCase, Pair};
 use second::packing;
 use std::fmt::Debug;
 use std::path::{Path, PathBuf};
@@ -32,14 +32,10 @@ pub trait Library {
 }
 
 pub fn compare(ours: &mut dyn Library, seed: u64, cases: u64, limit: Duration) -> Result<bool, String> {
-    let generator = Generator::new(seed);
+    let generator = AllCases::new(seed);
     let start = Instant::now();
     let in_time = (0..cases).take_while(|_| start.elapsed() < limit);
-    let made = in_time.map(|index| {
-        let (case, pair) = generator.case(index);
-        (AnyCase::Message(case), pair)
-    });
-    let run = Run::of(ours, made, &format!("seed {seed}"))?;
+    let run = Run::of(ours, in_time.map(|index| generator.case(index)), &format!("seed {seed}"))?;
     let covered = run.coverage.print();
     if !run.failed.is_empty() {
         println!("differing cases are in {}", keep(&run.failed)?.display());
@@ -85,9 +81,7 @@ impl Run {
             };
             for ((case, pair), made) in some.into_iter().zip(pairs).zip(made) {
                 let (answer, compared) = compare_one(&case, &made);
-                if let AnyCase::Message(case) = &case {
-                    run.coverage.count(case, pair, answer);
-                }
+                run.coverage.count(&case, pair, answer);
                 if let Err(difference) = compared {
                     println!("case {} of {source}: {difference}", run.count);
                     run.failed.push(case);

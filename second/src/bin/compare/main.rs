@@ -1,5 +1,6 @@
 //! Compares the main code with the second program, through its static library or as a program.
 
+mod batches;
 mod coverage;
 mod driven;
 mod library;
