@@ -24,6 +24,16 @@ uint64_t jasminedo_answer(const uint8_t *message, size_t message_length, const u
                           const uint8_t *stamp, size_t stamp_length, uint32_t control, uint8_t *output,
                           size_t output_length);
 
+/* A batch file: FHS, BHS, messages, BTS, FTS. Number 0: the ACKs of its messages stand one after the other in the first
+ * bytes of the output, with control numbers counting up from the one given; the detail is their joined length, 0 without
+ * messages, and all later bytes are as they were. Otherwise the whole output is as it was, and the number is the first of
+ * these: 14, the file has another shape or over 1,048,576 bytes, a count differs, or the control numbers would pass their
+ * largest value, detail 0; 15, a message is one that 1 to 10 refuse, the detail is the first such one's ordinal from 1;
+ * 11, the detail is the length needed. */
+uint64_t jasminedo_batch(const uint8_t *file, size_t file_length, const uint8_t *book, size_t book_length,
+                         const uint8_t *stamp, size_t stamp_length, uint32_t control, uint8_t *output,
+                         size_t output_length);
+
 /* Number 0 for a message that can be read, or one of refusals 1 to 5; 4 is told of delimiters that may not be. */
 uint64_t jasminedo_check(const uint8_t *message, size_t message_length);
 

@@ -1,4 +1,5 @@
-/* Calls the library as a C program would: the worked example, a refusal at each end, places, other delimiters. Says what differs. */
+/* Calls the library as a C program would: the worked example, a refusal at each end, places, other delimiters, a batch. Says what
+ * differs. */
 #include "../include/jasminedo.h"
 
 #include <stdio.h>
@@ -14,6 +15,41 @@ static void expect(const char *what, int holds) {
 }
 
 #define BYTES(s) (const uint8_t *)(s), sizeof(s) - 1
+
+/* Two messages in a file, each refusal of a batch, and a file without messages. */
+static void expect_batches(void) {
+#define HEADER "MSH|^~\\&|CAB|C1|REG|AX|||VXU^V04|"
+#define ACK_HEADER "MSH|^~\\&|REG|AX|CAB|C1|20250113120000+0000||ACK^V04^ACK|"
+#define ACK_REST "|P|2.5.1|||NE|NE|||||Z23^CDCPHINVS\r"
+    static const char file[] = "FHS|^~\\&|\rBHS\r" HEADER "M1|P|2.5.1\rPID\r" HEADER "M2|P|2.5.1\rPID\rBTS|2\rFTS|1\r";
+    static const char miscounted[] = "FHS|^~\\&|\rBHS\r" HEADER "M1|P|2.5.1\rPID\rBTS|2\rFTS|1\r";
+    static const char second_bad[] = "FHS|^~\\&|\rBHS\r" HEADER "M1|P|2.5.1\rPID\r" HEADER "|P|2.5.1\rPID\rBTS|2\rFTS|1\r";
+    static const char empty[] = "FHS|^~\\&|\rBHS\rBTS|0\rFTS|1\r";
+    static const char book[] = "VXB\0\1\1\2AX\0\0\0";
+    static const char stamp[] = "20250113120000+0000";
+    static const char acks[] = ACK_HEADER "7" ACK_REST "MSA|AA|M1\r" ACK_HEADER "8" ACK_REST "MSA|AA|M2\r";
+    const size_t length = sizeof(acks) - 1;
+    uint8_t output[300], before[sizeof(output)];
+    memset(output, '.', sizeof(output));
+    memcpy(before, output, sizeof(output));
+
+    uint64_t got = jasminedo_batch(BYTES(miscounted), BYTES(book), BYTES(stamp), 7, output, sizeof(output));
+    expect("a batch with a count that differs is refusal 14", jasminedo_number(got) == 14 && jasminedo_detail(got) == 0);
+    got = jasminedo_batch(BYTES(file), BYTES(book), BYTES(stamp), UINT32_MAX, output, sizeof(output));
+    expect("a batch past the last control number is refusal 14", jasminedo_number(got) == 14 && jasminedo_detail(got) == 0);
+    got = jasminedo_batch(BYTES(second_bad), BYTES(book), BYTES(stamp), 7, output, sizeof(output));
+    expect("a batch whose second message is bad is refusal 15", jasminedo_number(got) == 15 && jasminedo_detail(got) == 2);
+    got = jasminedo_batch(BYTES(file), BYTES(book), BYTES(stamp), 7, output, length - 1);
+    expect("a batch is refused with the joined length", jasminedo_number(got) == 11 && jasminedo_detail(got) == length);
+    got = jasminedo_batch(BYTES(empty), BYTES("?"), BYTES("?"), 7, output, 0);
+    expect("a batch without messages has no bytes", jasminedo_number(got) == 0 && jasminedo_detail(got) == 0);
+    expect("a refused batch and an empty one leave the output", memcmp(output, before, sizeof(output)) == 0);
+
+    got = jasminedo_batch(BYTES(file), BYTES(book), BYTES(stamp), 7, output, sizeof(output));
+    expect("a batch is answered with the joined length", jasminedo_number(got) == 0 && jasminedo_detail(got) == length);
+    expect("the ACKs of a batch are joined", memcmp(output, acks, length) == 0);
+    expect("what follows the ACKs is left", memcmp(output + length, before, sizeof(output) - length) == 0);
+}
 
 int main(void) {
     static const char message[] = "MSH|^~\\&|CAB|C1|REG|AX|20250113115900+0000||VXU^V04^VXU_V04|M1|P|2.5.1\r"
@@ -52,6 +88,8 @@ int main(void) {
     expect("with # for the caret PID-5.1 is ROE^", jasminedo_length(got) == 4 && memcmp(other + jasminedo_start(got), "ROE^", 4) == 0);
     got = jasminedo_check(BYTES("MSH|^~\\^|\r"));
     expect("a delimiter that stands twice is refusal 4", jasminedo_number(got) == 4);
+
+    expect_batches();
 
     if (!wrong)
         printf("calling: as expected\n");

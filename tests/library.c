@@ -1,6 +1,6 @@
 /* The library as a program, for machines whose own programs cannot be linked with it. Takes packed cases (second/README.md
- * says how they look) from standard input until it ends. Gives for each the answer, the whole lent output, the check and
- * the place; numbers have eight bytes, the high byte first. */
+ * says how they look) from standard input until it ends. Gives for each the answer and the whole lent output, for a message
+ * also the check and the place; numbers have eight bytes, the high byte first. */
 #include "../include/jasminedo.h"
 
 #include <stdio.h>
@@ -54,25 +54,34 @@ static void write_number(uint64_t number) {
 /* What stands in the output before the answer: no ACK has these bytes. The comparison fills alike. */
 static uint8_t filled(size_t at) { return (uint8_t)(128 + at % 127); }
 
+/* What a case begins with. */
+enum { MESSAGE = 1, BATCH = 2 };
+
 static void run_case(void) {
-    struct bytes message = read_bytes(), book = read_bytes(), stamp = read_bytes();
+    uint32_t kind = read_number();
+    if (kind != MESSAGE && kind != BATCH)
+        fail("a case is neither a message nor a batch");
+    struct bytes given = read_bytes(), book = read_bytes(), stamp = read_bytes();
     uint32_t control = read_number();
     size_t length = read_number();
-    size_t segment = read_number(), field = read_number(), repetition = read_number(), component = read_number();
     uint8_t *output = room(length + GUARD);
     for (size_t at = 0; at < length + GUARD; at++)
         output[at] = filled(at);
 
-    write_number(jasminedo_answer(message.start, message.length, book.start, book.length, stamp.start, stamp.length, control,
-                                  output, length));
+    uint64_t (*call)(const uint8_t *, size_t, const uint8_t *, size_t, const uint8_t *, size_t, uint32_t, uint8_t *, size_t) =
+        kind == MESSAGE ? jasminedo_answer : jasminedo_batch;
+    write_number(call(given.start, given.length, book.start, book.length, stamp.start, stamp.length, control, output, length));
     for (size_t at = length; at < length + GUARD; at++)
         if (output[at] != filled(at))
             fail("a byte after the output was changed");
     fwrite(output, 1, length, stdout);
-    write_number(jasminedo_check(message.start, message.length));
-    write_number(jasminedo_locate(message.start, message.length, segment, field, repetition, component));
+    if (kind == MESSAGE) {
+        size_t segment = read_number(), field = read_number(), repetition = read_number(), component = read_number();
+        write_number(jasminedo_check(given.start, given.length));
+        write_number(jasminedo_locate(given.start, given.length, segment, field, repetition, component));
+    }
 
-    free(message.start);
+    free(given.start);
     free(book.start);
     free(stamp.start);
     free(output);

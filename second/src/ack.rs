@@ -7,50 +7,85 @@ use crate::values;
 
 /// Number 0 and the ACK's length, or a refusal that leaves `out` as it is.
 pub fn answer(m: &[u8], book: &[u8], stamp: &[u8], control: u32, out: &mut [u8]) -> (u8, u64) {
-    match write_answer(m, book, stamp, control, out) {
+    let ack = Ack::of(m, &Book::read(book), stamp, control, out.len() as u64);
+    match ack.and_then(|ack| join(&[ack], out)) {
         Ok(length) => (0, length),
         Err(refusal) => refusal,
     }
 }
 
-fn write_answer(m: &[u8], book: &[u8], stamp: &[u8], control: u32, out: &mut [u8]) -> Result<u64, Refusal> {
-    let message = Message::read(m)?;
-    let header = message.header();
-    if !(1..=199).contains(&message.text(header.field(10)).len()) {
-        return Err((6, 0));
+/// The length of the ACKs, which then stand one after the other in the first bytes of `out`, or refusal 11.
+pub fn join(acks: &[Ack], out: &mut [u8]) -> Result<u64, Refusal> {
+    let length = acks.iter().map(|ack| ack.length).sum();
+    if length > out.len() as u64 {
+        return Err((11, length));
     }
-    let section = Book::read(book)?.section(findings::first_value(message, &header, 6, 1))?;
-    if !is_stamp(stamp) {
-        return Err((10, 0));
+    let mut rest = out;
+    for ack in acks {
+        let (own, later) = rest.split_at_mut(ack.length as usize);
+        ack.write(own);
+        rest = later;
+    }
+    Ok(length)
+}
+
+/// An ACK that is ready to be written.
+pub struct Ack<'a> {
+    pub length: u64,
+    head: Head<'a>,
+    code: &'static str,
+    findings: Vec<Finding>,
+}
+
+impl<'a> Ack<'a> {
+    /// The answer to a message that meets none of refusals 1 to 10. It can be written where it fits into `room`;
+    /// otherwise only its length is of use.
+    pub fn of(
+        m: &'a [u8],
+        book: &Result<Book, Refusal>,
+        stamp: &'a [u8],
+        control: u32,
+        room: u64,
+    ) -> Result<Self, Refusal> {
+        let message = Message::read(m)?;
+        let header = message.header();
+        if !(1..=199).contains(&message.text(header.field(10)).len()) {
+            return Err((6, 0));
+        }
+        let book = book.as_ref().map_err(|refusal| *refusal)?;
+        let section = book.section(findings::first_value(message, &header, 6, 1))?;
+        if !is_stamp(stamp) {
+            return Err((10, 0));
+        }
+
+        let head = Head::new(message, &header, stamp, control);
+        let mut length = Length(0);
+        head.write("AA", &mut length);
+        // Findings are kept while they still fit; those of an ACK that is too long are only measured.
+        let mut kept: Vec<Finding> = Vec::new();
+        let mut grave = false;
+        let rejected = findings::grade(message, &header, &section, |finding| {
+            grave |= finding.severity != Severity::Informational;
+            write_err(&finding, &mut length);
+            if length.0 <= room {
+                kept.push(finding);
+            }
+        });
+        let code = match (rejected, grave) {
+            (true, _) => "AR",
+            (false, true) => "AE",
+            (false, false) => "AA",
+        };
+        Ok(Ack { length: length.0, head, code, findings: kept })
     }
 
-    let head = Head { message, header: &header, stamp, control };
-    let mut length = Length(0);
-    head.write("AA", &mut length);
-    // Findings are kept while they still fit; those of an ACK that is too long are only measured.
-    let mut kept: Vec<Finding> = Vec::new();
-    let mut grave = false;
-    let rejected = findings::grade(message, &header, &section, |finding| {
-        grave |= finding.severity != Severity::Informational;
-        write_err(&finding, &mut length);
-        if length.0 <= out.len() as u64 {
-            kept.push(finding);
+    fn write(&self, out: &mut [u8]) {
+        let mut output = Output { out, written: 0, own: self.head.message.own };
+        self.head.write(self.code, &mut output);
+        for finding in &self.findings {
+            write_err(finding, &mut output);
         }
-    });
-    if length.0 > out.len() as u64 {
-        return Err((11, length.0));
     }
-    let code = match (rejected, grave) {
-        (true, _) => "AR",
-        (false, true) => "AE",
-        (false, false) => "AA",
-    };
-    let mut output = Output { out, written: 0, own: message.own };
-    head.write(code, &mut output);
-    for finding in &kept {
-        write_err(finding, &mut output);
-    }
-    Ok(length.0)
 }
 
 fn is_stamp(stamp: &[u8]) -> bool {
@@ -125,32 +160,37 @@ impl Sink for Output<'_> {
 /// What MSH and MSA of the ACK are made of.
 struct Head<'a> {
     message: Message<'a>,
-    header: &'a Fields,
     stamp: &'a [u8],
     control: u32,
+    /// MSH-5, 6, 3 and 4.
+    parties: [&'a [u8]; 4],
+    processing: &'a [u8],
+    control_id: &'a [u8],
 }
 
-impl Head<'_> {
+impl<'a> Head<'a> {
+    fn new(message: Message<'a>, header: &Fields, stamp: &'a [u8], control: u32) -> Self {
+        let field = |field| message.text(header.field(field));
+        let parties = [5, 6, 3, 4].map(field);
+        Head { message, stamp, control, parties, processing: field(11), control_id: field(10) }
+    }
+
     fn write(&self, code: &str, sink: &mut impl Sink) {
         sink.bytes(self.message.beginning());
-        for field in [5, 6, 3, 4] {
-            sink.bytes(self.field(field));
+        for party in self.parties {
+            sink.bytes(party);
             sink.layout(b"|");
         }
         sink.bytes(self.stamp);
         sink.layout(b"||ACK^V04^ACK|");
         sink.number(self.control);
         sink.layout(b"|");
-        sink.bytes(self.field(11));
+        sink.bytes(self.processing);
         sink.layout(b"|2.5.1|||NE|NE|||||Z23^CDCPHINVS\rMSA|");
         sink.bytes(code.as_bytes());
         sink.layout(b"|");
-        sink.bytes(self.field(10));
+        sink.bytes(self.control_id);
         sink.bytes(b"\r");
-    }
-
-    fn field(&self, field: usize) -> &[u8] {
-        self.message.text(self.header.field(field))
     }
 }
 

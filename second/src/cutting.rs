@@ -127,13 +127,18 @@ pub fn check(m: &[u8]) -> Refusal {
 /// Row 4 point by point: nine bytes, the name, five bytes that are allowed, that differ, and the first of them again.
 /// A shorter message lacks the first point alone.
 pub fn row_4(m: &[u8]) -> [bool; 5] {
-    let Some(nine) = m.first_chunk::<BEGINNING>() else {
+    opening(m, b"MSH")
+}
+
+/// Row 4's points for what begins with another name.
+pub(crate) fn opening(bytes: &[u8], name: &[u8; 3]) -> [bool; 5] {
+    let Some(nine) = bytes.first_chunk::<BEGINNING>() else {
         return [false, true, true, true, true];
     };
     let five = &nine[3..8];
     let allowed = five.iter().all(|b| may_delimit(*b));
     let differ = (1..five.len()).all(|k| !five[..k].contains(&five[k]));
-    [true, nine.starts_with(b"MSH"), allowed, differ, nine[8] == nine[3]]
+    [true, nine.starts_with(name), allowed, differ, nine[8] == nine[3]]
 }
 
 fn may_delimit(byte: u8) -> bool {
@@ -201,7 +206,7 @@ impl Fields {
     }
 }
 
-fn first_foreign_byte(m: &[u8]) -> Option<usize> {
+pub(crate) fn first_foreign_byte(m: &[u8]) -> Option<usize> {
     let foreign = |&b: &u8| !matches!(b, 0x20..=0x7E | b'\r');
     // Whole blocks first: a block without an early way out is judged many bytes at a time.
     let clean = m.chunks(64).take_while(|block| !block.iter().fold(false, |any, b| any | foreign(b))).count() * 64;
@@ -209,7 +214,7 @@ fn first_foreign_byte(m: &[u8]) -> Option<usize> {
     rest.iter().position(foreign).map(|position| clean + position)
 }
 
-fn well_formed(segment: &[u8], bar: u8) -> bool {
+pub(crate) fn well_formed(segment: &[u8], bar: u8) -> bool {
     segment.len() >= 3
         && segment[0].is_ascii_uppercase()
         && segment[1..3].iter().all(|b| b.is_ascii_uppercase() || b.is_ascii_digit())

@@ -1,7 +1,8 @@
-//! A second, independent program of 01 and of A1 in 02: reads a VXU message, grades it by a section
-//! of a rule book and answers with an ACK.
+//! A second, independent program of 01 and of A1 and A4 in 02: reads a VXU message, grades it by a section
+//! of a rule book and answers with an ACK, or with the ACKs of a batch file's messages.
 
 pub mod ack;
+pub mod batch;
 pub mod book;
 pub mod books;
 pub mod cases;
@@ -18,6 +19,7 @@ pub mod values;
 use std::process::ExitCode;
 
 pub use ack::answer;
+pub use batch::batch;
 pub use cutting::check;
 pub use locating::locate;
 

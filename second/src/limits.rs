@@ -1,4 +1,4 @@
-//! Messages and books that are long on purpose, for the pack and the benchmark.
+//! Messages, books and batch files that are long on purpose, for the pack, the comparison and the benchmark.
 
 use crate::books::{self, rule, RuleBytes, SectionPlan};
 
@@ -57,10 +57,30 @@ pub fn rules_of(count: usize) -> Vec<u8> {
     books::encode(&[section])
 }
 
+/// A batch file with the usual delimiters and no counts.
+pub fn batch(messages: &[u8]) -> Vec<u8> {
+    [b"FHS|^~\\&|\rBHS\r", messages, b"BTS\rFTS\r"].concat()
+}
+
+/// A batch file of so many bytes: short messages for a section AX, the last one longer, and their number.
+pub fn batch_of(length: usize) -> (Vec<u8>, usize) {
+    let message = [HEADER, b"PID\r"].concat();
+    let end = b"ZZZ|\r".len();
+    let body = length - batch(b"").len();
+    let count = (body - end) / message.len();
+    let filler = vec![b'x'; body - end - count * message.len()];
+    (batch(&[&message.repeat(count), b"ZZZ|".as_slice(), &filler, b"\r"].concat()), count)
+}
+
 #[cfg(test)]
 mod tests {
     use super::*;
-    use crate::samples::case;
+    use crate::batch::FILE_LIMIT;
+    use crate::samples::{case, STAMP};
+
+    fn digits(number: u64) -> u64 {
+        number.to_string().len() as u64
+    }
 
     #[test]
     fn details_are_exact_without_building_the_ack() {
@@ -68,7 +88,6 @@ mod tests {
         let head = 92 + 10;
         let printed = |(message, book)| String::from_utf8_lossy(&case(message, book).printed()).into_owned();
         // Every repetition breaks every rule: ERR||PID^1^3^r|102^Data type error^HL70357|E|n^^L and CR.
-        let digits = |n: u64| n.to_string().len() as u64;
         let each = "ERR||PID^1^3^|102^Data type error^HL70357|E|^^L\r".len() as u64;
         let mut length = head;
         for rule in 1..=256 {
@@ -104,5 +123,28 @@ mod tests {
         for book in [book_of(65_536), rules_of(256), books::registries_book(), books::largest_book()] {
             assert!(!printed(doses(5), book).starts_with("refused"));
         }
+    }
+
+    #[test]
+    fn files_of_one_mib_and_a_byte_more() {
+        let (file, count) = batch_of(FILE_LIMIT);
+        let mut out = vec![0; 4_194_304];
+        // An ACK's header line with a control number of one digit takes 92 bytes, MSA|AA|M1 with its CR takes 10.
+        let length = (0..count as u64).map(|before| 92 - 1 + digits(7 + before) + 10).sum();
+        assert_eq!((file.len(), crate::batch(&file, &book(vec![]), STAMP, 7, &mut out)), (FILE_LIMIT, (0, length)));
+        let (file, _) = batch_of(FILE_LIMIT + 1);
+        assert_eq!((file.len(), crate::batch(&file, &book(vec![]), STAMP, 7, &mut out)), (FILE_LIMIT + 1, (14, 0)));
+    }
+
+    #[test]
+    #[cfg_attr(debug_assertions, ignore = "takes long where nothing is optimised")]
+    fn a_joined_length_past_32_bits() {
+        let (message, book) = repetitions(16_000, 256);
+        let of =
+            |messages: usize, control| crate::batch(&batch(&message.repeat(messages)), &book, STAMP, control, &mut []);
+        let (number, alone) = of(1, 9);
+        // The second control number and all later ones have two digits.
+        assert_eq!((number, of(20, 9)), (11, (11, alone * 20 + 19)));
+        assert!(alone * 20 > 1 << 32);
     }
 }

@@ -1,22 +1,67 @@
-//! The program: its line of standard input and what it prints.
+//! The two programs: their files, their line of standard input and what they print.
 
 use crate::ack::answer;
+use crate::batch::{batch, FILE_LIMIT};
+use crate::book::BOOK_LIMIT;
+use crate::cutting::MESSAGE_LIMIT;
+use std::fs::File;
+use std::io::{self, BufRead, ErrorKind, Read, Write};
 
-pub const OUTPUT_LENGTH: usize = 65_536;
+pub const BOOK_FILE: &str = "book.vxb";
 
-/// What the program prints for the contents of its two files and its standard input.
-pub fn printed(message: &[u8], book: &[u8], input: &[u8]) -> Vec<u8> {
-    match read_line(input) {
-        Some((stamp, control)) => {
-            let mut out = vec![0; OUTPUT_LENGTH];
-            let (number, detail) = answer(message, book, stamp, control, &mut out);
-            printed_answer(number, detail, out)
+/// What is asked of a file, a book, a stamp, a control number and an output: `answer` or `batch`.
+type Call = fn(&[u8], &[u8], &[u8], u32, &mut [u8]) -> (u8, u64);
+
+/// A program that reads a file beside the book and the line.
+pub struct Program {
+    pub file: &'static str,
+    /// The most bytes that the file may have.
+    pub limit: usize,
+    pub output_length: usize,
+    call: Call,
+}
+
+pub const RELAY: Program = Program { file: "message.hl7", limit: MESSAGE_LIMIT, output_length: 65_536, call: answer };
+pub const BATCH: Program = Program { file: "batch.hl7", limit: FILE_LIMIT, output_length: 4_194_304, call: batch };
+
+impl Program {
+    /// Reads the files in the current directory and the line, and prints.
+    pub fn run(&self) -> Result<(), String> {
+        let mut input = Vec::new();
+        io::stdin().lock().read_until(b'\n', &mut input).map_err(|e| format!("standard input: {e}"))?;
+        let file = read_file(self.file, self.limit)?;
+        let book = read_file(BOOK_FILE, BOOK_LIMIT)?;
+        let text = self.printed(&file, &book, &input);
+        io::stdout().write_all(&text).map_err(|e| format!("standard output: {e}"))
+    }
+
+    /// What the program prints for the contents of its two files and its standard input.
+    pub fn printed(&self, file: &[u8], book: &[u8], input: &[u8]) -> Vec<u8> {
+        match read_line(input) {
+            Some((stamp, control)) => {
+                let mut out = vec![0; self.output_length];
+                let (number, detail) = (self.call)(file, book, stamp, control, &mut out);
+                printed_answer(number, detail, out)
+            }
+            None => b"bad line\n".to_vec(),
         }
-        None => b"bad line\n".to_vec(),
     }
 }
 
-/// The ACK with a line feed for each CR, or the refusal.
+/// A file's bytes, one past the limit at most; a missing file counts as empty.
+fn read_file(name: &str, limit: usize) -> Result<Vec<u8>, String> {
+    let mut bytes = Vec::new();
+    match File::open(name) {
+        Ok(file) => match file.take(limit as u64 + 1).read_to_end(&mut bytes) {
+            Ok(_) => Ok(bytes),
+            Err(e) => Err(format!("{name}: {e}")),
+        },
+        Err(e) if e.kind() == ErrorKind::NotFound => Ok(bytes),
+        Err(e) => Err(format!("{name}: {e}")),
+    }
+}
+
+/// What was written, with a line feed for each CR, or the refusal.
 pub fn printed_answer(number: u8, detail: u64, mut out: Vec<u8>) -> Vec<u8> {
     if number != 0 {
         return format!("refused {number} {detail}\n").into_bytes();

@@ -1,4 +1,4 @@
-//! The main code's static library, by its three C functions.
+//! The main code's static library, by its four C functions.
 
 use second::packing::{number_and_detail, start_and_length};
 
@@ -7,6 +7,17 @@ extern "C" {
     fn jasminedo_answer(
         message: *const u8,
         message_length: usize,
+        book: *const u8,
+        book_length: usize,
+        stamp: *const u8,
+        stamp_length: usize,
+        control: u32,
+        output: *mut u8,
+        output_length: usize,
+    ) -> u64;
+    fn jasminedo_batch(
+        file: *const u8,
+        file_length: usize,
         book: *const u8,
         book_length: usize,
         stamp: *const u8,
@@ -32,6 +43,24 @@ pub fn answer(m: &[u8], book: &[u8], stamp: &[u8], control: u32, out: &mut [u8])
         jasminedo_answer(
             m.as_ptr(),
             m.len(),
+            book.as_ptr(),
+            book.len(),
+            stamp.as_ptr(),
+            stamp.len(),
+            control,
+            out.as_mut_ptr(),
+            out.len(),
+        )
+    };
+    number_and_detail(result)
+}
+
+pub fn batch(file: &[u8], book: &[u8], stamp: &[u8], control: u32, out: &mut [u8]) -> (u8, u64) {
+    // SAFETY: every pointer comes with the length of its own slice, and only `out` is written.
+    let result = unsafe {
+        jasminedo_batch(
+            file.as_ptr(),
+            file.len(),
             book.as_ptr(),
             book.len(),
             stamp.as_ptr(),

@@ -1,20 +1,40 @@
 //! Packed cases: numbers of four bytes with the high byte first, one case after the other. And the
 //! single numbers in which the library answers.
 
-use crate::cases::Case;
+use crate::cases::{AnyCase, BatchCase, Case};
 
-fn pack(case: &Case, packed: &mut Vec<u8>) {
-    for bytes in [&case.message, &case.book, &case.stamp] {
-        packed.extend((bytes.len() as u32).to_be_bytes());
-        packed.extend(bytes);
-    }
-    let [segment, field, repetition, component] = case.place;
-    for number in [case.control, case.output_length as u32, segment, field, repetition, component] {
-        packed.extend(number.to_be_bytes());
+/// What a case begins with.
+const MESSAGE: u32 = 1;
+const BATCH: u32 = 2;
+
+fn pack(case: &AnyCase, packed: &mut Vec<u8>) {
+    match case {
+        AnyCase::Message(Case { message, book, stamp, control, output_length, place }) => {
+            pack_numbers(&[MESSAGE], packed);
+            pack_bytes([message, book, stamp], packed);
+            pack_numbers(&[*control, *output_length as u32], packed);
+            pack_numbers(place, packed);
+        }
+        AnyCase::Batch(BatchCase { file, book, stamp, control, output_length }) => {
+            pack_numbers(&[BATCH], packed);
+            pack_bytes([file, book, stamp], packed);
+            pack_numbers(&[*control, *output_length as u32], packed);
+        }
     }
 }
 
-pub fn pack_all(cases: &[Case]) -> Vec<u8> {
+fn pack_numbers(numbers: &[u32], packed: &mut Vec<u8>) {
+    packed.extend(numbers.iter().flat_map(|number| number.to_be_bytes()));
+}
+
+fn pack_bytes(all: [&Vec<u8>; 3], packed: &mut Vec<u8>) {
+    for bytes in all {
+        pack_numbers(&[bytes.len() as u32], packed);
+        packed.extend(bytes);
+    }
+}
+
+pub fn pack_all(cases: &[AnyCase]) -> Vec<u8> {
     let mut packed = Vec::new();
     for case in cases {
         pack(case, &mut packed);
@@ -22,25 +42,32 @@ pub fn pack_all(cases: &[Case]) -> Vec<u8> {
     packed
 }
 
-/// All cases of a pack; `None` where it ends inside a case.
-pub fn unpack(mut packed: &[u8]) -> Option<Vec<Case>> {
+/// All cases of a pack; `None` where it ends inside a case or one begins with another number.
+pub fn unpack(mut packed: &[u8]) -> Option<Vec<AnyCase>> {
     let mut cases = Vec::new();
     while !packed.is_empty() {
-        cases.push(Case {
-            message: take_bytes(&mut packed)?,
-            book: take_bytes(&mut packed)?,
-            stamp: take_bytes(&mut packed)?,
-            control: take_number(&mut packed)?,
-            output_length: take_number(&mut packed)? as usize,
-            place: [
-                take_number(&mut packed)?,
-                take_number(&mut packed)?,
-                take_number(&mut packed)?,
-                take_number(&mut packed)?,
-            ],
+        let kind = take_number(&mut packed)?;
+        let [bytes, book, stamp] = [take_bytes(&mut packed)?, take_bytes(&mut packed)?, take_bytes(&mut packed)?];
+        let [control, output_length] = take_numbers(&mut packed)?;
+        let output_length = output_length as usize;
+        cases.push(match kind {
+            MESSAGE => {
+                let place = take_numbers(&mut packed)?;
+                AnyCase::Message(Case { message: bytes, book, stamp, control, output_length, place })
+            }
+            BATCH => AnyCase::Batch(BatchCase { file: bytes, book, stamp, control, output_length }),
+            _ => return None,
         });
     }
     Some(cases)
+}
+
+fn take_numbers<const N: usize>(packed: &mut &[u8]) -> Option<[u32; N]> {
+    let mut numbers = [0; N];
+    for number in &mut numbers {
+        *number = take_number(packed)?;
+    }
+    Some(numbers)
 }
 
 fn take_number(packed: &mut &[u8]) -> Option<u32> {
@@ -72,19 +99,30 @@ mod tests {
 
     #[test]
     fn what_is_packed_comes_back() {
-        let case = Case {
+        let case = AnyCase::Message(Case {
             message: b"MSH".to_vec(),
             book: vec![],
             stamp: b"20".to_vec(),
             control: 0xFFEE_DDCC,
             output_length: 65_536,
             place: [1, 0, u32::MAX, 258],
-        };
-        let mut packed = pack_all(&[case.clone(), case.clone()]);
-        assert_eq!(packed[..8], [0, 0, 0, 3, b'M', b'S', b'H', 0]);
+        });
+        let batch = AnyCase::Batch(BatchCase {
+            file: b"FHS\r".to_vec(),
+            book: b"VXB".to_vec(),
+            stamp: vec![],
+            control: 1,
+            output_length: 0x0102_0304,
+        });
+        let mut packed = pack_all(&[batch.clone(), case.clone(), case.clone()]);
+        assert_eq!(packed[..12], [0, 0, 0, 2, 0, 0, 0, 4, b'F', b'H', b'S', b'\r']);
+        assert_eq!(packed[26..41], [1, 1, 2, 3, 4, 0, 0, 0, 1, 0, 0, 0, 3, b'M', b'S']);
         assert_eq!(packed[packed.len() - 8..], [255, 255, 255, 255, 0, 0, 1, 2]);
-        assert_eq!(unpack(&packed), Some(vec![case.clone(), case]));
+        assert_eq!(unpack(&packed), Some(vec![batch.clone(), case.clone(), case]));
         packed.pop();
         assert_eq!(unpack(&packed), None);
+        let mut other = pack_all(&[batch]);
+        other[3] = 3;
+        assert_eq!(unpack(&other), None);
     }
 }

@@ -1,6 +1,7 @@
 //! The samples of 01, the boundaries of its refusals and the slips to shut out, as cases, and those of the requests
 //! that have landed. What is to be said of them is written here by hand and not worked out by this program.
 
+pub mod batches;
 mod delimiters;
 
 use crate::book::BOOK_LIMIT;
@@ -633,7 +634,7 @@ mod tests {
         for Sample { name, case, expected, .. } in samples() {
             let mut out = vec![0xA5; 1000];
             let length = case.output_length.min(out.len());
-            let (number, _) = crate::answer(&case.message, &case.book, &case.stamp, case.control, &mut out[..length]);
+            let (number, _) = case.answer(&mut out[..length]);
             let written = if number == 0 { expected.len() } else { 0 };
             assert!(out[written..].iter().all(|b| *b == 0xA5), "{name}");
         }
@@ -642,7 +643,8 @@ mod tests {
     #[test]
     fn lines_of_the_program() {
         let Sample { case, expected, .. } = worked_example();
-        let printed = |input: &[u8]| String::from_utf8(crate::line::printed(&case.message, &case.book, input)).unwrap();
+        let printed =
+            |input: &[u8]| String::from_utf8(crate::line::RELAY.printed(&case.message, &case.book, input)).unwrap();
         assert_eq!(printed(b"20250113120000+0000 7\n"), expected);
         assert_eq!(printed(b"20250113120000+0000 007"), expected);
         assert_eq!(printed(b"20250113120000+0000  7\n"), "refused 10 0\n");

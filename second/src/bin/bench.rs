@@ -4,6 +4,8 @@
 #[path = "../ours.rs"]
 mod ours;
 
+use second::batch::FILE_LIMIT;
+use second::line::BATCH;
 use second::samples::{self, STAMP};
 use second::{books, cases, limits};
 use std::env;
@@ -46,6 +48,7 @@ fn run() -> Result<(), String> {
     println!("Medians of {ROUNDS} samples, of {SLOW_ROUNDS} where one run takes 2 ms or more. Bytes are those of message and book.");
     answers()?;
     growths()?;
+    batches()?;
     reading();
     Ok(())
 }
@@ -90,6 +93,43 @@ fn growths() -> Result<(), String> {
         }
     }
     Ok(())
+}
+
+/// Files of one-dose messages, as many as 1 MiB holds and half of them, beside a call for each message.
+fn batches() -> Result<(), String> {
+    println!("\nAnswering a batch file of one-dose messages, 618 rules, in microseconds a file; one by one: a call for each message\n");
+    println!("{:>8} {:>9} {:>11} {:>11} {:>11} {:>11}", "messages", "bytes", "ours", "second", "ours 1 by 1", "second");
+    let message = limits::doses(1);
+    let most = (FILE_LIMIT - limits::batch(b"").len()) / message.len();
+    for count in [most / 2, most] {
+        let file = limits::batch(&message.repeat(count));
+        let times = measure_batch(&file, &message, count as u32)?.map(|time| time / 1000.0);
+        let [ours, second, ours_singly, second_singly] = times;
+        println!("{count:>8} {:>9} {ours:>11.1} {second:>11.1} {ours_singly:>11.1} {second_singly:>11.1}", file.len());
+    }
+    Ok(())
+}
+
+fn measure_batch(file: &[u8], message: &[u8], count: u32) -> Result<[f64; 4], String> {
+    let book = books::registries_book();
+    let mut outs = [(); 4].map(|()| vec![0; BATCH.output_length]);
+    if ours::batch(file, &book, STAMP, 7, &mut outs[0]) != second::batch(file, &book, STAMP, 7, &mut outs[1]) {
+        return Err(format!("a batch of {count} messages: ours and second answer differently"));
+    }
+    let [out_ours, out_second, out_ours_singly, out_second_singly] = &mut outs;
+    let singly = |answer: &mut dyn FnMut(u32) -> u64| (7..7 + count).map(answer).sum();
+    Ok(medians([
+        &mut || ours::batch(black_box(file), black_box(&book), STAMP, 7, out_ours).1,
+        &mut || second::batch(black_box(file), black_box(&book), STAMP, 7, out_second).1,
+        &mut || {
+            singly(&mut |control| ours::answer(black_box(message), black_box(&book), STAMP, control, out_ours_singly).1)
+        },
+        &mut || {
+            singly(&mut |control| {
+                second::answer(black_box(message), black_box(&book), STAMP, control, out_second_singly).1
+            })
+        },
+    ]))
 }
 
 /// Check and locate, beside a parser that does no more than read.
@@ -154,20 +194,26 @@ fn measure(input: &Input) -> Result<Times, String> {
     let (mut out_ours, mut out_second) = (vec![0; OUTPUT_LENGTH], vec![0; OUTPUT_LENGTH]);
     let mut ours = || ours::answer(black_box(message), black_box(book), STAMP, 7, &mut out_ours);
     let mut second = || second::answer(black_box(message), black_box(book), STAMP, 7, &mut out_second);
-    let mut bare = || count_delimiters(black_box(message)) + count_delimiters(black_box(book));
+    let bare = || count_delimiters(black_box(message)) + count_delimiters(black_box(book));
     if ours() != second() {
         return Err(format!("{name}: ours and second answer differently"));
     }
-    let counts = [repeats(&mut ours), repeats(&mut second), repeats(&mut bare)];
-    let mut samples: [Vec<f64>; 3] = Default::default();
-    // In turn, so that a slow moment meets all of them.
-    for _ in 0..if counts[1] > 1 { ROUNDS } else { SLOW_ROUNDS } {
-        samples[0].push(sample(&mut ours, counts[0]));
-        samples[1].push(sample(&mut second, counts[1]));
-        samples[2].push(sample(&mut bare, counts[2]));
-    }
-    let [ours, second, bare] = samples.map(median);
+    let [ours, second, bare] = medians([&mut || ours().1, &mut || second().1, &mut || bare() as u64]);
     Ok(Times { ours, second, bare })
+}
+
+/// Medians of nanoseconds for one run of each.
+fn medians<const N: usize>(mut runs: [&mut dyn FnMut() -> u64; N]) -> [f64; N] {
+    let counts = runs.each_mut().map(repeats);
+    let rounds = if counts.contains(&1) { SLOW_ROUNDS } else { ROUNDS };
+    let mut samples = [(); N].map(|()| Vec::new());
+    // In turn, so that a slow moment meets all of them.
+    for _ in 0..rounds {
+        for ((run, count), samples) in runs.iter_mut().zip(counts).zip(&mut samples) {
+            samples.push(sample(run, count));
+        }
+    }
+    samples.map(median)
 }
 
 /// The least that any reader of these bytes has to do.

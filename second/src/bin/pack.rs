@@ -1,15 +1,17 @@
 //! Writes cases for the main code's own runner, and the text that it has to print for them.
 
 use second::book::BOOK_LIMIT;
-use second::cases::Case;
+use second::cases::{AnyCase, BatchCase, Case};
 use second::cutting::MESSAGE_LIMIT;
-use second::samples::{self, case, PLACES};
+use second::samples::{self, batches, case, PLACES, STAMP};
 use second::{books, limits, packing};
 use std::process::ExitCode;
 use std::{env, fs};
 
 /// What the runner has room for: bytes of message, book, stamp and output.
 const ROOM: [usize; 4] = [MESSAGE_LIMIT + 1, BOOK_LIMIT + 1, 1_024, 131_072];
+/// The same for a batch, with the bytes of its file.
+const BATCH_ROOM: [usize; 4] = [131_072, BOOK_LIMIT + 1, 1_024, 131_072];
 
 fn main() -> ExitCode {
     second::ending("pack", run())
@@ -20,16 +22,25 @@ fn run() -> Result<(), String> {
     let [cases_path, text_path] = paths.as_slice() else {
         return Err("usage: pack CASES TEXT".into());
     };
-    let cases = cases()?;
+    let mut cases: Vec<AnyCase> = message_cases()?.into_iter().map(AnyCase::Message).collect();
+    cases.extend(batch_cases()?.into_iter().map(AnyCase::Batch));
     let mut text = Vec::new();
     for (number, case) in (1..).zip(&cases) {
-        let lengths = [case.message.len(), case.book.len(), case.stamp.len(), case.output_length];
-        if lengths.iter().zip(ROOM).any(|(length, room)| *length > room) {
+        let (lengths, room) = match case {
+            AnyCase::Message(case) => {
+                text.extend(case.located());
+                text.push(b'\n');
+                text.extend(case.printed());
+                ([case.message.len(), case.book.len(), case.stamp.len(), case.output_length], ROOM)
+            }
+            AnyCase::Batch(case) => {
+                text.extend(case.printed());
+                ([case.file.len(), case.book.len(), case.stamp.len(), case.output_length], BATCH_ROOM)
+            }
+        };
+        if lengths.iter().zip(room).any(|(length, room)| *length > room) {
             return Err(format!("case {number} is too long for the runner: {lengths:?}"));
         }
-        text.extend(case.located());
-        text.push(b'\n');
-        text.extend(case.printed());
     }
     for (path, bytes) in [(cases_path, packing::pack_all(&cases)), (text_path, text)] {
         fs::write(path, bytes).map_err(|e| format!("{}: {e}", path.display()))?;
@@ -37,20 +48,72 @@ fn run() -> Result<(), String> {
     Ok(())
 }
 
-/// The samples, which have to be printed as written by hand, then the guides' messages and long ones.
-fn cases() -> Result<Vec<Case>, String> {
+/// What has to be printed as written by hand.
+fn expect(name: &str, as_written: bool) -> Result<(), String> {
+    if as_written {
+        Ok(())
+    } else {
+        Err(format!("not printed as written by hand: {name}"))
+    }
+}
+
+/// The samples, then the guides' messages and long ones.
+fn message_cases() -> Result<Vec<Case>, String> {
     let mut cases = Vec::new();
     for sample in samples::samples() {
         let printed = sample.case.printed() == sample.expected.as_bytes();
-        if !printed || sample.located.is_some_and(|text| sample.case.located() != text.as_bytes()) {
-            return Err(format!("not printed as written by hand: {}", sample.name));
-        }
+        let located = sample.located.is_none_or(|text| sample.case.located() == text.as_bytes());
+        expect(&sample.name, printed && located)?;
         cases.push(sample.case);
     }
     let guides = books::guide_cases().into_iter().zip(PLACES.into_iter().cycle());
     cases.extend(guides.map(|((message, book), place)| Case { place, ..case(message, book) }));
     cases.extend(long_cases());
     Ok(cases)
+}
+
+/// The samples, then the guides' messages in one file and long ones.
+fn batch_cases() -> Result<Vec<BatchCase>, String> {
+    let mut cases = Vec::new();
+    for sample in batches::samples() {
+        expect(&sample.name, sample.case.printed() == sample.expected.as_bytes())?;
+        cases.push(sample.case);
+    }
+    cases.extend(guide_batches());
+    cases.extend(long_batches());
+    Ok(cases)
+}
+
+fn batch_case(messages: &[u8], book: Vec<u8>) -> BatchCase {
+    BatchCase { file: limits::batch(messages), book, stamp: STAMP.to_vec(), control: 7, output_length: 131_072 }
+}
+
+/// Those of the guides' messages that are answered by the registries' book, then all of them.
+fn guide_batches() -> [BatchCase; 2] {
+    let book = books::registries_book();
+    let messages: Vec<Vec<u8>> = books::messages().into_iter().map(|(_, message)| message).collect();
+    let answered = messages.iter().filter(|m| case(m.to_vec(), book.clone()).ack_length().is_some());
+    let answered: Vec<Vec<u8>> = answered.cloned().collect();
+    [batch_case(&answered.concat(), book.clone()), batch_case(&messages.concat(), book)]
+}
+
+fn long_batches() -> Vec<BatchCase> {
+    let mut cases = Vec::new();
+    for (message, book) in [(limits::doses(1), books::registries_book()), (limits::doses(5), books::largest_book())] {
+        cases.push(batch_case(&message.repeat(12), book));
+    }
+    // Three long messages whose ACKs are only measured.
+    for (message, book) in [limits::short_segments(32_768, 1), limits::repetitions(16_000, 4)] {
+        cases.push(batch_case(&message.repeat(3), book));
+    }
+    // Just enough and one byte less than ACKs of which the second alone is longer than the relay's output.
+    let (message, book) = limits::repetitions(1_500, 1);
+    let messages = [limits::HEADER, &message, limits::HEADER].concat();
+    let length = batch_case(&messages, book.clone()).joined_length().unwrap_or_default() as usize;
+    for output_length in [length, length - 1] {
+        cases.push(BatchCase { output_length, ..batch_case(&messages, book.clone()) });
+    }
+    cases
 }
 
 /// Each with a place far behind in it, or just past its end.

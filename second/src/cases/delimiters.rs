@@ -6,7 +6,7 @@ use crate::limits::HEADER;
 
 pub type Five = [u8; 5];
 
-const USUAL: Five = *b"|^~\\&";
+pub const USUAL: Five = *b"|^~\\&";
 /// Bytes that stand in values as plain text too.
 const COMMON: Five = *b"#!$%'";
 /// Every byte that may delimit, by hand and in order.

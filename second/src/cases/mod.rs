@@ -1,14 +1,17 @@
 //! Inputs of the relay: one case, and a generator of them that depends on a seed alone.
 
+mod batches;
 mod delimiters;
 mod drafts;
 mod faults;
+mod frames;
 mod large;
 mod near;
 mod places;
 mod plans;
 mod random;
 
+pub use batches::{BatchCase, BatchGenerator, PAIRS as BATCH_PAIRS, ROWS};
 pub use delimiters::{exchange, Five, ALLOWED};
 #[cfg(test)]
 pub(crate) use faults::FAULTY_RULES;
@@ -31,10 +34,14 @@ pub struct Case {
 }
 
 impl Case {
+    pub fn answer(&self, out: &mut [u8]) -> (u8, u64) {
+        crate::answer(&self.message, &self.book, &self.stamp, self.control, out)
+    }
+
     /// What the relay program prints for this case.
     pub fn printed(&self) -> Vec<u8> {
         let mut out = vec![0; self.output_length];
-        let (number, detail) = crate::answer(&self.message, &self.book, &self.stamp, self.control, &mut out);
+        let (number, detail) = self.answer(&mut out);
         crate::line::printed_answer(number, detail, out)
     }
 
@@ -46,15 +53,76 @@ impl Case {
 
     /// The length of the ACK, if there would be one.
     pub fn ack_length(&self) -> Option<u64> {
-        match crate::answer(&self.message, &self.book, &self.stamp, self.control, &mut []) {
+        match self.answer(&mut []) {
             (11, length) => Some(length),
             _ => None,
         }
     }
 }
 
+/// What is asked of the main code: an answer to one message, or to a batch.
+#[derive(Clone, Debug, PartialEq, Eq)]
+pub enum AnyCase {
+    Message(Case),
+    Batch(BatchCase),
+}
+
+impl AnyCase {
+    pub fn output_length(&self) -> usize {
+        match self {
+            AnyCase::Message(case) => case.output_length,
+            AnyCase::Batch(case) => case.output_length,
+        }
+    }
+
+    /// The second program's number and detail.
+    pub fn answer(&self, out: &mut [u8]) -> (u8, u64) {
+        match self {
+            AnyCase::Message(case) => case.answer(out),
+            AnyCase::Batch(case) => case.answer(out),
+        }
+    }
+}
+
 /// Two refusals, the earlier one first, whose conditions are both to be true.
 pub type Pair = (u8, u8);
+
+/// Messages and batches by one index: the first ones of both, then four messages and a batch in turn.
+pub struct AllCases {
+    messages: Generator,
+    batches: BatchGenerator,
+}
+
+impl AllCases {
+    pub fn new(seed: u64) -> Self {
+        AllCases { messages: Generator::new(seed), batches: BatchGenerator::new(seed) }
+    }
+
+    /// The case of an index and the pair that it aims at.
+    pub fn case(&self, index: u64) -> (AnyCase, Option<Pair>) {
+        let (messages, batches) = (self.messages.firsts(), self.batches.firsts());
+        match index.checked_sub(messages + batches) {
+            None if index < messages => self.message(index),
+            None => self.batch(index - messages),
+            Some(later) if later % 5 == 4 => self.batch(batches + later / 5),
+            Some(later) => self.message(messages + later / 5 * 4 + later % 5),
+        }
+    }
+
+    fn message(&self, index: u64) -> (AnyCase, Option<Pair>) {
+        let (case, pair) = self.messages.case(index);
+        (AnyCase::Message(case), pair)
+    }
+
+    fn batch(&self, index: u64) -> (AnyCase, Option<Pair>) {
+        let (case, pair) = self.batches.case(index);
+        (AnyCase::Batch(case), pair)
+    }
+}
+
+/// Cases for each kind and severity of a rule, and with them those for each combination of header findings.
+const BROKEN: usize = 6 * 3;
+const FOUND: usize = BROKEN + 16;
 
 /// Cases by their index: the samples first, then each pair of refusals, each finding and each
 /// combination of header findings once, then random ones without end.
@@ -69,6 +137,11 @@ impl Generator {
     pub fn new(seed: u64) -> Self {
         let samples = samples::samples().into_iter().map(|sample| sample.case).collect();
         Generator { seed, samples, pairs: pairs(), guides: books::guide_cases() }
+    }
+
+    /// How many come before the random ones.
+    pub fn firsts(&self) -> u64 {
+        (self.samples.len() + self.pairs.len() + FOUND) as u64
     }
 
     /// The case of an index and the pair that it aims at.
@@ -96,8 +169,8 @@ impl Generator {
         }
         at -= self.pairs.len();
         let case = match at {
-            0..18 => broken_rule(random, at as u8 % 6 + 1, b"EWI"[at / 6]),
-            18..34 => headed(random, SectionPlan::new("AX"), at - 18),
+            0..BROKEN => broken_rule(random, at as u8 % 6 + 1, b"EWI"[at / 6]),
+            BROKEN..FOUND => headed(random, SectionPlan::new("AX"), at - BROKEN),
             _ => return self.random_case(random),
         };
         (lend(random, case), None)
@@ -231,9 +304,14 @@ fn large_book(random: &mut Random) -> Case {
     case
 }
 
-/// Lends no output, too little, just enough or more.
 fn lend(random: &mut Random, mut case: Case) -> Case {
-    let needed = case.ack_length().unwrap_or(300);
+    case.output_length = lent(random, case.ack_length(), 65_536);
+    case
+}
+
+/// No output, too little, just enough or more than is needed, where that is known.
+fn lent(random: &mut Random, needed: Option<u64>, usual: u64) -> usize {
+    let needed = needed.unwrap_or(300);
     let lent = match random.below(8) {
         0 => 0,
         1 => needed - 1,
@@ -242,10 +320,9 @@ fn lend(random: &mut Random, mut case: Case) -> Case {
         5 => needed + 1,
         _ => needed + random.below(100) as u64,
     };
-    // Outputs beyond the program's are rare, since filling and comparing them takes time.
-    let limit = if random.one_in(50) { 4_000_000 } else { 65_536 };
-    case.output_length = lent.min(limit) as usize;
-    case
+    // Outputs beyond the usual limit are rare, since filling and comparing them takes time.
+    let limit = if random.one_in(50) { 4_000_000 } else { usual };
+    lent.min(limit) as usize
 }
 
 const DELIMITERS: &[u8] = b"|^~\\&\r";
@@ -301,8 +378,7 @@ mod tests {
     use super::*;
 
     fn number(case: &Case) -> u8 {
-        let mut out = vec![0; case.output_length];
-        crate::answer(&case.message, &case.book, &case.stamp, case.control, &mut out).0
+        case.answer(&mut vec![0; case.output_length]).0
     }
 
     #[test]
@@ -326,6 +402,26 @@ mod tests {
                 assert!(found == pair.0 || pair == (7, 8) && found == 8, "{pair:?} {found}");
             }
         }
+    }
+
+    #[test]
+    fn all_cases_hold_those_of_both_generators_once() {
+        let all = AllCases::new(3);
+        let (mut messages, mut batches) = (0, 0);
+        for index in 0..all.messages.firsts() + all.batches.firsts() + 500 {
+            let (case, _) = all.case(index);
+            match &case {
+                AnyCase::Message(case) => {
+                    assert!(*case == all.messages.case(messages).0, "{index}");
+                    messages += 1;
+                }
+                AnyCase::Batch(case) => {
+                    assert!(*case == all.batches.case(batches).0, "{index}");
+                    batches += 1;
+                }
+            }
+        }
+        assert_eq!((messages - all.messages.firsts(), batches - all.batches.firsts()), (400, 100));
     }
 
     #[test]

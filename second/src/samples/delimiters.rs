@@ -137,35 +137,17 @@ fn later_headers() -> Vec<Sample> {
         .into()
 }
 
-/// Each of row 4's conditions broken alone: every pair, and a byte of every kind that may not delimit.
+/// Bytes 3 to 8 that break one of row 4's conditions alone: every pair, a byte of every kind that may not delimit, and
+/// byte 8.
+pub(super) const WRONG_BEGINNINGS: [&str; 21] = [
+    "!!$%'!", "!#!%'!", "!#$!'!", "!#$%!!", "!##%'!", "!#$#'!", "!#$%#!", "!#$$'!", "!#$%$!", "!#$%%!", "A#$%'A",
+    "!z$%'!", "!#0%'!", "!#$ '!", "!#$%\"!", ".#$%'.", "!+$%'!", "!#-%'!", "!#$_'!", "!#$%\r!", "!#$%'|",
+];
+
+/// Each of row 4's conditions broken alone.
 fn beginnings() -> Vec<Sample> {
-    let pairs = [
-        "MSH!!$%'!",
-        "MSH!#!%'!",
-        "MSH!#$!'!",
-        "MSH!#$%!!",
-        "MSH!##%'!",
-        "MSH!#$#'!",
-        "MSH!#$%#!",
-        "MSH!#$$'!",
-        "MSH!#$%$!",
-        "MSH!#$%%!",
-    ];
-    let bytes = [
-        "MSHA#$%'A",
-        "MSH!z$%'!",
-        "MSH!#0%'!",
-        "MSH!#$ '!",
-        "MSH!#$%\"!",
-        "MSH.#$%'.",
-        "MSH!+$%'!",
-        "MSH!#-%'!",
-        "MSH!#$_'!",
-        "MSH!#$%\r!",
-    ];
-    let others = ["MSG!#$%'!", "MSH!#$%'|"];
-    let nine = pairs.iter().chain(&bytes).chain(&others).map(|nine| format!("{nine}CAB\r"));
-    nine.chain(["MSH!#$%'".into()])
+    let long = WRONG_BEGINNINGS.iter().map(|six| format!("MSH{six}CAB\r"));
+    long.chain(["MSG!#$%'!CAB\r".into(), "MSH!#$%'".into()])
         .map(|message| {
             let case = case(message.clone().into_bytes(), book_ax(&[]));
             at([1, 1, 1, 0], "", sample(&format!("beginning {message:?}"), case, "refused 4 0\n"))

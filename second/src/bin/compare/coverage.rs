@@ -1,13 +1,14 @@
-//! What the cases hit: refusals and their pairs, findings, combinations of header findings and of severities, and what
-//! other delimiters bring.
+//! What the cases hit: refusals and their pairs, findings, combinations of header findings and of severities, what other
+//! delimiters bring, and what batches do.
 
+use crate::batches::Batches;
 use second::book::{Book, Kind, Rule};
-use second::cases::{Case, Pair};
+use second::cases::{AnyCase, Case, Pair};
 use second::cutting::{self, Message, Refusal};
 use second::findings::{self, Finding, Place};
 
 /// Longer ACKs are not graded once more to be counted.
-const LONGEST: u64 = 100_000;
+pub const LONGEST: u64 = 100_000;
 const USUAL: &[u8] = b"|^~\\&";
 /// Row 4's points, as `cutting::row_4` has them.
 const BEGINNINGS: [&str; 5] = ["fewer bytes", "another name", "a byte not allowed", "two equal", "byte 8"];
@@ -17,7 +18,7 @@ const KINDS: [&str; 6] = ["101 REQUIRED", "102 LENGTH", "102 NUMBER", "102 DATE"
 const GRAVE: usize = 0b011;
 
 /// What can be hit and how often it was.
-type Row = (String, u64);
+pub type Row = (String, u64);
 
 #[derive(Default)]
 pub struct Coverage {
@@ -36,11 +37,19 @@ pub struct Coverage {
     beginnings: [u64; 5],
     later_header: u64,
     caret_in_key: u64,
+    batches: Batches,
 }
 
 impl Coverage {
     /// Counts a case once for everything that it hits.
-    pub fn count(&mut self, case: &Case, pair: Option<Pair>, (number, detail): (u8, u64)) {
+    pub fn count(&mut self, case: &AnyCase, pair: Option<Pair>, answer: (u8, u64)) {
+        match case {
+            AnyCase::Message(case) => self.count_message(case, pair, answer),
+            AnyCase::Batch(case) => self.batches.count(case, pair, answer),
+        }
+    }
+
+    fn count_message(&mut self, case: &Case, pair: Option<Pair>, (number, detail): (u8, u64)) {
         self.numbers[usize::from(number)] += 1;
         if let Some((earlier, later)) = pair {
             // A book's late faults are tried after the version.
@@ -84,6 +93,7 @@ impl Coverage {
         let mut rows = self.answer_rows();
         rows.extend(self.combination_rows());
         rows.extend(self.delimiter_rows());
+        rows.extend(self.batches.rows());
         for (label, count) in &rows {
             println!("{label}: {count}");
         }

@@ -1,7 +1,7 @@
 //! The library in a program of its own, `tests/library.c`: packed cases go in, what was made of them comes out.
 
 use crate::library::{Library, Made};
-use second::cases::Case;
+use second::cases::AnyCase;
 use second::packing::{self, number_and_detail, start_and_length};
 use std::io::{self, BufReader, Read, Write};
 use std::process::{ChildStdin, ChildStdout, Command, Stdio};
@@ -22,9 +22,9 @@ impl Driven {
 }
 
 impl Library for Driven {
-    fn make(&mut self, cases: &[Case]) -> Result<Vec<Made>, String> {
+    fn make(&mut self, cases: &[AnyCase]) -> Result<Vec<Made>, String> {
         let packed = packing::pack_all(cases);
-        // On two threads, since the pipes hold less than a batch.
+        // On two threads, since the pipes hold less than so many cases.
         let made: io::Result<Vec<Made>> = thread::scope(|scope| {
             scope.spawn(|| self.input.write_all(&packed));
             cases.iter().map(|case| read(&mut self.output, case)).collect()
@@ -33,13 +33,17 @@ impl Library for Driven {
     }
 }
 
-fn read(from: &mut impl Read, case: &Case) -> io::Result<Made> {
+fn read(from: &mut impl Read, case: &AnyCase) -> io::Result<Made> {
     let answer = number_and_detail(number(from)?);
-    let mut output = vec![0; case.output_length];
+    let mut output = vec![0; case.output_length()];
     from.read_exact(&mut output)?;
-    let check = number_and_detail(number(from)?);
-    let place = case.place.map(|number| number as usize);
-    Ok(Made { answer, output, check, places: vec![(place, start_and_length(number(from)?))] })
+    let mut made = Made { answer, output, check: None, places: Vec::new() };
+    if let AnyCase::Message(case) = case {
+        made.check = Some(number_and_detail(number(from)?));
+        let place = case.place.map(|number| number as usize);
+        made.places.push((place, start_and_length(number(from)?)));
+    }
+    Ok(made)
 }
 
 fn number(from: &mut impl Read) -> io::Result<u64> {

@@ -1,7 +1,8 @@
-//! Case by case through the library, linked or in a program of its own: answer, whole output, check and locate.
+//! Case by case through the library, linked or in a program of its own: answer and whole output, of a message also check
+//! and locate.
 
 use crate::coverage::Coverage;
-use second::cases::{Case, Generator, Pair};
+use second::cases::{AllCases, AnyCase, Pair};
 use second::packing;
 use std::fmt::Debug;
 use std::path::{Path, PathBuf};
@@ -9,7 +10,7 @@ use std::time::{Duration, Instant};
 use std::{env, fs};
 
 /// So many cases are given to the library at once.
-const BATCH: usize = 64;
+const AT_ONCE: usize = 64;
 /// After so many differing cases nothing new is learned.
 const ENOUGH: usize = 10;
 
@@ -20,17 +21,18 @@ pub struct Made {
     pub answer: Answer,
     /// The lent output, and what stands after it where that can be seen.
     pub output: Vec<u8>,
-    pub check: Answer,
-    /// Places with their start and length.
+    /// Of a message alone.
+    pub check: Option<Answer>,
+    /// Places of a message with their start and length.
     pub places: Vec<([usize; 4], (usize, usize))>,
 }
 
 pub trait Library {
-    fn make(&mut self, cases: &[Case]) -> Result<Vec<Made>, String>;
+    fn make(&mut self, cases: &[AnyCase]) -> Result<Vec<Made>, String>;
 }
 
 pub fn compare(ours: &mut dyn Library, seed: u64, cases: u64, limit: Duration) -> Result<bool, String> {
-    let generator = Generator::new(seed);
+    let generator = AllCases::new(seed);
     let start = Instant::now();
     let in_time = (0..cases).take_while(|_| start.elapsed() < limit);
     let run = Run::of(ours, in_time.map(|index| generator.case(index)), &format!("seed {seed}"))?;
@@ -48,7 +50,7 @@ pub fn replay(ours: &mut dyn Library, file: &Path) -> Result<bool, String> {
 }
 
 /// Packs the cases beside the program.
-fn keep(cases: &[Case]) -> Result<PathBuf, String> {
+fn keep(cases: &[AnyCase]) -> Result<PathBuf, String> {
     let file = env::current_exe().map_err(|e| e.to_string())?.with_file_name("failed.pack");
     fs::write(&file, packing::pack_all(cases)).map_err(|e| format!("{}: {e}", file.display()))?;
     Ok(file)
@@ -57,27 +59,27 @@ fn keep(cases: &[Case]) -> Result<PathBuf, String> {
 #[derive(Default)]
 struct Run {
     count: usize,
-    failed: Vec<Case>,
+    failed: Vec<AnyCase>,
     coverage: Coverage,
 }
 
 impl Run {
     fn of(
         ours: &mut dyn Library,
-        mut cases: impl Iterator<Item = (Case, Option<Pair>)>,
+        mut cases: impl Iterator<Item = (AnyCase, Option<Pair>)>,
         source: &str,
     ) -> Result<Run, String> {
         let mut run = Run::default();
         while run.failed.len() < ENOUGH {
-            let (batch, pairs): (Vec<Case>, Vec<Option<Pair>>) = cases.by_ref().take(BATCH).unzip();
-            if batch.is_empty() {
+            let (some, pairs): (Vec<AnyCase>, Vec<Option<Pair>>) = cases.by_ref().take(AT_ONCE).unzip();
+            if some.is_empty() {
                 break;
             }
-            let made = match ours.make(&batch) {
+            let made = match ours.make(&some) {
                 Ok(made) => made,
-                Err(problem) => return Err(format!("{problem}; the cases are in {}", keep(&batch)?.display())),
+                Err(problem) => return Err(format!("{problem}; the cases are in {}", keep(&some)?.display())),
             };
-            for ((case, pair), made) in batch.into_iter().zip(pairs).zip(made) {
+            for ((case, pair), made) in some.into_iter().zip(pairs).zip(made) {
                 let (answer, compared) = compare_one(&case, &made);
                 run.coverage.count(&case, pair, answer);
                 if let Err(difference) = compared {
@@ -98,20 +100,26 @@ impl Run {
 }
 
 /// The second program's answer, and the first difference if there is one.
-fn compare_one(case: &Case, made: &Made) -> (Answer, Result<(), String>) {
-    let Case { message, book, stamp, control, output_length, .. } = case;
+fn compare_one(case: &AnyCase, made: &Made) -> (Answer, Result<(), String>) {
     let mut output = filled(made.output.len());
-    let answer = second::answer(message, book, stamp, *control, &mut output[..*output_length]);
+    let answer = case.answer(&mut output[..case.output_length()]);
     let compared = same("answer", made.answer, answer)
         .and_then(|()| same_output(&made.output, &output))
-        .and_then(|()| same("check", made.check, second::check(message)))
-        .and_then(|()| {
+        .and_then(|()| same_reading(case, made));
+    (answer, compared)
+}
+
+fn same_reading(case: &AnyCase, made: &Made) -> Result<(), String> {
+    match case {
+        AnyCase::Message(case) => {
+            same("check", made.check, Some(second::check(&case.message)))?;
             let mut places = made.places.iter();
             places.try_for_each(|(place, found)| {
-                same(&format!("locate {place:?}"), *found, second::locate(message, *place))
+                same(&format!("locate {place:?}"), *found, second::locate(&case.message, *place))
             })
-        });
-    (answer, compared)
+        }
+        AnyCase::Batch(_) => Ok(()),
+    }
 }
 
 fn same<T: PartialEq + Debug>(what: &str, ours: T, second: T) -> Result<(), String> {

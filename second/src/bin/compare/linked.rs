@@ -2,7 +2,7 @@
 
 use crate::library::{filled, Library, Made};
 use crate::ours;
-use second::cases::{self, Case, Random};
+use second::cases::{self, AnyCase, BatchCase, Case, Random};
 
 /// Bytes after the output that nobody may write.
 const GUARD: usize = 64;
@@ -10,17 +10,27 @@ const GUARD: usize = 64;
 pub struct Linked;
 
 impl Library for Linked {
-    fn make(&mut self, cases: &[Case]) -> Result<Vec<Made>, String> {
+    fn make(&mut self, cases: &[AnyCase]) -> Result<Vec<Made>, String> {
         Ok(cases.iter().map(make).collect())
     }
 }
 
-fn make(case: &Case) -> Made {
-    let Case { message, book, stamp, control, output_length, .. } = case;
-    let mut output = filled(output_length + GUARD);
-    let answer = ours::answer(message, book, stamp, *control, &mut output[..*output_length]);
-    let places = places(case).into_iter().map(|place| (place, ours::locate(message, place)));
-    Made { answer, output, check: ours::check(message), places: places.collect() }
+fn make(case: &AnyCase) -> Made {
+    let length = case.output_length();
+    let mut output = filled(length + GUARD);
+    let lent = &mut output[..length];
+    match case {
+        AnyCase::Message(case) => {
+            let Case { message, book, stamp, control, .. } = case;
+            let answer = ours::answer(message, book, stamp, *control, lent);
+            let places = places(case).into_iter().map(|place| (place, ours::locate(message, place)));
+            Made { answer, check: Some(ours::check(message)), places: places.collect(), output }
+        }
+        AnyCase::Batch(BatchCase { file, book, stamp, control, .. }) => {
+            let answer = ours::batch(file, book, stamp, *control, lent);
+            Made { answer, check: None, places: Vec::new(), output }
+        }
+    }
 }
 
 /// The case's place and more, since asking costs little here; also numbers that no packed case can hold.

@@ -1,5 +1,6 @@
 //! Compares the main code with the second program, through its static library or as a program.
 
+mod batches;
 mod coverage;
 mod driven;
 mod library;
@@ -11,13 +12,15 @@ mod ours;
 mod program;
 
 use library::Library;
+use program::Source;
+use second::cases::{BatchGenerator, Generator};
 use std::env;
 use std::path::{Path, PathBuf};
 use std::process::{Command, ExitCode};
 use std::time::Duration;
 
 const USAGE: &str = "usage: compare [--seconds N] [--cases N] [--seed S] [--replay FILE] \
-                     [--library PATH | --program PATH] [--under PATH]";
+                     [--library PATH | --program PATH | --batch PATH] [--under PATH]";
 
 #[derive(Default)]
 struct Options {
@@ -27,6 +30,7 @@ struct Options {
     replay: Option<PathBuf>,
     library: Option<PathBuf>,
     program: Option<PathBuf>,
+    batch: Option<PathBuf>,
     under: Option<PathBuf>,
 }
 
@@ -43,8 +47,12 @@ fn main() -> ExitCode {
 
 /// Whether all is well.
 fn run(options: Options) -> Result<bool, String> {
+    let seed = options.seed;
     if let Some(path) = &options.program {
-        return program::compare(options.command(path)?, options.seed, options.cases.unwrap_or(3_000));
+        return options.compare_program(path, Source::Relay(Generator::new(seed)));
+    }
+    if let Some(path) = &options.batch {
+        return options.compare_program(path, Source::Batch(BatchGenerator::new(seed)));
     }
     let mut ours = match &options.library {
         Some(path) => Box::new(driven::Driven::start(options.command(path)?)?),
@@ -55,12 +63,12 @@ fn run(options: Options) -> Result<bool, String> {
     }
     // A number of cases alone is not cut short by the clock.
     let seconds = options.seconds.unwrap_or(if options.cases.is_some() { 100_000 } else { 60 });
-    library::compare(&mut *ours, options.seed, options.cases.unwrap_or(u64::MAX), Duration::from_secs(seconds))
+    library::compare(&mut *ours, seed, options.cases.unwrap_or(u64::MAX), Duration::from_secs(seconds))
 }
 
 #[cfg(not(feature = "ours"))]
 fn linked() -> Result<Box<dyn Library>, String> {
-    Err("this build links no library: it takes --library or --program".into())
+    Err("this build links no library: it takes --library, --program or --batch".into())
 }
 
 #[cfg(feature = "ours")]
@@ -69,6 +77,10 @@ fn linked() -> Result<Box<dyn Library>, String> {
 }
 
 impl Options {
+    fn compare_program(&self, path: &Path, source: Source) -> Result<bool, String> {
+        program::compare(self.command(path)?, &source, self.seed, self.cases.unwrap_or(3_000))
+    }
+
     /// Starts a program, by another one that takes it as its argument if one was named.
     fn command(&self, path: &Path) -> Result<Command, String> {
         // Whole paths, since a program is run in another folder.
@@ -98,6 +110,7 @@ fn options() -> Result<Options, String> {
             Some("--replay") => options.replay = Some(value.into()),
             Some("--library") => options.library = Some(value.into()),
             Some("--program") => options.program = Some(value.into()),
+            Some("--batch") => options.batch = Some(value.into()),
             Some("--under") => options.under = Some(value.into()),
             _ => return Err(USAGE.into()),
         }

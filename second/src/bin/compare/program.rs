@@ -1,47 +1,98 @@
-//! A relay program run in a folder of its own, its standard output compared with what 01 wants printed.
+//! A relay or batch program run in a folder of its own, its standard output compared with what is to be printed.
 
 use second::book::BOOK_LIMIT;
-use second::cases::{Case, Generator, Random};
-use second::cutting::MESSAGE_LIMIT;
-use second::line;
+use second::cases::{BatchCase, BatchGenerator, Case, Generator, Random};
+use second::line::{Program, BATCH, BOOK_FILE, RELAY};
 use std::fs::{self, File};
 use std::io::Write;
 use std::path::{Path, PathBuf};
 use std::process::{Command, Stdio};
 use std::{env, io, process, thread};
 
+/// What makes the inputs, by which the program is known.
+pub enum Source {
+    Relay(Generator),
+    Batch(BatchGenerator),
+}
+
+/// A message or a batch file with what else is given.
+struct Given {
+    file: Vec<u8>,
+    book: Vec<u8>,
+    stamp: Vec<u8>,
+    control: u32,
+}
+
+impl Source {
+    fn program(&self) -> &'static Program {
+        match self {
+            Source::Relay(_) => &RELAY,
+            Source::Batch(_) => &BATCH,
+        }
+    }
+
+    fn given(&self, index: u64) -> Given {
+        match self {
+            Source::Relay(generator) => {
+                let Case { message, book, stamp, control, .. } = generator.case(index).0;
+                Given { file: message, book, stamp, control }
+            }
+            Source::Batch(generator) => {
+                let BatchCase { file, book, stamp, control, .. } = generator.case(index).0;
+                Given { file, book, stamp, control }
+            }
+        }
+    }
+
+    /// Brings a good file to its limit: a message by a last segment, a batch by a field of its first.
+    fn fill(&self, file: &mut Vec<u8>) {
+        let limit = self.program().limit;
+        match self {
+            Source::Relay(_) => {
+                file.extend(b"ZZZ|");
+                file.resize(limit - 1, b'x');
+                file.push(b'\r');
+            }
+            Source::Batch(_) => {
+                let end = file.iter().position(|b| *b == b'\r').unwrap_or(file.len());
+                file.splice(end..end, vec![b'x'; limit.saturating_sub(file.len())]);
+            }
+        }
+    }
+}
+
 /// Contents of the two files, `None` for a missing one, and of standard input.
 struct Run {
-    message: Option<Vec<u8>>,
+    file: Option<Vec<u8>>,
     book: Option<Vec<u8>>,
     input: Vec<u8>,
     piped: bool,
 }
 
-pub fn compare(mut command: Command, seed: u64, cases: u64) -> Result<bool, String> {
+pub fn compare(mut command: Command, source: &Source, seed: u64, cases: u64) -> Result<bool, String> {
     let folder = env::temp_dir().join(format!("compare-{}", process::id()));
     fs::create_dir_all(&folder).map_err(|e| format!("{}: {e}", folder.display()))?;
-    let result = compare_in(&folder, command.current_dir(&folder), seed, cases);
+    let result = compare_in(&folder, command.current_dir(&folder), source, seed, cases);
     // What is left of the folder is of no use to anybody.
     let _ = fs::remove_dir_all(&folder);
     result
 }
 
-fn compare_in(folder: &Path, command: &mut Command, seed: u64, cases: u64) -> Result<bool, String> {
-    let generator = Generator::new(seed);
+fn compare_in(folder: &Path, command: &mut Command, source: &Source, seed: u64, cases: u64) -> Result<bool, String> {
+    let program = source.program();
     for index in 0..cases {
         let random = &mut Random::new(seed + 1, index);
-        let run = make(random, generator.case(index).0);
-        let expected = line::printed(
-            run.message.as_deref().unwrap_or_default(),
+        let run = make(random, source, index);
+        let expected = program.printed(
+            run.file.as_deref().unwrap_or_default(),
             run.book.as_deref().unwrap_or_default(),
             &run.input,
         );
-        let printed = start(folder, command, &run).map_err(|e| format!("case {index} of seed {seed}: {e}"))?;
+        let printed = start(folder, command, program, &run).map_err(|e| format!("case {index} of seed {seed}: {e}"))?;
         if printed != expected {
             println!("case {index} of seed {seed} prints {}", shown(&printed));
             println!("instead of {}", shown(&expected));
-            println!("its files and its input are in {}", keep(&run)?.display());
+            println!("its files and its input are in {}", keep(program, &run)?.display());
             println!("{} cases, 1 differences", index + 1);
             return Ok(false);
         }
@@ -55,29 +106,27 @@ fn shown(text: &[u8]) -> String {
     format!("{} bytes: {shown}", text.len())
 }
 
-fn make(random: &mut Random, case: Case) -> Run {
-    let input = input(random, &case);
-    let mut message = case.message;
-    let mut book = case.book;
-    // A good message or book with more after its limit is no good.
+fn make(random: &mut Random, source: &Source, index: u64) -> Run {
+    let given = source.given(index);
+    let input = input(random, &given);
+    let Given { mut file, mut book, .. } = given;
+    // A good file or book with more after its limit is no good.
     if random.one_in(30) {
-        message.extend(b"ZZZ|");
-        message.resize(MESSAGE_LIMIT - 1, b'x');
-        message.push(b'\r');
-        message.resize(MESSAGE_LIMIT + random.pick(&[0, 1, 4_096, 70_000]), b'\r');
+        source.fill(&mut file);
+        file.resize(source.program().limit + random.pick(&[0, 1, 4_096, 70_000]), b'\r');
     }
     if random.one_in(30) {
         book.resize(BOOK_LIMIT + random.pick(&[0, 1, 4_096, 70_000]), 0);
     }
     Run {
-        message: (!random.one_in(25)).then_some(message),
+        file: (!random.one_in(25)).then_some(file),
         book: (!random.one_in(25)).then_some(book),
         input,
         piped: random.one_in(2),
     }
 }
 
-fn input(random: &mut Random, case: &Case) -> Vec<u8> {
+fn input(random: &mut Random, case: &Given) -> Vec<u8> {
     let number = case.control.to_string();
     let zeros = |count: usize| "0".repeat(count) + &number;
     let number = match random.below(40) {
@@ -121,9 +170,8 @@ fn input(random: &mut Random, case: &Case) -> Vec<u8> {
     input
 }
 
-fn lay(folder: &Path, run: &Run) -> io::Result<()> {
-    for (name, contents) in [("message.hl7", &run.message), ("book.vxb", &run.book), ("line", &Some(run.input.clone()))]
-    {
+fn lay(folder: &Path, program: &Program, run: &Run) -> io::Result<()> {
+    for (name, contents) in [(program.file, &run.file), (BOOK_FILE, &run.book), ("line", &Some(run.input.clone()))] {
         let file = folder.join(name);
         match contents {
             Some(bytes) => fs::write(file, bytes)?,
@@ -135,8 +183,8 @@ fn lay(folder: &Path, run: &Run) -> io::Result<()> {
 }
 
 /// Standard output of the program; its input is a pipe or a file.
-fn start(folder: &Path, command: &mut Command, run: &Run) -> io::Result<Vec<u8>> {
-    lay(folder, run)?;
+fn start(folder: &Path, command: &mut Command, program: &Program, run: &Run) -> io::Result<Vec<u8>> {
+    lay(folder, program, run)?;
     command.stdout(Stdio::piped());
     if !run.piped {
         let input = File::open(folder.join("line"))?;
@@ -154,8 +202,10 @@ fn start(folder: &Path, command: &mut Command, run: &Run) -> io::Result<Vec<u8>>
 }
 
 /// Keeps the folder's contents beside this program; `line` is the standard input.
-fn keep(run: &Run) -> Result<PathBuf, String> {
+fn keep(program: &Program, run: &Run) -> Result<PathBuf, String> {
     let folder = env::current_exe().map_err(|e| e.to_string())?.with_file_name("failed-program");
-    fs::create_dir_all(&folder).and_then(|()| lay(&folder, run)).map_err(|e| format!("{}: {e}", folder.display()))?;
+    fs::create_dir_all(&folder)
+        .and_then(|()| lay(&folder, program, run))
+        .map_err(|e| format!("{}: {e}", folder.display()))?;
     Ok(folder)
 }
