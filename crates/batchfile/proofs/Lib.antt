@@ -4,3 +4,4 @@ pub mod Measuring
 pub mod Joining
 pub mod Answering
 pub mod Promises
+pub mod Samples
