@@ -21,7 +21,7 @@ use Rattle.batchfile.specs.Frame.{isNone}
 use Rattle.batchfile.specs.Walk.{linesAt, gatheredAt, messagesAt, Onward, LineEnds, MessageEnds, BodyEnds}
 use Rattle.batchfile.specs.declared.frame.Body.{Body}
 
-or-true : (a b : Bool) → (a || true || b) ≡ true
+pub or-true : (a b : Bool) → (a || true || b) ≡ true
 or-true true b = refl
 or-true false b = refl
 
@@ -72,7 +72,7 @@ line-ends (x ∷ s) = by (eqb x carriageReturn) (linesOf s) refl (line-ends s)
     by false [] e ih = let none : firstEnd s ≡ 0 = rw e in (λ h. let is = ih .0 (omega arith) in omega arith, λ h. let is = ih .1 (omega arith) in omega arith)
     by false (line ∷ lines) e ih = let one : firstEnd s ≡ length line = rw e in (λ h. let is = ih .0 (omega arith) in omega arith, λ h. let is = ih .1 (omega arith) in omega arith)
 
-lines-some : (s : List ℕ) → 0 < length s → linesOf s ≡ partAt (linesOf s) 0 ∷ drop 1 (linesOf s)
+pub lines-some : (s : List ℕ) → 0 < length s → linesOf s ≡ partAt (linesOf s) 0 ∷ drop 1 (linesOf s)
 unfolding linesOf inFront
 lines-some [] h = absurd (omega arith)
 lines-some (x ∷ s) h = by (eqb x carriageReturn) (linesOf s)

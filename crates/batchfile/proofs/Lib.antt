@@ -4,4 +4,5 @@ pub mod Measuring
 pub mod Joining
 pub mod Answering
 pub mod Promises
+pub mod CutBack
 pub mod Samples
