@@ -176,7 +176,7 @@ batch-unstamped f book stamp control out e = by (isWrong f control) (messagesIn 
     by false [] w are = empty-batch f book stamp control out w are
     by false (m ∷ ms) w are = rw (w, are, meets-unstamped book stamp m e)
 
--- so a stamp of 20 bytes or more is refused whatever its other bytes are
+-- so the first 20 bytes of a stamp, or more, are answered like all of it
 pub batch-stamp : (f book stamp : List ℕ) (control : ℕ) (out : List ℕ) (n : ℕ) → 20 ≤ n → batchOf f book (take n stamp) control out ≡ batchOf f book stamp control out
 batch-stamp f book stamp control out n h = by (decLe n (length stamp))
   where
