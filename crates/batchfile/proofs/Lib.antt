@@ -5,4 +5,5 @@ pub mod Joining
 pub mod Answering
 pub mod Promises
 pub mod CutBack
+pub mod Bounds
 pub mod Samples
