@@ -2,8 +2,9 @@
 use mathlib.Core.Path.{_≡_}
 use mathlib.Core.List.{List}
 use Prim.Native.Nat.{ℕ, _≤_}
+use native.Mathlib.Omega.{arith}
 use lib.ListN.{length, take}
-use Rattle.batchfile.proofs.Promises.{batch-stamp, batch-length}
+use Rattle.batchfile.proofs.Bounds.{batch-stamp, batch-length}
 use Rattle.show.specs.Shown.{refusalRoom}
 use Rattle.line.specs.Line.{Said}
 use Rattle.line.specs.Fed.{headLength}
@@ -14,7 +15,7 @@ use Rattle.batch.specs.Reply.{answers}
 module _ (file book out : List ℕ) where
   -- the answer to the bytes that were handed over is the answer to the stamp
   pub answers-stamp : (stamp : List ℕ) (control : ℕ) → answers file book out (take headLength stamp) control ≡ answers file book out stamp control
-  answers-stamp stamp control = batch-stamp file book stamp control out
+  answers-stamp stamp control = batch-stamp file book stamp control out headLength (omega arith)
 
   -- with room for a refusal, the text is what is to be printed
   pub printed : (line : Said) {after : List ℕ} {r : ℕ} → Replies line (answers file book out) out after r → refusalRoom ≤ length out → take r after ≡ printedFor line (answers file book out)

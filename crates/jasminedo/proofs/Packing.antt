@@ -14,7 +14,7 @@ use Rattle.ack.specs.Answers.{Outcome, answerOf, paper, Gives}
 use Rattle.ack.specs.declared.refusal.Answer.{Answer}
 use Rattle.ack.proofs.Promises.{answer-bounded}
 use Rattle.batchfile.specs.Batch.{batchOf}
-use Rattle.batchfile.proofs.Promises.{batch-bounded}
+use Rattle.batchfile.proofs.Bounds.{batch-bounded}
 use Rattle.jasminedo.specs.Packed.{packed, packedPlace, packedSpan}
 
 -- ---- answers
