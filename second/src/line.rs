@@ -39,9 +39,7 @@ impl Program {
     pub fn printed(&self, file: &[u8], book: &[u8], input: &[u8]) -> Vec<u8> {
         match read_line(input) {
             Some((stamp, control)) => {
-                let mut out = vec![0; self.output_length];
-                let (number, detail) = (self.call)(file, book, stamp, control, &mut out);
-                printed_answer(number, detail, out)
+                printed_answer(self.output_length, |out| (self.call)(file, book, stamp, control, out))
             }
             None => b"bad line\n".to_vec(),
         }
@@ -61,8 +59,10 @@ fn read_file(name: &str, limit: usize) -> Result<Vec<u8>, String> {
     }
 }
 
-/// What was written, with a line feed for each CR, or the refusal.
-pub fn printed_answer(number: u8, detail: u64, mut out: Vec<u8>) -> Vec<u8> {
+/// What is written to an output of so many bytes, with a line feed for each CR, or the refusal.
+pub fn printed_answer(output_length: usize, answer: impl FnOnce(&mut [u8]) -> (u8, u64)) -> Vec<u8> {
+    let mut out = vec![0; output_length];
+    let (number, detail) = answer(&mut out);
     if number != 0 {
         return format!("refused {number} {detail}\n").into_bytes();
     }

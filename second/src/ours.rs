@@ -37,30 +37,23 @@ extern "C" {
     ) -> u64;
 }
 
+/// `jasminedo_answer` or `jasminedo_batch`.
+type Call = unsafe extern "C" fn(*const u8, usize, *const u8, usize, *const u8, usize, u32, *mut u8, usize) -> u64;
+
 pub fn answer(m: &[u8], book: &[u8], stamp: &[u8], control: u32, out: &mut [u8]) -> (u8, u64) {
-    // SAFETY: every pointer comes with the length of its own slice, and only `out` is written.
-    let result = unsafe {
-        jasminedo_answer(
-            m.as_ptr(),
-            m.len(),
-            book.as_ptr(),
-            book.len(),
-            stamp.as_ptr(),
-            stamp.len(),
-            control,
-            out.as_mut_ptr(),
-            out.len(),
-        )
-    };
-    number_and_detail(result)
+    ask(jasminedo_answer, m, book, stamp, control, out)
 }
 
 pub fn batch(file: &[u8], book: &[u8], stamp: &[u8], control: u32, out: &mut [u8]) -> (u8, u64) {
+    ask(jasminedo_batch, file, book, stamp, control, out)
+}
+
+fn ask(call: Call, given: &[u8], book: &[u8], stamp: &[u8], control: u32, out: &mut [u8]) -> (u8, u64) {
     // SAFETY: every pointer comes with the length of its own slice, and only `out` is written.
     let result = unsafe {
-        jasminedo_batch(
-            file.as_ptr(),
-            file.len(),
+        call(
+            given.as_ptr(),
+            given.len(),
             book.as_ptr(),
             book.len(),
             stamp.as_ptr(),

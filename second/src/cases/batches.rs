@@ -2,11 +2,12 @@
 
 use super::delimiters::{self, USUAL};
 use super::frames::Parts;
-use super::{drafts, exchange, faults, large, lent, mutate, near, places, plans};
+use super::{drafts, exchange, faults, large, length_needed, lent, mutate, near, places, plans};
 use super::{Case, Five, Pair, Random};
 use crate::batch::{self, messages, FILE_LIMIT, POINTS};
 use crate::books::{self, SectionPlan};
 use crate::limits::{self, HEADER};
+use crate::line;
 use crate::samples::{self, STAMP};
 
 /// What one answer to a batch takes; the output is lent as so many bytes.
@@ -26,17 +27,12 @@ impl BatchCase {
 
     /// What the batch program prints for this case.
     pub fn printed(&self) -> Vec<u8> {
-        let mut out = vec![0; self.output_length];
-        let (number, detail) = self.answer(&mut out);
-        crate::line::printed_answer(number, detail, out)
+        line::printed_answer(self.output_length, |out| self.answer(out))
     }
 
     /// The length of the joined ACKs, if there would be some.
     pub fn joined_length(&self) -> Option<u64> {
-        match self.answer(&mut []) {
-            (11, length) => Some(length),
-            _ => None,
-        }
+        length_needed(self.answer(&mut []))
     }
 
     /// What makes refusal 15, if the case meets it.

@@ -19,7 +19,7 @@ pub use places::place;
 pub use random::Random;
 
 use crate::books::{self, SectionPlan};
-use crate::samples;
+use crate::{line, samples};
 
 /// What one answer takes, and a place to locate in the message; the output is lent as so many bytes.
 #[derive(Clone, Debug, PartialEq, Eq)]
@@ -40,9 +40,7 @@ impl Case {
 
     /// What the relay program prints for this case.
     pub fn printed(&self) -> Vec<u8> {
-        let mut out = vec![0; self.output_length];
-        let (number, detail) = self.answer(&mut out);
-        crate::line::printed_answer(number, detail, out)
+        line::printed_answer(self.output_length, |out| self.answer(out))
     }
 
     /// The bytes at the case's place.
@@ -53,11 +51,13 @@ impl Case {
 
     /// The length of the ACK, if there would be one.
     pub fn ack_length(&self) -> Option<u64> {
-        match self.answer(&mut []) {
-            (11, length) => Some(length),
-            _ => None,
-        }
+        length_needed(self.answer(&mut []))
     }
+}
+
+/// What refusal 11 says.
+fn length_needed((number, detail): (u8, u64)) -> Option<u64> {
+    (number == 11).then_some(detail)
 }
 
 /// What is asked of the main code: an answer to one message, or to a batch.
