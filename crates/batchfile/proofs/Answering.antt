@@ -1,27 +1,28 @@
 -- The ways out of the call that answers a batch file, in the words of the code. Assumes nothing.
 use mathlib.Core.Path.{_≡_, refl, sym, ap, ap₂, _∙_}
 use mathlib.Core.Bool.{Bool, true, false, cond, not, _&&_, _||_}
-use mathlib.Core.List.{List, [], _∷_, _++_}
+use mathlib.Core.List.{List, [], _∷_, _++_, map}
 use Prim.Native.Nat.{ℕ, suc, _+_, _≤_, _<_}
 use native.Mathlib.Omega.{arith}
 use native.Mathlib.Decide.{decLe}
 use lib.Dec.{eqb, leb, ltb}
-use lib.ListN.{length, getD, drop}
+use lib.ListN.{length, getD, take, drop, length-append}
 use borrow.Author.Tests.{lt-ltb, le-ltb, le-leb, lt-leb, eqb-true, ltb-false, not-true, not-false}
 use Rattle.hl7.specs.Text.{bytes}
 use Rattle.hl7.specs.Delimiters.{opens}
 use Rattle.hl7.specs.Place.{delimsOf}
-use Rattle.hl7.specs.Refusals.{told, isSome, firstRow}
+use Rattle.hl7.specs.Refusals.{told, rowAt, isSome, firstRow}
 use Rattle.hl7.proofs.Comparing.{and-both, or-neither, none-of}
 use Rattle.ack.specs.declared.refusal.Answer.{Answer}
-use Rattle.ack.specs.Answers.{Outcome, outcome, outcomeBy, byRows, paper, Gives}
+use Rattle.ack.specs.Answers.{outcome, outcomeBy, byRows, shortRow, paper, Gives}
 use Rattle.ack.specs.Splice.{Wrote}
-use Rattle.ack.proofs.Writing.{splice-at-start}
+use Rattle.ack.proofs.Writing.{splice-at-start, wrote-length, _then_}
 use Rattle.batchfile.specs.Messages.{gathered}
 use Rattle.batchfile.specs.Frame.{fhsOf, bhsOf, bodyOf, messagesIn, trailerOf, btsOf, ftsOf, keepsRows, isSegment, isNone, isFramed, isCounted}
-use Rattle.batchfile.specs.Batch.{fileLimit, controls, isWrong, meetsOne, refusedFrom, acksFrom, joinedRows, batchOf}
+use Rattle.batchfile.specs.Batch.{fileLimit, controls, isWrong, meetsOne, refusedFrom, acksFrom, batchOf}
 use Rattle.batchfile.specs.Walk.{messagesAt, Framing}
-use Rattle.batchfile.specs.Sized.{Starts, MeasuresAll}
+use Rattle.batchfile.specs.Sized.{Starts, MeasuresAll, joinedOf, leftOf, Keeps}
+use Rattle.batchfile.specs.declared.batch.Kept.{Kept}
 use Rattle.batchfile.specs.declared.batch.Sizes.{Sizes}
 use Rattle.batchfile.specs.declared.frame.Frame.{Frame}
 
@@ -37,49 +38,73 @@ ordinal-from book stamp n (m ∷ ms) e = by (meetsOne book stamp m) e (ordinal-f
     by true e ih = absurd (omega arith)
     by false e ih = ih e
 
-module _ (ms : List (List ℕ)) (book stamp : List ℕ) (control : ℕ) (out : List ℕ) where
-  abbrev Given : Outcome
-  Given = byRows (joinedRows ms book stamp control out) (acksFrom book stamp control ms) out
+-- counted from another number, the ordinals are as many, and each further by as much
+refused-shift : (book stamp : List ℕ) (k n : ℕ) (ms : List (List ℕ)) → refusedFrom book stamp (k + n) ms ≡ map (λ (i : ℕ). k + i) (refusedFrom book stamp n ms)
+unfolding refusedFrom
+refused-shift book stamp k n [] = refl
+refused-shift book stamp k n (m ∷ ms) =
+    let next : suc (k + n) ≡ k + suc n = omega arith in
+    by (meetsOne book stamp m) (ap (λ (j : ℕ). refusedFrom book stamp j ms) next ∙ refused-shift book stamp k (suc n) ms)
+  where
+    by : (b : Bool) → refusedFrom book stamp (suc (k + n)) ms ≡ map (λ (i : ℕ). k + i) (refusedFrom book stamp (suc n) ms)
+        → cond b ((k + n) ∷ refusedFrom book stamp (suc (k + n)) ms) (refusedFrom book stamp (suc (k + n)) ms) ≡ map (λ (i : ℕ). k + i) (cond b (n ∷ refusedFrom book stamp (suc n) ms) (refusedFrom book stamp (suc n) ms))
+    by true ih = ap (λ (l : List ℕ). (k + n) ∷ l) ih
+    by false ih = ih
 
-  -- there are none
-  pub joined-empty : {a : Answer} → ms ≡ [] → paper a ≡ told 0 0 → Gives a out Given
-  unfolding firstRow refusedFrom acksFrom
-  joined-empty none e = rw (none, e, le-ltb (length out) 0 (omega arith))
+-- there are none
+pub joined-empty : (ms : List (List ℕ)) (book stamp : List ℕ) (control : ℕ) (out : List ℕ) {a : Answer} → ms ≡ [] → paper a ≡ told 0 0 → Gives a out (joinedOf ms book stamp control out)
+unfolding firstRow refusedFrom acksFrom
+joined-empty ms book stamp control out none e = rw (none, e, le-ltb (length out) 0 (omega arith))
 
-  module _ {sizes : Sizes} (known : MeasuresAll ms book stamp control sizes) where
-    -- one of them is refused
-    pub joined-refused : 0 < sizes .refused → Gives (record { number = 15; detail = sizes .refused }) out Given
-    unfolding firstRow
-    joined-refused some = rw (known .refused) (by (refusedFrom book stamp 1 ms) (omega (arith, known .refused)))
-      where
-        by : (l : List ℕ) → 0 < getD l 0 0 → outcome (told 15 (getD l 0 0)) out ≡ outcomeBy (cond (isSome l) (told 15 (getD l 0 0)) (firstRow (drop 1 (joinedRows ms book stamp control out)))) (acksFrom book stamp control ms) out
-        by [] h = absurd (omega arith)
-        by (x ∷ l) h = refl
+module _ (kept : List ℕ) (k : ℕ) (ms : List (List ℕ)) (book stamp : List ℕ) (control : ℕ) (out : List ℕ) {sizes : Sizes} (known : MeasuresAll ms book stamp control sizes) where
+  -- one of them is refused
+  pub left-refused : 0 < sizes .refused → Gives (record { number = 15; detail = k + sizes .refused }) out (leftOf kept k ms book stamp control out)
+  unfolding firstRow
+  left-refused some = rw (known .refused, refused-shift book stamp k 1 ms) (by (refusedFrom book stamp 1 ms) (omega (arith, known .refused)))
+    where
+      by : (l : List ℕ) → 0 < getD l 0 0
+          → outcome (told 15 (k + getD l 0 0)) out
+          ≡ outcomeBy (cond (isSome (map (λ (i : ℕ). k + i) l)) (told 15 (getD (map (λ (i : ℕ). k + i) l) 0 0)) (firstRow (shortRow (kept ++ acksFrom book stamp control ms) out ∷ []))) (kept ++ acksFrom book stamp control ms) out
+      by [] h = absurd (omega arith)
+      by (x ∷ l) h = refl
 
-    module _ (none : sizes .refused ≤ 0) where
-      pub none-refused : refusedFrom book stamp 1 ms ≡ []
-      none-refused = ordinal-from book stamp 0 ms (omega (arith, known .refused))
+  module _ (none : sizes .refused ≤ 0) where
+    pub none-refused : refusedFrom book stamp 1 ms ≡ []
+    none-refused = ordinal-from book stamp 0 ms (omega (arith, known .refused))
 
-      pub total-is : sizes .total ≡ length (acksFrom book stamp control ms)
-      total-is = known .total none-refused
+    none-later : refusedFrom book stamp (k + 1) ms ≡ []
+    none-later = refused-shift book stamp k 1 ms ∙ ap (λ (l : List ℕ). map (λ (i : ℕ). k + i) l) none-refused
+
+    module _ {n : ℕ} (size : n ≡ length kept) where
+      need-is : n + sizes .total ≡ length (kept ++ acksFrom book stamp control ms)
+      need-is = omega (arith, known .total none-refused, length-append kept (acksFrom book stamp control ms))
 
       -- there is no room for all ACKs
-      pub joined-short : length out < sizes .total → Gives (record { number = 11; detail = sizes .total }) out Given
+      pub left-short : length out < n + sizes .total → Gives (record { number = 11; detail = n + sizes .total }) out (leftOf kept k ms book stamp control out)
       unfolding firstRow
-      joined-short h = rw (none-refused, total-is, lt-ltb (length out) (length (acksFrom book stamp control ms)) (omega (arith, total-is)))
+      left-short h = rw (none-later, need-is, lt-ltb (length out) (length (kept ++ acksFrom book stamp control ms)) (omega (arith, need-is)))
 
       -- there is
-      pub joined-room : sizes .total ≤ length out → length (acksFrom book stamp control ms) ≤ length out
-      joined-room h = omega (arith, total-is)
+      pub left-room : {before : List ℕ} {to : ℕ} → n + sizes .total ≤ length out → Wrote out 0 kept before to → to + length (acksFrom book stamp control ms) ≤ length before
+      left-room h first = omega (arith, need-is, length-append kept (acksFrom book stamp control ms), first .ends, wrote-length first)
 
-      pub joined-written : {after : List ℕ} {end : ℕ} → sizes .total ≤ length out → Wrote out 0 (acksFrom book stamp control ms) after end → Gives (record { number = 0; detail = end }) after Given
+      pub left-written : {before after : List ℕ} {to end : ℕ} → n + sizes .total ≤ length out → Wrote out 0 kept before to → Wrote before to (acksFrom book stamp control ms) after end → Gives (record { number = 0; detail = end }) after (leftOf kept k ms book stamp control out)
       unfolding firstRow
-      joined-written {after} {end} h w =
-          let acks = acksFrom book stamp control ms in
-          let room = joined-room h in
-          let ends : end ≡ length acks = omega (arith, w .ends, w .room, room) in
-          let holds : after ≡ acks ++ drop (length acks) out = w .holds ∙ splice-at-start out acks room in
-          rw (none-refused, le-ltb (length out) (length acks) room, ends, holds)
+      left-written {before} {after} {to} {end} h first others =
+          let all = kept ++ acksFrom book stamp control ms in
+          let w = first then others in
+          let room : length all ≤ length out = omega (arith, need-is) in
+          let ends : end ≡ length all = omega (arith, w .ends, w .room, room) in
+          let holds : after ≡ all ++ drop (length all) out = w .holds ∙ splice-at-start out all room in
+          rw (none-later, le-ltb (length out) (length all) room, ends, holds)
+
+-- those that are left and those that are kept are all
+pub joined-left : (f : List ℕ) (at count : ℕ) (book stamp : List ℕ) (control : ℕ) (room out : List ℕ) {kept : Kept} {next : ℕ} {a : Answer} {after : List ℕ} → Keeps f at count book stamp control room kept → next ≡ control + kept .count
+    → Gives a after (leftOf (take (kept .to) room) (kept .count) (messagesAt f (kept .from)) book stamp next out) → Gives a after (joinedOf (messagesAt f at) book stamp control out)
+joined-left f at count book stamp control room out {kept} w same g =
+    g
+    ∙ ap (λ (c : ℕ). leftOf (take (kept .to) room) (kept .count) (messagesAt f (kept .from)) book stamp c out) same
+    ∙ sym (ap₂ (λ (refused acks : List ℕ). byRows (rowAt 15 refused ∷ shortRow acks out ∷ []) acks out) (w .refused) (w .acks))
 
 -- ---- the file
 -- where the length is right, the three other questions decide
@@ -144,7 +169,7 @@ module _ (f book stamp : List ℕ) (control : ℕ) (out : List ℕ) where
 
   -- the messages begin where BHS ends
   pub batch-right : {a : Answer} {after : List ℕ} {frame : Frame} {first : ℕ} → isWrong f control ≡ false → Framing f frame → first ≡ control
-      → Gives a after (byRows (joinedRows (messagesAt f (frame .start)) book stamp first out) (acksFrom book stamp first (messagesAt f (frame .start))) out) → Gives a after (batchOf f book stamp control out)
+      → Gives a after (joinedOf (messagesAt f (frame .start)) book stamp first out) → Gives a after (batchOf f book stamp control out)
   unfolding batchOf firstRow
   batch-right right w same g =
-      g ∙ ap₂ (λ (ls : List (List ℕ)) (n : ℕ). byRows (joinedRows (gathered ls .messages) book stamp n out) (acksFrom book stamp n (gathered ls .messages)) out) (w .body) same ∙ rw right
+      g ∙ ap₂ (λ (ls : List (List ℕ)) (n : ℕ). joinedOf (gathered ls .messages) book stamp n out) (w .body) same ∙ rw right

@@ -6,7 +6,7 @@ use Prim.Native.Nat.{ℕ, suc, _+_, _-_, _*_, _^_, _≤_, _<_}
 use native.Mathlib.Omega.{arith}
 use lib.Dec.{ltb}
 use lib.ListN.{length, getD, take, drop, length-take, length-drop, length-append}
-use borrow.Author.Tests.{ne-eqb, le-ltb, not-false}
+use borrow.Author.Tests.{ne-eqb, le-ltb, ltb-false, not-false}
 use Rattle.hl7.specs.Refusals.{Told, told, firstRow, passes}
 use Rattle.hl7.specs.Spans.{between}
 use Rattle.ack.specs.declared.refusal.Answer.{Answer}
@@ -14,7 +14,7 @@ use Rattle.ack.specs.Answers.{Outcome, outcome, outcomeBy, ackFor, tenRows, ans
 use Rattle.ack.specs.Pieces.{shortOr}
 use Rattle.ack.proofs.Answering.{ten-passes, ten-refuses, answer-ten-passed, answer-ten-stopped}
 use Rattle.ack.proofs.Promises.{ack-within}
-use Rattle.batchfile.specs.Batch.{controls, meetsOne, refusedFrom, acksFrom}
+use Rattle.batchfile.specs.Batch.{fileLimit, meetsOne, refusedFrom, acksFrom}
 use Rattle.batchfile.specs.Walk.{gatheredAt, messagesAt, MessageEnds}
 use Rattle.batchfile.specs.Sized.{Starts, isRefusal, measuredTold, Measures, MeasuresAll}
 use Rattle.batchfile.specs.declared.batch.Measured.{Measured}
@@ -60,13 +60,32 @@ module _ (m book stamp : List ℕ) (control : ℕ) (out : List ℕ) {a : Answer}
           record { meets = rw (refused, e); long = λ none. absurd (true≢false (rw e at none)); within = rw refused (omega arith) }
 
   -- where it meets none and there is room
-  pub writes : meetsOne book stamp m ≡ false → length (ackFor m book stamp control) ≤ length out → (a .detail ≡ length (ackFor m book stamp control)) × (after ≡ ackFor m book stamp control ++ drop (length (ackFor m book stamp control)) out)
+  module _ (none : meetsOne book stamp m ≡ false) (room : length (ackFor m book stamp control) ≤ length out) where
+    fitting : outcome (paper a) after ≡ outcome (told 0 (length (ackFor m book stamp control))) (ackFor m book stamp control ++ drop (length (ackFor m book stamp control)) out)
+    unfolding firstRow
+    fitting = g ∙ answer-ten-passed m book stamp control out (not-false (passes (tenRows m book stamp)) none) ∙ rw (le-ltb (length out) (length (ackFor m book stamp control)) room)
+
+    pub writes : (a .detail ≡ length (ackFor m book stamp control)) × (after ≡ ackFor m book stamp control ++ drop (length (ackFor m book stamp control)) out)
+    writes = (ap (λ (o : Outcome). o .told .detail) fitting, ap (λ (o : Outcome). o .output) fitting)
+
+    pub writes-zero : a .number ≡ 0
+    writes-zero = ap (λ (o : Outcome). o .told .number) fitting
+
+  -- number 0 says both
+  pub answered : a .number ≡ 0 → (meetsOne book stamp m ≡ false) × (length (ackFor m book stamp control) ≤ length out)
   unfolding firstRow
-  writes none room =
-      let ack = ackFor m book stamp control in
-      let fits : shortOr ack out ≡ outcome (told 0 (length ack)) (ack ++ drop (length ack) out) = rw (le-ltb (length out) (length ack) room) in
-      let is : outcome (paper a) after ≡ outcome (told 0 (length ack)) (ack ++ drop (length ack) out) = g ∙ answer-ten-passed m book stamp control out (not-false (passes (tenRows m book stamp)) none) ∙ fits in
-      (ap (λ (o : Outcome). o .told .detail) is, ap (λ (o : Outcome). o .output) is)
+  answered e = by (passes (tenRows m book stamp)) refl
+    where
+      ack : List ℕ
+      ack = ackFor m book stamp control
+
+      fits : (short : Bool) → ltb (length out) (length ack) ≡ short → outcomeBy (cond short (told 11 (length ack)) (told 0 0)) ack out .told .number ≡ 0 → length ack ≤ length out
+      fits true f none = absurd (omega (arith, none))
+      fits false f none = ltb-false (length out) (length ack) f
+
+      by : (passed : Bool) → passes (tenRows m book stamp) ≡ passed → (meetsOne book stamp m ≡ false) × (length (ackFor m book stamp control) ≤ length out)
+      by true p = (rw p, fits (ltb (length out) (length ack)) refl (sym (ap (λ (o : Outcome). o .told .number) (g ∙ answer-ten-passed m book stamp control out p)) ∙ e))
+      by false p = absurd (ten-refuses m book stamp p .0 (sym (ap (λ (o : Outcome). o .told .number) (g ∙ answer-ten-stopped m book stamp control out p)) ∙ e))
 
 -- ---- one message more
 module _ (book stamp : List ℕ) (n : ℕ) {ms : List (List ℕ)} (m : List ℕ) (rest : List (List ℕ)) (e : ms ≡ m ∷ rest) where
@@ -93,11 +112,12 @@ acks-none book stamp control e = rw e
 -- ---- a walk over the messages: k of them are behind `from`
 pub record Walked (f : List ℕ) (count from k : ℕ) : Type 0 where
   pub within : from ≤ length f
+  pub limited : length f ≤ fileLimit
   pub started : gatheredAt f from .before ≡ []
   pub left : k + length (messagesAt f from) ≡ count
 
 pub walked-none : (f : List ℕ) (at count : ℕ) → Starts f at count → Walked f count at 0
-walked-none f at count s = record { within = s .within; started = s .started; left = omega (arith, s .messages) }
+walked-none f at count s = record { within = s .within; limited = s .limited; started = s .started; left = omega (arith, s .messages) }
 
 no-messages : (ms : List (List ℕ)) → length ms ≡ 0 → ms ≡ []
 no-messages [] e = refl
@@ -111,7 +131,7 @@ module _ (f : List ℕ) (count from k r : ℕ) (w : Walked f count from k) (more
   message-here = e .others (w .started) (omega (arith, w .left))
 
   pub walked-more : Walked f count r (k + 1)
-  walked-more = record { within = e .onward .within (w .within); started = e .started; left = omega (arith, w .left, ap (λ (ms : List (List ℕ)). length ms) message-here) }
+  walked-more = record { within = e .onward .within (w .within); limited = w .limited; started = e .started; left = omega (arith, w .left, ap (λ (ms : List (List ℕ)). length ms) message-here) }
 
   pub part-long : length (between f from r) ≡ r - from
   part-long = omega (arith, length-take (r - from) (drop from f), length-drop from f, e .onward .forward, e .onward .within (w .within))
@@ -124,6 +144,7 @@ module _ (f : List ℕ) (at count : ℕ) (book stamp : List ℕ) (control : ℕ)
     pub refused : refusedFrom book stamp 1 (messagesAt f at) ≡ refusedFrom book stamp (k + 1) (messagesAt f from)
     pub lengths : length (acksFrom book stamp control (messagesAt f at)) ≡ total + length (acksFrom book stamp (control + k) (messagesAt f from))
     pub fits : total ≤ from * 2 ^ 32
+    pub all : length (messagesAt f at) ≡ count
 
   pub measuring-none : Starts f at count → Measuring at 0 0
   measuring-none s =
@@ -133,13 +154,19 @@ module _ (f : List ℕ) (at count : ℕ) (book stamp : List ℕ) (control : ℕ)
         refused = refl;
         lengths = omega (arith, ap (λ (c : ℕ). length (acksFrom book stamp c (messagesAt f at))) same);
         fits = omega arith;
+        all = s .messages;
       }
 
   pub measuring-done : (from k total : ℕ) → Measuring from k total → count ≤ k → MeasuresAll (messagesAt f at) book stamp control (record { refused = 0; total = total })
   measuring-done from k total p h =
       let over = walked-all f count from k (p .walked) h in
       let none = p .refused ∙ refused-none book stamp (k + 1) over in
-      record { refused = sym (ap (λ (l : List ℕ). getD l 0 0) none); total = λ _. omega (arith, p .lengths, ap length (acks-none book stamp (control + k) over)) }
+      record {
+        refused = sym (ap (λ (l : List ℕ). getD l 0 0) none);
+        few = omega arith;
+        total = λ _. omega (arith, p .lengths, ap length (acks-none book stamp (control + k) over));
+        fits = omega (arith, p .fits, p .walked .within, p .walked .limited);
+      }
 
   module _ (from k total r : ℕ) {number : ℕ} {one : Measured} (p : Measuring from k total) (more : k < count) (e : MessageEnds f from r) (counted : number ≡ control + k) (measured : Measures (between f from r) book stamp number one) where
     is : Measures (between f from r) book stamp (control + k) one
@@ -164,9 +191,15 @@ module _ (f : List ℕ) (at count : ℕ) (book stamp : List ℕ) (control : ℕ)
           refused = p .refused ∙ refused-later book stamp (k + 1) (between f from r) rest ms none ∙ ap (λ (n : ℕ). refusedFrom book stamp n rest) (omega arith);
           lengths = omega (arith, p .lengths, size, moved, is .long none);
           fits = total-fits;
+          all = p .all;
         }
 
     pub measuring-stop : one .meets ≡ true → MeasuresAll (messagesAt f at) book stamp control (record { refused = k + 1; total = total })
     measuring-stop bad =
         let some = p .refused ∙ refused-here book stamp (k + 1) (between f from r) (messagesAt f r) ms (sym (is .meets) ∙ bad) in
-        record { refused = sym (ap (λ (l : List ℕ). getD l 0 0) some); total = λ none. absurd (omega (arith, ap length (sym none ∙ some))) }
+        record {
+          refused = sym (ap (λ (l : List ℕ). getD l 0 0) some);
+          few = omega (arith, p .all, more);
+          total = λ none. absurd (omega (arith, ap length (sym none ∙ some)));
+          fits = omega (arith, p .fits, p .walked .within, p .walked .limited);
+        }

@@ -5,33 +5,45 @@ use crate::frame::is_counted;
 use crate::frame::is_framed;
 use crate::message::message_end;
 use ack::answer::answer_indexed;
+use ack::output::put;
 use ack::refusal::Answer;
 use ack::refusal::refused;
 use grade::book::Indexed;
 use grade::book::index_book;
 use grade::limits::SECTION_LIMIT;
+use hl7::bytes::front;
 use hl7::bytes::pick;
 use hl7::bytes::wide32;
 use hl7::number::TOO_LARGE;
 use hl7::place::delims_of;
 ghost use mathlib.Core.Path.{_≡_};
-ghost use mathlib.Core.Bool.{false, not};
+ghost use mathlib.Core.Bool.{not};
 ghost use mathlib.Core.List.{[]};
 ghost use Prim.Native.Nat.{_+_, _≤_, _<_};
-ghost use lib.ListN.{length};
+ghost use lib.ListN.{length, take};
 ghost use Rattle.grade.specs.Standing.{Indexes};
 ghost use Rattle.ack.specs.Splice.{Wrote};
-ghost use Rattle.ack.specs.Answers.{byRows, ackFor, paper, Gives};
-ghost use Rattle.batchfile.specs.Batch.{fileLimit, controls, isWrong, meetsOne, refusedFrom, acksFrom, joinedRows, batchOf};
+ghost use Rattle.ack.specs.Answers.{paper, Gives};
+ghost use Rattle.batchfile.specs.Batch.{fileLimit, controls, isWrong, refusedFrom, acksFrom, batchOf};
 ghost use Rattle.batchfile.specs.Walk.{messagesAt, Framing};
-ghost use Rattle.batchfile.specs.Sized.{Starts, measuredTold, Measures, MeasuresAll};
+ghost use Rattle.batchfile.specs.Sized.{Starts, AnswersAt, measuredTold, Measures, MeasuresAll, joinedOf, leftOf, Keeps};
 
 const FILE_LIMIT: usize = 1048576;
+
+// So many bytes of ACKs are kept from the first run: only messages whose ACKs do not fit are graded again.
+const KEPT: usize = 65536;
 
 // Whether a message meets one of refusals 1 to 10, and how long its ACK is, if not.
 pub struct Measured {
     pub meets: bool,
     pub length: usize,
+}
+
+// How far the messages are whose ACKs are kept: where the next begins, how many they are, and where the ACKs end.
+pub struct Kept {
+    pub from: usize,
+    pub count: usize,
+    pub to: usize,
 }
 
 // The lowest ordinal of a message that meets one of refusals 1 to 10, or 0, and how long all ACKs are, if none does.
@@ -75,8 +87,8 @@ fn measure(
     measured_by(answer_indexed(m, book, starts, indexed, stamp, control, &mut nothing))
 }
 
-// Writes the ACK of a message into the output from a position on, and answers where it ends.
-fn put_ack(
+// Answers a message into the output from a position on.
+fn answer_at(
     out: &mut [u8],
     at: usize,
     m: &[u8],
@@ -85,15 +97,55 @@ fn put_ack(
     indexed: Indexed,
     stamp: &[u8],
     control: u32,
-) -> usize
-    requires { ⌜ Indexes (now book) (now starts) indexed × (meetsOne (now book) (now stamp) (now m) ≡ false) × (at + length (ackFor (now m) (now book) (now stamp) control) ≤ length (now out)) ⌝ }
-    ensures { λ r. ⌜ Wrote (now (out .entry)) at (ackFor (now (m .entry)) (now (book .entry)) (now (stamp .entry)) control) (now (out .exit)) r ⌝ }
+) -> Answer
+    requires { ⌜ (at ≤ length (now out)) × Indexes (now book) (now starts) indexed ⌝ }
+    ensures { λ r. ⌜ AnswersAt (now (m .entry)) (now (book .entry)) (now (stamp .entry)) control (now (out .entry)) at r (now (out .exit)) ⌝ }
 {
-    let given = answer_indexed(m, book, starts, indexed, stamp, control, &mut out[at..]);
-    at + given.detail
+    answer_indexed(m, book, starts, indexed, stamp, control, &mut out[at..])
 }
 
 // ---- all messages
+// Answers messages into a room of their own, as many as have room there, up to the first that is refused.
+fn keep_front(
+    room: &mut [u8],
+    f: &[u8],
+    at: usize,
+    count: usize,
+    book: &[u8],
+    starts: &[usize],
+    indexed: Indexed,
+    stamp: &[u8],
+    control: usize,
+) -> Kept
+    requires { ⌜ Starts (now f) at count × (control + count ≤ controls) × Indexes (now book) (now starts) indexed ⌝ }
+    ensures { λ r. ⌜ Keeps (now (f .entry)) at count (now (book .entry)) (now (stamp .entry)) control (now (room .exit)) r ⌝ }
+{
+    let mut from = at;
+    let mut k = 0;
+    let mut to = 0;
+    while k < count {
+        let end = message_end(f, from);
+        let number = control_at(control, k);
+        let given = answer_at(
+            room,
+            to,
+            &f[from..end],
+            book,
+            starts,
+            indexed,
+            stamp,
+            number,
+        );
+        if given.number != 0 {
+            return Kept { from, count: k, to };
+        }
+        to += given.detail;
+        from = end;
+        k += 1;
+    }
+    Kept { from, count: k, to }
+}
+
 // How long all ACKs are, or which message is the first that is refused.
 fn measure_all(
     f: &[u8],
@@ -128,9 +180,10 @@ fn measure_all(
     Sizes { refused: 0, total }
 }
 
-// Writes all ACKs, one after the other, and answers where the last ends.
+// Writes all ACKs into the output from a position on, one after the other, and answers where the last ends.
 fn put_all(
     out: &mut [u8],
+    start: usize,
     f: &[u8],
     at: usize,
     count: usize,
@@ -140,20 +193,71 @@ fn put_all(
     stamp: &[u8],
     control: usize,
 ) -> usize
-    requires { ⌜ Starts (now f) at count × (control + count ≤ controls) × Indexes (now book) (now starts) indexed × (refusedFrom (now book) (now stamp) 1 (messagesAt (now f) at) ≡ []) × (length (acksFrom (now book) (now stamp) control (messagesAt (now f) at)) ≤ length (now out)) ⌝ }
-    ensures { λ r. ⌜ Wrote (now (out .entry)) 0 (acksFrom (now (book .entry)) (now (stamp .entry)) control (messagesAt (now (f .entry)) at)) (now (out .exit)) r ⌝ }
+    requires { ⌜ Starts (now f) at count × (control + count ≤ controls) × Indexes (now book) (now starts) indexed × (refusedFrom (now book) (now stamp) 1 (messagesAt (now f) at) ≡ []) × (start + length (acksFrom (now book) (now stamp) control (messagesAt (now f) at)) ≤ length (now out)) ⌝ }
+    ensures { λ r. ⌜ Wrote (now (out .entry)) start (acksFrom (now (book .entry)) (now (stamp .entry)) control (messagesAt (now (f .entry)) at)) (now (out .exit)) r ⌝ }
 {
     let mut from = at;
     let mut k = 0;
-    let mut to = 0;
+    let mut to = start;
     while k < count {
         let end = message_end(f, from);
         let number = control_at(control, k);
-        to = put_ack(out, to, &f[from..end], book, starts, indexed, stamp, number);
+        let given = answer_at(out, to, &f[from..end], book, starts, indexed, stamp, number);
+        to += given.detail;
         from = end;
         k += 1;
     }
     to
+}
+
+// The answer to messages, of which some were answered into a room already: 15 or 11 by those that are left, or all ACKs.
+fn answer_left(
+    out: &mut [u8],
+    room: &[u8],
+    kept: Kept,
+    f: &[u8],
+    left: usize,
+    book: &[u8],
+    starts: &[usize],
+    indexed: Indexed,
+    stamp: &[u8],
+    control: usize,
+) -> Answer
+    requires { ⌜ (kept .to ≤ length (now room)) × Starts (now f) (kept .from) left × (control + left ≤ controls) × (kept .count + left ≤ controls) × Indexes (now book) (now starts) indexed ⌝ }
+    ensures { λ r. ⌜ Gives r (now (out .exit)) (leftOf (take (kept .to) (now (room .entry))) (kept .count) (messagesAt (now (f .entry)) (kept .from)) (now (book .entry)) (now (stamp .entry)) control (now (out .entry))) ⌝ }
+{
+    let from = kept.from;
+    let sizes = measure_all(f, from, left, book, starts, indexed, stamp, control);
+    if 0 < sizes.refused {
+        return Answer {
+            number: 15,
+            detail: kept.count + sizes.refused,
+        };
+    }
+    let need = kept.to + sizes.total;
+    if out.len() < need {
+        return Answer {
+            number: 11,
+            detail: need,
+        };
+    }
+    let to = put(out, 0, front(room, kept.to));
+    let end = put_all(
+        out,
+        to,
+        f,
+        from,
+        left,
+        book,
+        starts,
+        indexed,
+        stamp,
+        control,
+    );
+    Answer {
+        number: 0,
+        detail: end,
+    }
 }
 
 // The answer to the messages that begin at a position. The book is looked at once for all, and not at all where there is none.
@@ -167,31 +271,39 @@ fn answer_messages(
     control: usize,
 ) -> Answer
     requires { ⌜ Starts (now f) at count × (control + count ≤ controls) ⌝ }
-    ensures { λ r. ⌜ Gives r (now (out .exit)) (byRows (joinedRows (messagesAt (now (f .entry)) at) (now (book .entry)) (now (stamp .entry)) control (now (out .entry))) (acksFrom (now (book .entry)) (now (stamp .entry)) control (messagesAt (now (f .entry)) at)) (now (out .entry))) ⌝ }
+    ensures { λ r. ⌜ Gives r (now (out .exit)) (joinedOf (messagesAt (now (f .entry)) at) (now (book .entry)) (now (stamp .entry)) control (now (out .entry))) ⌝ }
 {
     if count == 0 {
         return refused(0);
     }
     let mut starts = [0usize; SECTION_LIMIT];
     let indexed = index_book(book, &mut starts);
-    let sizes = measure_all(f, at, count, book, &starts, indexed, stamp, control);
-    if 0 < sizes.refused {
-        return Answer {
-            number: 15,
-            detail: sizes.refused,
-        };
-    }
-    if out.len() < sizes.total {
-        return Answer {
-            number: 11,
-            detail: sizes.total,
-        };
-    }
-    let end = put_all(out, f, at, count, book, &starts, indexed, stamp, control);
-    Answer {
-        number: 0,
-        detail: end,
-    }
+    let mut room = [0u8; KEPT];
+    let kept = keep_front(
+        &mut room,
+        f,
+        at,
+        count,
+        book,
+        &starts,
+        indexed,
+        stamp,
+        control,
+    );
+    let left = count - kept.count;
+    let next = control + kept.count;
+    answer_left(
+        out,
+        &room,
+        kept,
+        f,
+        left,
+        book,
+        &starts,
+        indexed,
+        stamp,
+        next,
+    )
 }
 
 // ---- the whole file

@@ -1,8 +1,9 @@
--- `batchfile::batch::answer_messages` meets its contract: each way out is one of the rows. Assumes nothing.
+-- `batchfile::batch::answer_messages` meets its contract: what is kept and what is left are all. Assumes nothing.
+use mathlib.Core.Path.{refl}
 use native.Mathlib.Omega.{arith}
 use borrow.Author.Needs.{needs}
 use Rattle.batchfile.proofs.Measuring.{walked-none, walked-all}
-use Rattle.batchfile.proofs.Answering.{joined-empty, joined-refused, joined-short, joined-room, joined-written, none-refused}
+use Rattle.batchfile.proofs.Answering.{joined-empty, joined-left}
 use Rattle.batchfile.proofs.batch.answer_messages.Statement.{statement}
 use Rattle.batchfile.proofs.batch.answer_messages.Tie as tie
 
@@ -12,36 +13,35 @@ returns c =
     let begin = at-if .before .before .before .before .before in
     joined-empty _ _ _ _ _ (walked-all _ _ _ _ (walked-none _ _ _ (begin .pre .0)) (omega (arith, at-if .if1 .taken))) (c .refused .ensures)
 
-measure-all-requires : tie.Need-measure-all-requires
-measure-all-requires c κs =
-    let at-index = c .before .before in
+keep-front-requires : tie.Need-keep-front-requires
+keep-front-requires c κs =
+    let at-index = c .before .before .before in
     let begin = at-index .before .before .before .before .before .before .before in
     (begin .pre .0, begin .pre .1, at-index .index-book .ensures)
 
-returns-2 : tie.Need-returns-2
-returns-2 c = joined-refused _ _ _ _ _ (c .before .before .measure-all .ensures) (c .if2 .taken)
+sub-left : tie.Need-sub-left
+sub-left c = c .before .before .keep-front .ensures .few
 
-returns-3 : tie.Need-returns-3
-returns-3 c =
-    let at-if = c .before .before in
-    joined-short _ _ _ _ _ (at-if .before .before .measure-all .ensures) (at-if .if2 .left) (c .if3 .taken)
+add-next : tie.Need-add-next
+add-next c =
+    let at-keep = c .before .before .before in
+    let begin = at-keep .before .before .before .before .before .before .before .before .before .before .before in
+    omega (arith, at-keep .keep-front .ensures .few, begin .pre .1)
 
-put-all-requires : tie.Need-put-all-requires
-put-all-requires c κs =
-    let at-room = c .before .before in
-    let at-if = at-room .before .before in
-    let at-measure = at-if .before .before in
-    let at-index = at-measure .before .before .before in
+answer-left-requires : tie.Need-answer-left-requires
+answer-left-requires c κs =
+    let at-keep = c .before .before .before .before .before .before in
+    let at-index = at-keep .before .before .before .before in
     let begin = at-index .before .before .before .before .before .before .before in
-    let known = at-measure .measure-all .ensures in
-    (begin .pre .0, begin .pre .1, at-index .index-book .ensures, none-refused _ _ _ _ (begin .args .out .now) known (at-if .if2 .left), joined-room _ _ _ _ (begin .args .out .now) known (at-if .if2 .left) (at-room .if3 .left))
+    let kept = at-keep .keep-front .ensures in
+    (kept .within, kept .starts, omega (arith, kept .few, begin .pre .1), omega (arith, kept .few, begin .pre .1), at-index .index-book .ensures)
 
-returns-4 : tie.Need-returns-4
-returns-4 c =
-    let at-put = c .before .before in
-    let at-room = at-put .before .before .before in
-    let at-if = at-room .before .before in
-    joined-written _ _ _ _ _ (at-if .before .before .measure-all .ensures) (at-if .if2 .left) (at-room .if3 .left) (at-put .put-all .ensures)
+returns-2 : tie.Need-returns-2
+returns-2 c =
+    let at-answer = c .before .before in
+    let at-keep = at-answer .before .before .before .before .before .before .before in
+    let begin = at-keep .before .before .before .before .before .before .before .before .before .before .before in
+    joined-left _ _ _ _ _ _ _ (begin .args .out .now) (at-keep .keep-front .ensures) refl (at-answer .answer-left .ensures)
 
 pub answer-messages-spec : {M : Type 1} → statement M
 answer-messages-spec =
@@ -52,10 +52,12 @@ answer-messages-spec =
     (λ c. search needs)
     (λ c κs. search needs)
     (λ c. search needs)
-    measure-all-requires
-    returns-2
-    returns-3
     (λ c. search needs)
-    put-all-requires
+    keep-front-requires
+    sub-left
+    add-next
     (λ c. search needs)
-    returns-4)
+    (λ c. search needs)
+    answer-left-requires
+    (λ c. search needs)
+    returns-2)
