@@ -1,10 +1,12 @@
 -- What is known of a message that was admitted, and the ways out of the call, in the words of the code. Assumes nothing.
-use mathlib.Core.Path.{_≡_, sym, ap, _∙_}
-use mathlib.Core.Bool.{true, false}
+use mathlib.Core.Path.{_≡_, refl, sym, ap, _∙_}
+use mathlib.Core.Bool.{Bool, true, false}
 use mathlib.Core.List.{List}
 use Prim.Native.Nat.{ℕ, _+_, _*_, _≤_, _<_}
 use native.Mathlib.Omega.{arith}
-use lib.ListN.{length}
+use native.Mathlib.Decide.{decLe}
+use lib.ListN.{length, take, length-take}
+use lib.Seq.{take-all}
 use borrow.Author.Tests.{eqb-true}
 use Rattle.hl7.specs.Text.{bytes}
 use Rattle.hl7.specs.Place.{delimsOf, isMsh}
@@ -38,6 +40,21 @@ unfolding isStamp
 stamp-length v e =
     let run = and-both _ _ (and-both _ _ (and-both _ _ (and-both _ _ e .0) .0) .0) .0 in
     eqb-true (length v) 19 run
+
+-- 20 bytes are none, so whoever answers all that are none alike answers the first 20 bytes of a stamp, or more, like all of it
+pub stamp-front : {A : Type 0} (answers : List ℕ → A) (none : A) → ((s : List ℕ) → isStamp s ≡ false → answers s ≡ none) → (stamp : List ℕ) (n : ℕ) → 20 ≤ n → answers (take n stamp) ≡ answers stamp
+stamp-front answers none alike stamp n h = by (decLe n (length stamp))
+  where
+    long : (s : List ℕ) → 20 ≤ length s → isStamp s ≡ false
+    long s l = by-test (isStamp s) refl
+      where
+        by-test : (b : Bool) → isStamp s ≡ b → b ≡ false
+        by-test true e = absurd (omega (arith, stamp-length s e))
+        by-test false e = refl
+
+    by : Dec (n ≤ length stamp) → answers (take n stamp) ≡ answers stamp
+    by (yes more) = alike (take n stamp) (long (take n stamp) (omega (arith, length-take n stamp))) ∙ sym (alike stamp (long stamp (omega arith)))
+    by (no short) = ap answers (take-all n stamp (omega arith))
 
 -- ---- what the code asks of itself
 module _ (m b : List ℕ) {s : Section} {h : Header} (is : Admits m b (By s h)) where

@@ -7,8 +7,7 @@ use Prim.Native.Nat.{ℕ, zero, suc, _+_, _*_, _^_, _≤_, _<_}
 use native.Mathlib.Omega.{arith}
 use native.Mathlib.Decide.{decLe, ℕ-discrete}
 use lib.Dec.{eqb, ltb}
-use lib.ListN.{length, getD, take, drop, length-append, length-take, length-drop, take-append-drop}
-use lib.Seq.{take-all}
+use lib.ListN.{length, getD, take, drop, length-append, length-drop, take-append-drop}
 use borrow.Author.Tests.{ltb-false, not-false}
 use Rattle.hl7.specs.Text.{bytes}
 use Rattle.hl7.specs.Place.{carriageReturn, isMsh}
@@ -16,7 +15,7 @@ use Rattle.hl7.specs.Refusals.{Told, told, isSome, firstRow, passes}
 use Rattle.hl7.proofs.Comparing.{begins-long}
 use Rattle.grade.specs.Values.{isStamp}
 use Rattle.ack.specs.Answers.{Outcome, outcome, outcomeBy, ackFor, tenRows}
-use Rattle.ack.proofs.Admitting.{stamp-length}
+use Rattle.ack.proofs.Admitting.{stamp-front}
 use Rattle.ack.proofs.Answering.{ten-passes}
 use Rattle.ack.proofs.Promises.{writtenOf, ack-within}
 use Rattle.batchfile.specs.Messages.{inFront, linesOf, isFrame, nothing, gather, gathered}
@@ -146,14 +145,6 @@ module _ (f book stamp : List ℕ) (control : ℕ) (out : List ℕ) where
       by (no some) = ap length (batch-alters-nothing f book stamp control out some)
 
 -- ---- the stamp
--- it has 19 bytes
-no-stamp : (stamp : List ℕ) → 20 ≤ length stamp → isStamp stamp ≡ false
-no-stamp stamp h = by (isStamp stamp) refl
-  where
-    by : (b : Bool) → isStamp stamp ≡ b → b ≡ false
-    by true e = absurd (omega (arith, stamp-length stamp e))
-    by false e = refl
-
 -- without one every message meets row 10, if none before it
 meets-unstamped : (book stamp m : List ℕ) → isStamp stamp ≡ false → meetsOne book stamp m ≡ true
 meets-unstamped book stamp m e = by (passes (tenRows m book stamp)) refl
@@ -178,10 +169,4 @@ batch-unstamped f book stamp control out e = by (isWrong f control) (messagesIn 
 
 -- so the first 20 bytes of a stamp, or more, are answered like all of it
 pub batch-stamp : (f book stamp : List ℕ) (control : ℕ) (out : List ℕ) (n : ℕ) → 20 ≤ n → batchOf f book (take n stamp) control out ≡ batchOf f book stamp control out
-batch-stamp f book stamp control out n h = by (decLe n (length stamp))
-  where
-    by : Dec (n ≤ length stamp) → batchOf f book (take n stamp) control out ≡ batchOf f book stamp control out
-    by (yes long) =
-        batch-unstamped f book (take n stamp) control out (no-stamp (take n stamp) (omega (arith, length-take n stamp)))
-        ∙ sym (batch-unstamped f book stamp control out (no-stamp stamp (omega arith)))
-    by (no short) = ap (λ (s : List ℕ). batchOf f book s control out) (take-all n stamp (omega arith))
+batch-stamp f book stamp control out = stamp-front (λ (s : List ℕ). batchOf f book s control out) _ (λ s e. batch-unstamped f book s control out e) stamp

@@ -1,12 +1,12 @@
 -- Laws of `specs/Messages.antt`, in the words of the code: where a segment, a message and the messages end, and what is left from there on. Assumes nothing.
-use mathlib.Core.Path.{_≡_, refl, sym, ap, ap₂, subst, _∙_}
+use mathlib.Core.Path.{_≡_, refl, sym, ap, ap₂, _∙_}
 use mathlib.Core.Bool.{Bool, true, false, cond, _||_, true≢false}
 use mathlib.Core.List.{List, [], _∷_, _++_, append-assoc, append-nil}
-use Prim.Native.Nat.{ℕ, zero, suc, _+_, _-_, _≤_, _<_}
+use Prim.Native.Nat.{ℕ, suc, _+_, _-_, _≤_, _<_}
 use native.Mathlib.Omega.{arith}
 use native.Mathlib.Decide.{decLt}
 use lib.Dec.{eqb}
-use lib.ListN.{length, getD, take, drop, length-take, length-drop, length-append, drop-of-length-le}
+use lib.ListN.{length, take, drop, length-take, length-drop, length-append, drop-of-length-le}
 use lib.Seq.{drop-drop, take-add}
 use Rattle.hl7.specs.Text.{bytes}
 use Rattle.hl7.specs.Bytes.{begins}
@@ -19,7 +19,6 @@ use Rattle.hl7.proofs.Comparing.{or-neither}
 use Rattle.batchfile.specs.Messages.{inFront, linesOf, isFrame, Gathered, nothing, gather, gathered, fromFrame}
 use Rattle.batchfile.specs.Frame.{isNone}
 use Rattle.batchfile.specs.Walk.{linesAt, gatheredAt, messagesAt, Onward, LineEnds, MessageEnds, BodyEnds}
-use Rattle.batchfile.specs.declared.frame.Body.{Body}
 
 pub or-true : (a b : Bool) → (a || true || b) ≡ true
 or-true true b = refl
@@ -125,9 +124,6 @@ asked-frame line fhs bhs bts fts = rw (fhs, bhs, bts, fts)
 
 -- ---- what segments hold, the first of them being between at and r
 module _ (f : List ℕ) (at r : ℕ) (l : LineEnds f at r) where
-  pub line-within : at ≤ length f → (at ≤ r) × (r ≤ length f)
-  line-within h = (l .onward .forward, l .onward .within h)
-
   module _ (more : at < length f) where
     lines-here : linesAt f at ≡ between f at r ∷ linesAt f r
     lines-here = lines-some (drop at f) (omega (arith, length-drop at f)) ∙ ap₂ (λ (line : List ℕ) (lines : List (List ℕ)). line ∷ lines) (sym (l .line)) (sym (l .others))
@@ -143,7 +139,7 @@ module _ (f : List ℕ) (at r : ℕ) (l : LineEnds f at r) where
     unfolding gathered
     gathered-line e is = ap gathered lines-here ∙ rw (e, is)
 
-pub gathered-over : (f : List ℕ) (at : ℕ) → length f ≤ at → gatheredAt f at ≡ nothing
+gathered-over : (f : List ℕ) (at : ℕ) → length f ≤ at → gatheredAt f at ≡ nothing
 unfolding gathered
 gathered-over f at h = ap gathered (lines-over f at h)
 

@@ -5,7 +5,7 @@ use mathlib.Core.List.{List, [], _∷_, _++_}
 use Prim.Native.Nat.{ℕ, suc, _+_, _-_, _*_, _^_, _≤_, _<_}
 use native.Mathlib.Omega.{arith}
 use lib.Dec.{ltb}
-use lib.ListN.{length, getD, take, drop, length-take, length-drop, length-append}
+use lib.ListN.{length, getD, drop, length-take, length-drop, length-append}
 use borrow.Author.Tests.{ne-eqb, le-ltb, ltb-false, not-false}
 use Rattle.hl7.specs.Refusals.{Told, told, firstRow, passes}
 use Rattle.hl7.specs.Spans.{between}
@@ -18,7 +18,6 @@ use Rattle.batchfile.specs.Batch.{fileLimit, meetsOne, refusedFrom, acks
 use Rattle.batchfile.specs.Walk.{gatheredAt, messagesAt, MessageEnds}
 use Rattle.batchfile.specs.Sized.{Starts, isRefusal, measuredTold, Measures, MeasuresAll}
 use Rattle.batchfile.specs.declared.batch.Measured.{Measured}
-use Rattle.batchfile.specs.declared.batch.Sizes.{Sizes}
 
 -- ---- one message
 -- row 11 and the ACK both tell the ACK's length
@@ -101,7 +100,7 @@ module _ (book stamp : List ℕ) (n : ℕ) {ms : List (List ℕ)} (m : List ℕ)
   unfolding acksFrom
   acks-more = ap (acksFrom book stamp n) e
 
-pub refused-none : (book stamp : List ℕ) (n : ℕ) {ms : List (List ℕ)} → ms ≡ [] → refusedFrom book stamp n ms ≡ []
+refused-none : (book stamp : List ℕ) (n : ℕ) {ms : List (List ℕ)} → ms ≡ [] → refusedFrom book stamp n ms ≡ []
 unfolding refusedFrom
 refused-none book stamp n e = rw e
 
@@ -133,7 +132,7 @@ module _ (f : List ℕ) (count from k r : ℕ) (w : Walked f count from k) (more
   pub walked-more : Walked f count r (k + 1)
   walked-more = record { within = e .onward .within (w .within); limited = w .limited; started = e .started; left = omega (arith, w .left, ap (λ (ms : List (List ℕ)). length ms) message-here) }
 
-  pub part-long : length (between f from r) ≡ r - from
+  part-long : length (between f from r) ≡ r - from
   part-long = omega (arith, length-take (r - from) (drop from f), length-drop from f, e .onward .forward, e .onward .within (w .within))
 
 -- ---- measuring

@@ -1,6 +1,5 @@
 -- `batchfile::batch::is_right` meets its contract. Assumes nothing.
 use native.Mathlib.Omega.{arith}
-use borrow.Author.Needs.{needs}
 use Rattle.batchfile.proofs.Answering.{right-is}
 use Rattle.batchfile.proofs.batch.is_right.Statement.{statement}
 use Rattle.batchfile.proofs.batch.is_right.Tie as tie

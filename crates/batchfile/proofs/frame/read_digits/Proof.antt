@@ -1,13 +1,7 @@
 -- `batchfile::frame::read_digits` meets its contract. The invariant of its loop: what was read so far, and its value, counted. Assumes nothing.
-use mathlib.Core.Path.{_≡_, refl, sym, ap, _∙_}
-use mathlib.Core.Bool.{_&&_}
-use Prim.Native.Nat.{_-_, min}
-use native.Mathlib.Omega.{arith}
+use Prim.Native.Nat.{_-_}
 use borrow.Author.Needs.{needs}
-use lib.ListN.{length, take, drop}
-use Rattle.hl7.specs.Bytes.{isDigit, all}
-use Rattle.hl7.specs.Counted.{tooLarge}
-use Rattle.hl7.specs.Number.{valueOf}
+use lib.ListN.{length}
 use Rattle.batchfile.proofs.Framing.{Read, read-none, read-more, read-all}
 use Rattle.batchfile.proofs.frame.read_digits.Statement.{statement}
 use Rattle.batchfile.proofs.frame.read_digits.Tie as tie
