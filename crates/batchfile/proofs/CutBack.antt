@@ -1,21 +1,20 @@
--- What a file of the shape of a batch is: the frame names stand once each, in their places; a file put together from a frame and messages is cut back into
--- exactly these; and every file of the shape is put together so. Assumes nothing.
-use mathlib.Core.Path.{_≡_, refl, sym, ap, ap₂, subst, _∙_}
+-- What a file of the shape of a batch is: the frame names stand once each, in their places; and a file put together from a frame and messages is cut back
+-- into exactly these. Assumes nothing.
+use mathlib.Core.Path.{_≡_, refl, sym, ap, ap₂, _∙_}
 use mathlib.Core.Bool.{Bool, true, false, cond, _&&_, _||_, and-true, true≢false}
 use mathlib.Core.List.{List, [], _∷_, _++_, flatten, append-assoc, append-nil}
 use Prim.Native.Nat.{ℕ, zero, suc, _+_, _<_}
 use Prim.Native.Char.{code}
 use native.Mathlib.Omega.{arith}
 use lib.Dec.{eqb}
-use lib.ListN.{length, drop, length-append, List·getD-append}
-use lib.Seq.{getD-append-seam, getD-append-add}
+use lib.ListN.{length, drop, length-append}
 use borrow.Author.Tests.{ne-eqb, eqb-true, not-true}
 use Rattle.hl7.specs.Text.{bytes}
 use Rattle.hl7.specs.Bytes.{all, differs, begins}
 use Rattle.hl7.specs.Cut.{ahead, cut, partAt}
 use Rattle.hl7.specs.Place.{carriageReturn, delimsOf, isMsh}
 use Rattle.hl7.specs.Delimiters.{opens}
-use Rattle.hl7.specs.Refusals.{rowAt, firstRow, passes, wrongBytes, hasForm, wrongSegments, isSound}
+use Rattle.hl7.specs.Refusals.{passes, hasForm, wrongSegments, isSound}
 use Rattle.hl7.specs.declared.place.Delims.{Delims}
 use Rattle.hl7.proofs.Comparing.{none-of, and-both, or-neither, begins-long}
 use Rattle.hl7.proofs.Cutting.{first, cut-some}
@@ -23,10 +22,10 @@ use Rattle.hl7.proofs.Delimiting.{opens-begins}
 use Rattle.hl7.proofs.Refusing.{sound-opens, sound-segments}
 use Rattle.batchfile.specs.Messages.{inFront, linesOf, isFrame, Gathered, nothing, gather, gathered, fromFrame}
 use Rattle.batchfile.specs.Frame.{fhsOf, bhsOf, bodyOf, messagesIn, trailerOf, btsOf, ftsOf, keepsRows, isSegment, isNone, isFramed}
-use Rattle.batchfile.proofs.Gathering.{or-true, lines-some}
+use Rattle.batchfile.proofs.Gathering.{lines-some}
 
 -- ---- segments
-flatten-append : (a b : List (List ℕ)) → flatten (a ++ b) ≡ flatten a ++ flatten b
+pub flatten-append : (a b : List (List ℕ)) → flatten (a ++ b) ≡ flatten a ++ flatten b
 unfolding flatten
 flatten-append [] b = refl
 flatten-append (s ∷ a) b = ap (λ (l : List ℕ). s ++ l) (flatten-append a b) ∙ sym (append-assoc s (flatten a) (flatten b))
@@ -81,7 +80,7 @@ pub record Segment (line : List ℕ) : Type 0 where
   pub closed : isClosed line ≡ true
 
 -- each segment is one
-lines-alone : (s : List ℕ) (i : ℕ) → i < length (linesOf s) → linesOf (partAt (linesOf s) i) ≡ partAt (linesOf s) i ∷ []
+pub lines-alone : (s : List ℕ) (i : ℕ) → i < length (linesOf s) → linesOf (partAt (linesOf s) i) ≡ partAt (linesOf s) i ∷ []
 unfolding linesOf inFront
 lines-alone [] i h = absurd (omega arith)
 lines-alone (x ∷ s) i h = by (eqb x carriageReturn) refl (linesOf s) (lines-alone s) i h
@@ -114,7 +113,7 @@ lines-closed (x ∷ s) i h = by (eqb x carriageReturn) refl (linesOf s) (lines-a
     by false e (line ∷ lines) alone ih zero h = closed-in-front x line (alone 0 (omega arith)) (ih 0 h)
     by false e (line ∷ lines) alone ih (suc i) h = ih (suc i) h
 
-lines-segments : (s : List ℕ) (i : ℕ) → suc i < length (linesOf s) → Segment (partAt (linesOf s) i)
+pub lines-segments : (s : List ℕ) (i : ℕ) → suc i < length (linesOf s) → Segment (partAt (linesOf s) i)
 lines-segments s i h = record { alone = lines-alone s i (omega arith); closed = lines-closed s i h }
 
 -- what keeps row 5 has its last CR: p is what stands before s in its first segment
@@ -144,7 +143,7 @@ right-closed d at p (x ∷ (y ∷ s)) e = by (eqb x carriageReturn) (cut carriag
         ih (at + length (p ++ []) + 1) [] (ap (wrongSegments d (at + length (p ++ []) + 1)) (sym some) ∙ rest)
     by false ps some ih e = ih at (p ++ (x ∷ [])) (ap (λ (l : List ℕ). wrongSegments d at (l ∷ drop 1 ps)) (append-assoc p (x ∷ []) (partAt ps 0)) ∙ e)
 
-rows-closed : (d : Delims) (s : List ℕ) → wrongSegments d 0 (cut carriageReturn s) ≡ [] → isClosed s ≡ true
+pub rows-closed : (d : Delims) (s : List ℕ) → wrongSegments d 0 (cut carriageReturn s) ≡ [] → isClosed s ≡ true
 rows-closed d s e = right-closed d 0 [] s (ap (wrongSegments d 0) (sym (cut-some carriageReturn s)) ∙ e)
 
 -- ---- the frame
@@ -217,17 +216,17 @@ named : (d : Delims) (name line : List ℕ) → isSegment d name line ≡ true �
 named d name line e = and-both (begins name line) (keepsRows d line) e .0
 
 -- what the definition asks, one by one
-record Asked (f : List ℕ) : Type 0 where
-  opened : opens (bytes "FHS") f ≡ true
-  kept : keepsRows (delimsOf f) (fhsOf f) ≡ true
-  second : isSegment (delimsOf f) (bytes "BHS") (bhsOf f) ≡ true
-  started : isNone (bodyOf f .before) ≡ true
-  third : isSegment (delimsOf f) (bytes "BTS") (btsOf f) ≡ true
-  fourth : isSegment (delimsOf f) (bytes "FTS") (ftsOf f) ≡ true
-  over : isNone (drop 2 (trailerOf f)) ≡ true
+pub record Asked (f : List ℕ) : Type 0 where
+  pub opened : opens (bytes "FHS") f ≡ true
+  pub kept : keepsRows (delimsOf f) (fhsOf f) ≡ true
+  pub second : isSegment (delimsOf f) (bytes "BHS") (bhsOf f) ≡ true
+  pub started : isNone (bodyOf f .before) ≡ true
+  pub third : isSegment (delimsOf f) (bytes "BTS") (btsOf f) ≡ true
+  pub fourth : isSegment (delimsOf f) (bytes "FTS") (ftsOf f) ≡ true
+  pub over : isNone (drop 2 (trailerOf f)) ≡ true
 
 module _ (f : List ℕ) (framed : isFramed f ≡ true) where
-  asked : Asked f
+  pub asked : Asked f
   unfolding isFramed
   asked =
       let six = and-both _ _ framed in
@@ -378,114 +377,3 @@ module _ (fhs bhs : List ℕ) (ms : List (List ℕ)) (bts fts : List ℕ) where
         && isSegment (delimsOf fileOf) (bytes "FTS") fts)
     unfolding isFramed
     cut-framed = rw (cut-frame .0, cut-frame .1, cut-frame .2, cut-frame .3, cut-started, cut-over) (simp and-true)
-
--- ---- every file of the shape is put together so
--- segments that have their CRs make up messages that a batch can hold, and what goes on with one
-record GoesOn (s : List ℕ) : Type 0 where
-  closed : isClosed s ≡ true
-  others : (i : ℕ) → isMsh (partAt (linesOf s) i) ≡ false
-  frameless : (i : ℕ) → isFrame (partAt (linesOf s) i) ≡ false
-
-closed-append : (s t : List ℕ) → isClosed s ≡ true → isClosed t ≡ true → isClosed (s ++ t) ≡ true
-unfolding isClosed
-closed-append [] t e g = g
-closed-append (x ∷ []) [] e g = e
-closed-append (x ∷ []) (y ∷ t) e g = g
-closed-append (x ∷ (y ∷ s)) t e g = closed-append (y ∷ s) t e g
-
-goes-none : GoesOn []
-unfolding isClosed linesOf isFrame begins
-goes-none = record { closed = refl; others = λ i. refl; frameless = λ i. refl }
-
-module _ (line s : List ℕ) (is : Segment line) (frameless : isFrame line ≡ false) (goes : GoesOn s) where
-  lines-more : linesOf (line ++ s) ≡ line ∷ linesOf s
-  lines-more = lines-append line s (is .closed) ∙ ap (λ (ls : List (List ℕ)). ls ++ linesOf s) (is .alone)
-
-  none-named : (i : ℕ) → isFrame (partAt (linesOf (line ++ s)) i) ≡ false
-  none-named i = rw lines-more (by i)
-    where
-      by : (i : ℕ) → isFrame (partAt (line ∷ linesOf s) i) ≡ false
-      by zero = frameless
-      by (suc i) = goes .frameless i
-
-  goes-more : isMsh line ≡ false → GoesOn (line ++ s)
-  goes-more e = record { closed = closed-append line s (is .closed) (goes .closed); others = λ i. rw lines-more (by i); frameless = none-named }
-    where
-      by : (i : ℕ) → isMsh (partAt (line ∷ linesOf s) i) ≡ false
-      by zero = e
-      by (suc i) = goes .others i
-
-  sendable-more : isMsh line ≡ true → Sendable (line ++ s)
-  sendable-more e = record { closed = closed-append line s (is .closed) (goes .closed); first = rw lines-more e; others = λ i. rw lines-more (goes .others i); frameless = none-named }
-
-gathered-sendable : (lines : List (List ℕ)) → ((i : ℕ) → i < length (toFrame lines) → Segment (partAt (toFrame lines) i))
-    → GoesOn (gathered lines .before) × ((i : ℕ) → i < length (gathered lines .messages) → Sendable (partAt (gathered lines .messages) i))
-unfolding toFrame gathered gather
-gathered-sendable [] each = (goes-none, λ i h. absurd (omega arith))
-gathered-sendable (line ∷ lines) each = by (isFrame line) (isMsh line) refl refl each (gathered-sendable lines)
-  where
-    by : (frame msh : Bool) → isFrame line ≡ frame → isMsh line ≡ msh → ((i : ℕ) → i < length (cond frame [] (line ∷ toFrame lines)) → Segment (partAt (cond frame [] (line ∷ toFrame lines)) i))
-        → (((i : ℕ) → i < length (toFrame lines) → Segment (partAt (toFrame lines) i)) → GoesOn (gathered lines .before) × ((i : ℕ) → i < length (gathered lines .messages) → Sendable (partAt (gathered lines .messages) i)))
-        → GoesOn (cond frame nothing (gather msh line (gathered lines)) .before)
-        × ((i : ℕ) → i < length (cond frame nothing (gather msh line (gathered lines)) .messages) → Sendable (partAt (cond frame nothing (gather msh line (gathered lines)) .messages) i))
-    by true msh e g each ih = (goes-none, λ i h. absurd (omega arith))
-    by false true e g each ih =
-        let rest = ih (λ i h. each (suc i) (omega arith)) in
-        (goes-none, one (sendable-more line (gathered lines .before) (each 0 (omega arith)) e (rest .0) g) (rest .1))
-      where
-        one : Sendable (line ++ gathered lines .before) → ((i : ℕ) → i < length (gathered lines .messages) → Sendable (partAt (gathered lines .messages) i))
-            → (i : ℕ) → i < length ((line ++ gathered lines .before) ∷ gathered lines .messages) → Sendable (partAt ((line ++ gathered lines .before) ∷ gathered lines .messages) i)
-        one first others zero h = first
-        one first others (suc i) h = others i (omega arith)
-    by false false e g each ih = let rest = ih (λ i h. each (suc i) (omega arith)) in (goes-more line (gathered lines .before) (each 0 (omega arith)) e (rest .0) g, rest .1)
-
-bts-frame : (line : List ℕ) → begins (bytes "BTS") line ≡ true → isFrame line ≡ true
-unfolding isFrame
-bts-frame line e = rw e (or-true (begins (bytes "FHS") line || begins (bytes "BHS") line) (begins (bytes "FTS") line))
-
-kept-segments : (d : Delims) (line : List ℕ) → keepsRows d line ≡ true → wrongSegments d 0 (cut carriageReturn line) ≡ []
-unfolding keepsRows firstRow
-kept-segments d line e = by (wrongBytes 0 line) (wrongSegments d 0 (cut carriageReturn line)) e
-  where
-    by : (bytes segs : List ℕ) → passes (rowAt 3 bytes ∷ rowAt 5 segs ∷ []) ≡ true → segs ≡ []
-    by [] [] e = refl
-    by [] (y ∷ segs) e = absurd (true≢false (sym e))
-    by (x ∷ bytes) segs e = absurd (true≢false (sym e))
-
-module _ (f : List ℕ) (framed : isFramed f ≡ true) where
-  size : length (linesOf f) ≡ 4 + length (innerOf f)
-  size = omega (arith, ap (λ (ls : List (List ℕ)). length ls) (in-places f framed .lines), length-append (innerOf f) (btsOf f ∷ ftsOf f ∷ []))
-
-  -- where the segments behind the first two stand
-  inner-at : (i : ℕ) → partAt (linesOf f) (suc (suc i)) ≡ partAt (innerOf f ++ (btsOf f ∷ ftsOf f ∷ [])) i
-  inner-at i = ap (λ (ls : List (List ℕ)). partAt ls (suc (suc i))) (in-places f framed .lines)
-
-  inner-segments : (i : ℕ) → i < length (innerOf f) → Segment (partAt (innerOf f) i)
-  inner-segments i h = subst Segment (inner-at i ∙ List·getD-append (innerOf f) (btsOf f ∷ ftsOf f ∷ []) [] i h) (lines-segments f (suc (suc i)) (omega (arith, size)))
-
-  -- its own segments and messages are such as a file is put together from
-  pub in-parts : Parts (fhsOf f) (bhsOf f) (messagesIn f) (btsOf f) (ftsOf f)
-  in-parts =
-      let n = length (innerOf f) in
-      let third : partAt (linesOf f) (suc (suc n)) ≡ btsOf f = inner-at n ∙ getD-append-seam (innerOf f) (btsOf f) (ftsOf f ∷ []) [] in
-      let fourth : partAt (linesOf f) (suc (suc (n + 1))) ≡ ftsOf f = inner-at (n + 1) ∙ getD-append-add (innerOf f) (btsOf f ∷ ftsOf f ∷ []) 1 [] in
-      let kept = kept-segments (delimsOf f) (ftsOf f) (and-both (begins (bytes "FTS") (ftsOf f)) (keepsRows (delimsOf f) (ftsOf f)) (asked f framed .fourth) .1) in
-      record {
-        first = lines-segments f 0 (omega (arith, size));
-        second = lines-segments f 1 (omega (arith, size));
-        messages = gathered-sendable (drop 2 (linesOf f)) inner-segments .1;
-        third = subst Segment third (lines-segments f (suc (suc n)) (omega (arith, size)));
-        framing = bts-frame (btsOf f) (in-places f framed .bts);
-        fourth = record {
-          alone = subst (λ (line : List ℕ). linesOf line ≡ line ∷ []) fourth (lines-alone f (suc (suc (n + 1))) (omega (arith, size)));
-          closed = rows-closed (delimsOf f) (ftsOf f) kept;
-        };
-      }
-
-  -- and it is the file put together from them
-  pub in-file : f ≡ fileOf (fhsOf f) (bhsOf f) (messagesIn f) (btsOf f) (ftsOf f)
-  unfolding flatten
-  in-file =
-      sym (lines-joined f)
-      ∙ ap flatten (in-places f framed .lines)
-      ∙ rw (flatten-append (innerOf f) (btsOf f ∷ ftsOf f ∷ []), append-nil (ftsOf f), in-places f framed .messages)

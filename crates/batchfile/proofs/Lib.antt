@@ -5,5 +5,6 @@ pub mod Joining
 pub mod Answering
 pub mod Promises
 pub mod CutBack
+pub mod InFile
 pub mod Bounds
 pub mod Samples
