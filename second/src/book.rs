@@ -123,6 +123,10 @@ impl<'b> Book<'b> {
         read_sections(Bytes { rest: &book[5..] }).map(|sections| Book { sections }).ok_or((7, 0))
     }
 
+    pub fn sections(&self) -> &[Section<'b>] {
+        &self.sections
+    }
+
     /// The section of a key, or refusal 9.
     pub fn section(&self, key: &[u8]) -> Result<Section<'b>, Refusal> {
         self.sections.iter().find(|section| section.key == key).copied().ok_or((9, 0))
@@ -211,8 +215,13 @@ impl<'b> Bytes<'b> {
     /// A key or a code: a length byte 1 to 20 and its bytes.
     fn word(&mut self) -> Option<&'b [u8]> {
         let length = self.byte().filter(|length| (1..=20).contains(length))?;
-        self.take(length.into()).filter(|word| word.iter().all(|b| WORD_BYTES[usize::from(*b)]))
+        self.take(length.into()).filter(|word| word.iter().all(|b| is_word_byte(*b)))
     }
+}
+
+/// Whether keys and codes may hold the byte.
+pub fn is_word_byte(b: u8) -> bool {
+    WORD_BYTES[usize::from(b)]
 }
 
 /// 0x21 to 0x7E without bar, caret, tilde, backslash and ampersand.

@@ -31,23 +31,31 @@ pub fn rule(name: &str, field: u8, component: u8, kind: u8, severity: u8, uses: 
 }
 
 pub fn encode(sections: &[SectionPlan]) -> Vec<u8> {
-    let mut book = b"VXB\0\x01".to_vec();
-    book.push(sections.len() as u8);
+    let mut book = head(sections.len());
     for section in sections {
-        book.push(section.key.len() as u8);
-        book.extend(&section.key);
-        book.extend((section.rules.len() as u16).to_be_bytes());
-        book.push(section.sets.len() as u8);
-        book.extend(section.rules.iter().flatten());
-        for set in &section.sets {
-            book.extend((set.len() as u16).to_be_bytes());
-            for code in set {
-                book.push(code.len() as u8);
-                book.extend(code);
-            }
-        }
+        encode_section(section, &mut book);
     }
     book
+}
+
+/// What a book of so many sections begins with.
+pub fn head(sections: usize) -> Vec<u8> {
+    [b"VXB\0\x01".as_slice(), &[sections as u8]].concat()
+}
+
+pub fn encode_section(section: &SectionPlan, book: &mut Vec<u8>) {
+    book.push(section.key.len() as u8);
+    book.extend(&section.key);
+    book.extend((section.rules.len() as u16).to_be_bytes());
+    book.push(section.sets.len() as u8);
+    book.extend(section.rules.iter().flatten());
+    for set in &section.sets {
+        book.extend((set.len() as u16).to_be_bytes());
+        for code in set {
+            book.push(code.len() as u8);
+            book.extend(code);
+        }
+    }
 }
 
 /// A section of exactly so many bytes (from 50 to some 65,000) that holds codes nobody asks for.

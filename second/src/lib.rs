@@ -1,10 +1,12 @@
 //! A second, independent program of 01 and of A1 and A4 in 02: reads a VXU message, grades it by a section
-//! of a rule book and answers with an ACK, or with the ACKs of a batch file's messages.
+//! of a rule book and answers with an ACK, or with the ACKs of a batch file's messages. It also compiles
+//! rule books from text and shows them as text.
 
 pub mod ack;
 pub mod batch;
 pub mod book;
 pub mod books;
+pub mod booktext;
 pub mod cases;
 pub mod cutting;
 pub mod findings;
