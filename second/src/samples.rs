@@ -3,6 +3,7 @@
 
 pub mod batches;
 mod delimiters;
+pub mod sources;
 
 use crate::book::BOOK_LIMIT;
 use crate::books::{self, rule, RuleBytes, SectionPlan};

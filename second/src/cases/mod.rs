@@ -10,6 +10,7 @@ mod near;
 mod places;
 mod plans;
 mod random;
+mod sources;
 
 pub use batches::{BatchCase, BatchGenerator, PAIRS as BATCH_PAIRS, ROWS};
 pub use delimiters::{exchange, Five, ALLOWED};
@@ -17,6 +18,7 @@ pub use delimiters::{exchange, Five, ALLOWED};
 pub(crate) use faults::FAULTY_RULES;
 pub use places::place;
 pub use random::Random;
+pub use sources::{BookCall, BookCase};
 
 use crate::books::{self, SectionPlan};
 use crate::{line, samples};
