@@ -18,7 +18,7 @@ pub use delimiters::{exchange, Five, ALLOWED};
 pub(crate) use faults::FAULTY_RULES;
 pub use places::place;
 pub use random::Random;
-pub use sources::{BookCall, BookCase};
+pub use sources::{number_of, BookCall, BookCase, BookGenerator, BOOK_ROWS, NO_SECTION};
 
 use crate::books::{self, SectionPlan};
 use crate::{line, samples};
