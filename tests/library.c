@@ -1,6 +1,6 @@
 /* The library as a program, for machines whose own programs cannot be linked with it. Takes packed cases (second/README.md
  * says how they look) from standard input until it ends. Gives for each the answer and the whole lent output, for a message
- * also the check and the place; numbers have eight bytes, the high byte first. */
+ * also the check and the place; numbers have eight bytes, the high byte first. A case is a message, a batch, a text or a book. */
 #include "../include/jasminedo.h"
 
 #include <stdio.h>
@@ -51,30 +51,38 @@ static void write_number(uint64_t number) {
         putchar((int)(number >> shift & 255));
 }
 
-/* What stands in the output before the answer: no ACK has these bytes. The comparison fills alike. */
+/* What stands in the output before the answer: no ACK and no text has these bytes. The comparison fills alike. */
 static uint8_t filled(size_t at) { return (uint8_t)(128 + at % 127); }
 
-/* What a case begins with. */
-enum { MESSAGE = 1, BATCH = 2 };
-
-static void run_case(void) {
-    uint32_t kind = read_number();
-    if (kind != MESSAGE && kind != BATCH)
-        fail("a case is neither a message nor a batch");
-    struct bytes given = read_bytes(), book = read_bytes(), stamp = read_bytes();
-    uint32_t control = read_number();
-    size_t length = read_number();
+/* The lent output before the answer, and the guard after it. */
+static uint8_t *lent(size_t length) {
     uint8_t *output = room(length + GUARD);
     for (size_t at = 0; at < length + GUARD; at++)
         output[at] = filled(at);
+    return output;
+}
 
-    uint64_t (*call)(const uint8_t *, size_t, const uint8_t *, size_t, const uint8_t *, size_t, uint32_t, uint8_t *, size_t) =
-        kind == MESSAGE ? jasminedo_answer : jasminedo_batch;
-    write_number(call(given.start, given.length, book.start, book.length, stamp.start, stamp.length, control, output, length));
+static void write_output(const uint8_t *output, size_t length) {
     for (size_t at = length; at < length + GUARD; at++)
         if (output[at] != filled(at))
             fail("a byte after the output was changed");
     fwrite(output, 1, length, stdout);
+}
+
+/* What a case begins with. */
+enum { MESSAGE = 1, BATCH = 2, COMPILE = 3, SHOW = 4, LEGEND = 5 };
+
+/* A message or a batch. */
+static void run_answer(uint32_t kind) {
+    struct bytes given = read_bytes(), book = read_bytes(), stamp = read_bytes();
+    uint32_t control = read_number();
+    size_t length = read_number();
+    uint8_t *output = lent(length);
+
+    uint64_t (*call)(const uint8_t *, size_t, const uint8_t *, size_t, const uint8_t *, size_t, uint32_t, uint8_t *, size_t) =
+        kind == MESSAGE ? jasminedo_answer : jasminedo_batch;
+    write_number(call(given.start, given.length, book.start, book.length, stamp.start, stamp.length, control, output, length));
+    write_output(output, length);
     if (kind == MESSAGE) {
         size_t segment = read_number(), field = read_number(), repetition = read_number(), component = read_number();
         write_number(jasminedo_check(given.start, given.length));
@@ -85,6 +93,31 @@ static void run_case(void) {
     free(book.start);
     free(stamp.start);
     free(output);
+}
+
+/* A text or a book that is to become the other, or a legend. */
+static void run_book(uint32_t kind) {
+    struct bytes given = read_bytes();
+    size_t length = read_number();
+    uint8_t *output = lent(length);
+
+    uint64_t (*call)(const uint8_t *, size_t, uint8_t *, size_t) =
+        kind == COMPILE ? jasminedo_compile : kind == SHOW ? jasminedo_show : jasminedo_legend;
+    write_number(call(given.start, given.length, output, length));
+    write_output(output, length);
+
+    free(given.start);
+    free(output);
+}
+
+static void run_case(void) {
+    uint32_t kind = read_number();
+    if (kind == MESSAGE || kind == BATCH)
+        run_answer(kind);
+    else if (kind == COMPILE || kind == SHOW || kind == LEGEND)
+        run_book(kind);
+    else
+        fail("a case begins with another number");
 }
 
 int main(void) {

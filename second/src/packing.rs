@@ -1,24 +1,38 @@
 //! Packed cases: numbers of four bytes with the high byte first, one case after the other. And the
 //! single numbers in which the library answers.
 
-use crate::cases::{AnyCase, BatchCase, Case};
+use crate::booktext::Told;
+use crate::cases::{AnyCase, BatchCase, BookCall, BookCase, Case};
 
 /// What a case begins with.
 const MESSAGE: u32 = 1;
 const BATCH: u32 = 2;
+const COMPILE: u32 = 3;
+const SHOW: u32 = 4;
+const LEGEND: u32 = 5;
 
 fn pack(case: &AnyCase, packed: &mut Vec<u8>) {
     match case {
         AnyCase::Message(Case { message, book, stamp, control, output_length, place }) => {
             pack_numbers(&[MESSAGE], packed);
-            pack_bytes([message, book, stamp], packed);
+            pack_bytes(&[message, book, stamp], packed);
             pack_numbers(&[*control, *output_length as u32], packed);
             pack_numbers(place, packed);
         }
         AnyCase::Batch(BatchCase { file, book, stamp, control, output_length }) => {
             pack_numbers(&[BATCH], packed);
-            pack_bytes([file, book, stamp], packed);
+            pack_bytes(&[file, book, stamp], packed);
             pack_numbers(&[*control, *output_length as u32], packed);
+        }
+        AnyCase::Book(BookCase { call, given, output_length }) => {
+            let kind = match call {
+                BookCall::Compile => COMPILE,
+                BookCall::Show => SHOW,
+                BookCall::Legend => LEGEND,
+            };
+            pack_numbers(&[kind], packed);
+            pack_bytes(&[given], packed);
+            pack_numbers(&[*output_length as u32], packed);
         }
     }
 }
@@ -27,10 +41,10 @@ fn pack_numbers(numbers: &[u32], packed: &mut Vec<u8>) {
     packed.extend(numbers.iter().flat_map(|number| number.to_be_bytes()));
 }
 
-fn pack_bytes(all: [&Vec<u8>; 3], packed: &mut Vec<u8>) {
+fn pack_bytes(all: &[&Vec<u8>], packed: &mut Vec<u8>) {
     for bytes in all {
         pack_numbers(&[bytes.len() as u32], packed);
-        packed.extend(bytes);
+        packed.extend(bytes.iter());
     }
 }
 
@@ -46,20 +60,35 @@ pub fn pack_all(cases: &[AnyCase]) -> Vec<u8> {
 pub fn unpack(mut packed: &[u8]) -> Option<Vec<AnyCase>> {
     let mut cases = Vec::new();
     while !packed.is_empty() {
-        let kind = take_number(&mut packed)?;
-        let [bytes, book, stamp] = [take_bytes(&mut packed)?, take_bytes(&mut packed)?, take_bytes(&mut packed)?];
-        let [control, output_length] = take_numbers(&mut packed)?;
-        let output_length = output_length as usize;
-        cases.push(match kind {
-            MESSAGE => {
-                let place = take_numbers(&mut packed)?;
-                AnyCase::Message(Case { message: bytes, book, stamp, control, output_length, place })
-            }
-            BATCH => AnyCase::Batch(BatchCase { file: bytes, book, stamp, control, output_length }),
+        cases.push(match take_number(&mut packed)? {
+            MESSAGE => AnyCase::Message(take_message(&mut packed)?),
+            BATCH => AnyCase::Batch(take_batch(&mut packed)?),
+            COMPILE => AnyCase::Book(take_book(&mut packed, BookCall::Compile)?),
+            SHOW => AnyCase::Book(take_book(&mut packed, BookCall::Show)?),
+            LEGEND => AnyCase::Book(take_book(&mut packed, BookCall::Legend)?),
             _ => return None,
         });
     }
     Some(cases)
+}
+
+/// What a message has up to its place, a batch has as a whole.
+fn take_batch(packed: &mut &[u8]) -> Option<BatchCase> {
+    let [file, book, stamp] = [take_bytes(packed)?, take_bytes(packed)?, take_bytes(packed)?];
+    let [control, output_length] = take_numbers(packed)?;
+    Some(BatchCase { file, book, stamp, control, output_length: output_length as usize })
+}
+
+fn take_message(packed: &mut &[u8]) -> Option<Case> {
+    let BatchCase { file, book, stamp, control, output_length } = take_batch(packed)?;
+    let place = take_numbers(packed)?;
+    Some(Case { message: file, book, stamp, control, output_length, place })
+}
+
+fn take_book(packed: &mut &[u8], call: BookCall) -> Option<BookCase> {
+    let given = take_bytes(packed)?;
+    let output_length = take_number(packed)? as usize;
+    Some(BookCase { call, given, output_length })
 }
 
 fn take_numbers<const N: usize>(packed: &mut &[u8]) -> Option<[u32; N]> {
@@ -88,6 +117,11 @@ pub fn number_and_detail(result: u64) -> (u8, u64) {
     ((result % 256) as u8, result / 256)
 }
 
+/// An answer about books as text.
+pub fn told(result: u64) -> Told {
+    Told { number: (result % 256) as u8, detail: result / 256 % (1 << 32), section: result >> 40 }
+}
+
 /// A place.
 pub fn start_and_length(result: u64) -> (usize, usize) {
     ((result / 65_536) as usize, (result % 65_536) as usize)
@@ -114,6 +148,13 @@ mod tests {
             control: 1,
             output_length: 0x0102_0304,
         });
+        let calls = [BookCall::Compile, BookCall::Show, BookCall::Legend];
+        let books = calls.map(|call| AnyCase::Book(BookCase { call, given: b"book".to_vec(), output_length: 258 }));
+        let packed = pack_all(&books);
+        assert_eq!(packed[..16], [0, 0, 0, 3, 0, 0, 0, 4, b'b', b'o', b'o', b'k', 0, 0, 1, 2]);
+        assert_eq!((packed[19], packed[35]), (4, 5));
+        assert_eq!(unpack(&packed), Some(books.to_vec()));
+        assert_eq!(unpack(&packed[..47]), None);
         let mut packed = pack_all(&[batch.clone(), case.clone(), case.clone()]);
         assert_eq!(packed[..12], [0, 0, 0, 2, 0, 0, 0, 4, b'F', b'H', b'S', b'\r']);
         assert_eq!(packed[26..41], [1, 1, 2, 3, 4, 0, 0, 0, 1, 0, 0, 0, 3, b'M', b'S']);
@@ -122,7 +163,13 @@ mod tests {
         packed.pop();
         assert_eq!(unpack(&packed), None);
         let mut other = pack_all(&[batch]);
-        other[3] = 3;
+        other[3] = 6;
         assert_eq!(unpack(&other), None);
+    }
+
+    #[test]
+    fn answers_have_three_parts() {
+        let result = 56 + 256 * 0xFFEE_DDCC + (1 << 40) * 1_048_577;
+        assert_eq!(told(result), Told { number: 56, detail: 0xFFEE_DDCC, section: 1_048_577 });
     }
 }

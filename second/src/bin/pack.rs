@@ -1,9 +1,9 @@
 //! Writes cases for the main code's own runner, and the text that it has to print for them.
 
 use second::book::BOOK_LIMIT;
-use second::cases::{AnyCase, BatchCase, Case};
+use second::cases::{number_of, AnyCase, BatchCase, BookCall, BookCase, BookGenerator, Case, Pair, BOOK_ROWS};
 use second::cutting::MESSAGE_LIMIT;
-use second::samples::{self, batches, case, PLACES, STAMP};
+use second::samples::{self, batches, case, sources, PLACES, STAMP};
 use second::{books, limits, packing};
 use std::process::ExitCode;
 use std::{env, fs};
@@ -12,6 +12,8 @@ use std::{env, fs};
 const ROOM: [usize; 4] = [MESSAGE_LIMIT + 1, BOOK_LIMIT + 1, 1_024, 131_072];
 /// The same for a batch, with the bytes of its file.
 const BATCH_ROOM: [usize; 4] = [131_072, BOOK_LIMIT + 1, 1_024, 131_072];
+/// The same for a text or a book that is to become the other.
+const BOOK_ROOM: [usize; 4] = [131_072, 0, 0, 131_072];
 
 fn main() -> ExitCode {
     second::ending("pack", run())
@@ -24,6 +26,7 @@ fn run() -> Result<(), String> {
     };
     let mut cases: Vec<AnyCase> = message_cases()?.into_iter().map(AnyCase::Message).collect();
     cases.extend(batch_cases()?.into_iter().map(AnyCase::Batch));
+    cases.extend(book_cases()?.into_iter().map(AnyCase::Book));
     let mut text = Vec::new();
     for (number, case) in (1..).zip(&cases) {
         let (lengths, room) = match case {
@@ -36,6 +39,10 @@ fn run() -> Result<(), String> {
             AnyCase::Batch(case) => {
                 text.extend(case.printed());
                 ([case.file.len(), case.book.len(), case.stamp.len(), case.output_length], BATCH_ROOM)
+            }
+            AnyCase::Book(case) => {
+                text.extend(case.printed());
+                ([case.given.len(), 0, 0, case.output_length], BOOK_ROOM)
             }
         };
         if lengths.iter().zip(room).any(|(length, room)| *length > room) {
@@ -136,4 +143,84 @@ fn long_cases() -> Vec<Case> {
         cases.push(Case { output_length, ..case(message.clone(), book.clone()) });
     }
     cases
+}
+
+/// Longer texts and books are few, so that the pack stays small.
+const LONG: usize = 16_000;
+
+/// The samples, but not many for one refusal, then what is generated for two rows that stand side by side, and for
+/// numbers that no other case has.
+fn book_cases() -> Result<Vec<BookCase>, String> {
+    let mut chosen = Chosen::default();
+    for sample in sources::samples() {
+        expect(&sample.name, sample.case.printed() == sample.expected)?;
+        chosen.add(sample.case);
+    }
+    let generator = BookGenerator::new(1);
+    let generated: Vec<_> = (0..generator.firsts()).map(|index| generator.case(index)).collect();
+    for (case, pair) in &generated {
+        let beside = |pair: Pair| BOOK_ROWS.windows(2).any(|rows| (rows[0], rows[1]) == pair);
+        if pair.is_some_and(beside) && case.given.len() < LONG {
+            chosen.push(case.clone());
+        }
+    }
+    for (case, _) in generated {
+        if !chosen.told.contains(&told(&case)) {
+            chosen.add(case);
+        }
+    }
+    chosen.expect_each_number()?;
+    Ok(chosen.cases)
+}
+
+#[derive(Default)]
+struct Chosen {
+    cases: Vec<BookCase>,
+    /// Of each case.
+    told: Vec<(BookCall, u8)>,
+}
+
+impl Chosen {
+    fn push(&mut self, case: BookCase) {
+        self.told.push(told(&case));
+        self.cases.push(case);
+    }
+
+    fn add(&mut self, case: BookCase) {
+        let told = told(&case);
+        let is_long = case.given.len() > LONG;
+        let alike = self
+            .cases
+            .iter()
+            .zip(&self.told)
+            .filter(|(other, others)| **others == told && (other.given.len() > LONG) == is_long);
+        let most = match told {
+            _ if is_long => 1,
+            (_, 0) => usize::MAX,
+            (BookCall::Compile, _) => 5,
+            (BookCall::Show, _) => 9,
+            (BookCall::Legend, _) => 2,
+        };
+        let fits = case.given.len() <= BOOK_ROOM[0] && case.output_length <= BOOK_ROOM[3];
+        if fits && alike.count() < most {
+            self.push(case);
+        }
+    }
+
+    /// Each number but 31, for which a runner has no room.
+    fn expect_each_number(&self) -> Result<(), String> {
+        let rows: Vec<u8> = [0].into_iter().chain(BOOK_ROWS.map(number_of)).filter(|row| *row != 31).collect();
+        let shown = vec![0, 7, 8, 55];
+        for (call, numbers) in [(BookCall::Compile, &rows), (BookCall::Show, &shown), (BookCall::Legend, &rows)] {
+            if let Some(number) = numbers.iter().find(|number| !self.told.contains(&(call, **number))) {
+                return Err(format!("no packed case has {call:?} {number}"));
+            }
+        }
+        Ok(())
+    }
+}
+
+/// What is asked for and the number that is told.
+fn told(case: &BookCase) -> (BookCall, u8) {
+    (case.call, case.answer(&mut vec![0; case.output_length]).number)
 }

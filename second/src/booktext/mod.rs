@@ -36,6 +36,13 @@ impl Told {
     }
 }
 
+/// What else is answered has a number and a detail alone.
+impl From<(u8, u64)> for Told {
+    fn from((number, detail): (u8, u64)) -> Self {
+        Told { number, detail, section: 0 }
+    }
+}
+
 /// A compiled source with what is counted in it.
 pub struct Compiled {
     pub book: Vec<u8>,
@@ -69,8 +76,7 @@ pub fn compiled(text: &[u8]) -> Result<Compiled, Told> {
 }
 
 pub fn shown(book: &[u8]) -> Result<Vec<u8>, Told> {
-    let book = Book::read(book).map_err(|(number, detail)| Told { number, detail, section: 0 })?;
-    Ok(show::text(&book))
+    Ok(show::text(&Book::read(book)?))
 }
 
 pub fn legend_of(text: &[u8]) -> Result<Vec<u8>, Told> {

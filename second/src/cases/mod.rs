@@ -21,6 +21,7 @@ pub use random::Random;
 pub use sources::{number_of, BookCall, BookCase, BookGenerator, BOOK_ROWS, NO_SECTION};
 
 use crate::books::{self, SectionPlan};
+use crate::booktext::Told;
 use crate::{line, samples};
 
 /// What one answer takes, and a place to locate in the message; the output is lent as so many bytes.
@@ -62,11 +63,12 @@ fn length_needed((number, detail): (u8, u64)) -> Option<u64> {
     (number == 11).then_some(detail)
 }
 
-/// What is asked of the main code: an answer to one message, or to a batch.
+/// What is asked of the main code: an answer to one message or to a batch, or a book or text to be made of the other.
 #[derive(Clone, Debug, PartialEq, Eq)]
 pub enum AnyCase {
     Message(Case),
     Batch(BatchCase),
+    Book(BookCase),
 }
 
 impl AnyCase {
@@ -74,14 +76,16 @@ impl AnyCase {
         match self {
             AnyCase::Message(case) => case.output_length,
             AnyCase::Batch(case) => case.output_length,
+            AnyCase::Book(case) => case.output_length,
         }
     }
 
-    /// The second program's number and detail.
-    pub fn answer(&self, out: &mut [u8]) -> (u8, u64) {
+    /// What the second program tells; of messages and batches there is no section.
+    pub fn answer(&self, out: &mut [u8]) -> Told {
         match self {
-            AnyCase::Message(case) => case.answer(out),
-            AnyCase::Batch(case) => case.answer(out),
+            AnyCase::Message(case) => case.answer(out).into(),
+            AnyCase::Batch(case) => case.answer(out).into(),
+            AnyCase::Book(case) => case.answer(out),
         }
     }
 }
@@ -89,25 +93,35 @@ impl AnyCase {
 /// Two refusals, the earlier one first, whose conditions are both to be true.
 pub type Pair = (u8, u8);
 
-/// Messages and batches by one index: the first ones of both, then four messages and a batch in turn.
+/// Messages, batches and books by one index: the first ones of each, then four messages, a batch and a book in turn.
 pub struct AllCases {
     messages: Generator,
     batches: BatchGenerator,
+    books: BookGenerator,
 }
 
 impl AllCases {
     pub fn new(seed: u64) -> Self {
-        AllCases { messages: Generator::new(seed), batches: BatchGenerator::new(seed) }
+        AllCases { messages: Generator::new(seed), batches: BatchGenerator::new(seed), books: BookGenerator::new(seed) }
+    }
+
+    /// How many come before the random ones.
+    pub fn firsts(&self) -> u64 {
+        self.messages.firsts() + self.batches.firsts() + self.books.firsts()
     }
 
     /// The case of an index and the pair that it aims at.
     pub fn case(&self, index: u64) -> (AnyCase, Option<Pair>) {
-        let (messages, batches) = (self.messages.firsts(), self.batches.firsts());
-        match index.checked_sub(messages + batches) {
+        let (messages, batches, books) = (self.messages.firsts(), self.batches.firsts(), self.books.firsts());
+        match index.checked_sub(self.firsts()) {
             None if index < messages => self.message(index),
-            None => self.batch(index - messages),
-            Some(later) if later % 5 == 4 => self.batch(batches + later / 5),
-            Some(later) => self.message(messages + later / 5 * 4 + later % 5),
+            None if index < messages + batches => self.batch(index - messages),
+            None => self.book(index - messages - batches),
+            Some(later) => match later % 6 {
+                4 => self.batch(batches + later / 6),
+                5 => self.book(books + later / 6),
+                at => self.message(messages + later / 6 * 4 + at),
+            },
         }
     }
 
@@ -119,6 +133,11 @@ impl AllCases {
     fn batch(&self, index: u64) -> (AnyCase, Option<Pair>) {
         let (case, pair) = self.batches.case(index);
         (AnyCase::Batch(case), pair)
+    }
+
+    fn book(&self, index: u64) -> (AnyCase, Option<Pair>) {
+        let (case, pair) = self.books.case(index);
+        (AnyCase::Book(case), pair)
     }
 }
 
@@ -407,10 +426,10 @@ mod tests {
     }
 
     #[test]
-    fn all_cases_hold_those_of_both_generators_once() {
+    fn all_cases_hold_those_of_each_generator_once() {
         let all = AllCases::new(3);
-        let (mut messages, mut batches) = (0, 0);
-        for index in 0..all.messages.firsts() + all.batches.firsts() + 500 {
+        let (mut messages, mut batches, mut books) = (0, 0, 0);
+        for index in 0..all.firsts() + 600 {
             let (case, _) = all.case(index);
             match &case {
                 AnyCase::Message(case) => {
@@ -421,9 +440,14 @@ mod tests {
                     assert!(*case == all.batches.case(batches).0, "{index}");
                     batches += 1;
                 }
+                AnyCase::Book(case) => {
+                    assert!(*case == all.books.case(books).0, "{index}");
+                    books += 1;
+                }
             }
         }
-        assert_eq!((messages - all.messages.firsts(), batches - all.batches.firsts()), (400, 100));
+        let firsts = [all.messages.firsts(), all.batches.firsts(), all.books.firsts()];
+        assert_eq!([messages - firsts[0], batches - firsts[1], books - firsts[2]], [400, 100, 100]);
     }
 
     #[test]

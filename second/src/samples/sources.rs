@@ -751,13 +751,9 @@ fn borders() -> Vec<BookSample> {
             one_set,
         ),
         book(
-            "10,000 sets and commons",
+            "1,000 sets and commons",
             {
-                format!(
-                    "book 1\n{}{}set s x\nsection A\nsets s\n",
-                    numbered("set n#", 5_000),
-                    numbered("common n#", 5_000)
-                )
+                format!("book 1\n{}{}set s x\nsection A\nsets s\n", numbered("set n#", 500), numbered("common n#", 500))
             },
             one_set,
         ),

@@ -1,8 +1,10 @@
 //! What the cases hit: refusals and their pairs, findings, combinations of header findings and of severities, what other
-//! delimiters bring, and what batches do.
+//! delimiters bring, what batches do, and what books as text do.
 
 use crate::batches::Batches;
+use crate::books::Books;
 use second::book::{Book, Kind, Rule};
+use second::booktext::Told;
 use second::cases::{AnyCase, Case, Pair};
 use second::cutting::{self, Message, Refusal};
 use second::findings::{self, Finding, Place};
@@ -38,14 +40,17 @@ pub struct Coverage {
     later_header: u64,
     caret_in_key: u64,
     batches: Batches,
+    books: Books,
 }
 
 impl Coverage {
     /// Counts a case once for everything that it hits.
-    pub fn count(&mut self, case: &AnyCase, pair: Option<Pair>, answer: (u8, u64)) {
+    pub fn count(&mut self, case: &AnyCase, pair: Option<Pair>, told: Told) {
+        let answer = (told.number, told.detail);
         match case {
             AnyCase::Message(case) => self.count_message(case, pair, answer),
             AnyCase::Batch(case) => self.batches.count(case, pair, answer),
+            AnyCase::Book(case) => self.books.count(case, pair, told),
         }
     }
 
@@ -94,6 +99,7 @@ impl Coverage {
         rows.extend(self.combination_rows());
         rows.extend(self.delimiter_rows());
         rows.extend(self.batches.rows());
+        rows.extend(self.books.rows());
         for (label, count) in &rows {
             println!("{label}: {count}");
         }

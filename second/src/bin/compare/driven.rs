@@ -2,7 +2,7 @@
 
 use crate::library::{Library, Made};
 use second::cases::AnyCase;
-use second::packing::{self, number_and_detail, start_and_length};
+use second::packing::{self, number_and_detail, start_and_length, told};
 use std::io::{self, BufReader, Read, Write};
 use std::process::{ChildStdin, ChildStdout, Command, Stdio};
 use std::thread;
@@ -34,7 +34,11 @@ impl Library for Driven {
 }
 
 fn read(from: &mut impl Read, case: &AnyCase) -> io::Result<Made> {
-    let answer = number_and_detail(number(from)?);
+    let answer = number(from)?;
+    let answer = match case {
+        AnyCase::Book(_) => told(answer),
+        _ => number_and_detail(answer).into(),
+    };
     let mut output = vec![0; case.output_length()];
     from.read_exact(&mut output)?;
     let mut made = Made { answer, output, check: None, places: Vec::new() };

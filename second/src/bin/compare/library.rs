@@ -2,6 +2,7 @@
 //! and locate.
 
 use crate::coverage::Coverage;
+use second::booktext::Told;
 use second::cases::{AllCases, AnyCase, Pair};
 use second::packing;
 use std::fmt::Debug;
@@ -14,15 +15,13 @@ const AT_ONCE: usize = 64;
 /// After so many differing cases nothing new is learned.
 const ENOUGH: usize = 10;
 
-pub type Answer = (u8, u64);
-
 /// What the main code made of a case.
 pub struct Made {
-    pub answer: Answer,
+    pub answer: Told,
     /// The lent output, and what stands after it where that can be seen.
     pub output: Vec<u8>,
     /// Of a message alone.
-    pub check: Option<Answer>,
+    pub check: Option<(u8, u64)>,
     /// Places of a message with their start and length.
     pub places: Vec<([usize; 4], (usize, usize))>,
 }
@@ -100,7 +99,7 @@ impl Run {
 }
 
 /// The second program's answer, and the first difference if there is one.
-fn compare_one(case: &AnyCase, made: &Made) -> (Answer, Result<(), String>) {
+fn compare_one(case: &AnyCase, made: &Made) -> (Told, Result<(), String>) {
     let mut output = filled(made.output.len());
     let answer = case.answer(&mut output[..case.output_length()]);
     let compared = same("answer", made.answer, answer)
@@ -118,7 +117,7 @@ fn same_reading(case: &AnyCase, made: &Made) -> Result<(), String> {
                 same(&format!("locate {place:?}"), *found, second::locate(&case.message, *place))
             })
         }
-        AnyCase::Batch(_) => Ok(()),
+        AnyCase::Batch(_) | AnyCase::Book(_) => Ok(()),
     }
 }
 
@@ -137,7 +136,7 @@ fn same_output(ours: &[u8], second: &[u8]) -> Result<(), String> {
     }
 }
 
-/// An output before the answer: bytes that no ACK has, each unlike the next. `tests/library.c` fills alike.
+/// An output before the answer: bytes that no ACK and no text has, each unlike the next. `tests/library.c` fills alike.
 pub fn filled(length: usize) -> Vec<u8> {
     (0..length).map(|at| 128 + (at % 127) as u8).collect()
 }

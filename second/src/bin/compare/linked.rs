@@ -2,7 +2,7 @@
 
 use crate::library::{filled, Library, Made};
 use crate::ours;
-use second::cases::{self, AnyCase, BatchCase, Case, Random};
+use second::cases::{self, AnyCase, BatchCase, BookCase, Case, Random};
 
 /// Bytes after the output that nobody may write.
 const GUARD: usize = 64;
@@ -22,12 +22,16 @@ fn make(case: &AnyCase) -> Made {
     match case {
         AnyCase::Message(case) => {
             let Case { message, book, stamp, control, .. } = case;
-            let answer = ours::answer(message, book, stamp, *control, lent);
+            let answer = ours::answer(message, book, stamp, *control, lent).into();
             let places = places(case).into_iter().map(|place| (place, ours::locate(message, place)));
             Made { answer, check: Some(ours::check(message)), places: places.collect(), output }
         }
         AnyCase::Batch(BatchCase { file, book, stamp, control, .. }) => {
-            let answer = ours::batch(file, book, stamp, *control, lent);
+            let answer = ours::batch(file, book, stamp, *control, lent).into();
+            Made { answer, check: None, places: Vec::new(), output }
+        }
+        AnyCase::Book(BookCase { call, given, .. }) => {
+            let answer = ours::told(*call, given, lent);
             Made { answer, check: None, places: Vec::new(), output }
         }
     }

@@ -1,6 +1,7 @@
 //! Compares the main code with the second program, through its static library or as a program.
 
 mod batches;
+mod books;
 mod coverage;
 mod driven;
 mod library;
