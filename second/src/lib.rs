@@ -5,6 +5,7 @@
 pub mod ack;
 pub mod batch;
 pub mod book;
+pub mod bookprogram;
 pub mod books;
 pub mod booktext;
 pub mod cases;

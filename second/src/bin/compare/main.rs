@@ -1,6 +1,7 @@
 //! Compares the main code with the second program, through its static library or as a program.
 
 mod batches;
+mod bookprogram;
 mod books;
 mod coverage;
 mod driven;
@@ -21,7 +22,7 @@ use std::process::{Command, ExitCode};
 use std::time::Duration;
 
 const USAGE: &str = "usage: compare [--seconds N] [--cases N] [--seed S] [--replay FILE] \
-                     [--library PATH | --program PATH | --batch PATH] [--under PATH]";
+                     [--library PATH | --program PATH | --batch PATH | --book PATH] [--under PATH]";
 
 #[derive(Default)]
 struct Options {
@@ -32,6 +33,7 @@ struct Options {
     library: Option<PathBuf>,
     program: Option<PathBuf>,
     batch: Option<PathBuf>,
+    book: Option<PathBuf>,
     under: Option<PathBuf>,
 }
 
@@ -55,6 +57,9 @@ fn run(options: Options) -> Result<bool, String> {
     if let Some(path) = &options.batch {
         return options.compare_program(path, Source::Batch(BatchGenerator::new(seed)));
     }
+    if let Some(path) = &options.book {
+        return bookprogram::compare(|| options.command(path), seed, options.cases.unwrap_or(1_000));
+    }
     let mut ours = match &options.library {
         Some(path) => Box::new(driven::Driven::start(options.command(path)?)?),
         None => linked()?,
@@ -69,7 +74,7 @@ fn run(options: Options) -> Result<bool, String> {
 
 #[cfg(not(feature = "ours"))]
 fn linked() -> Result<Box<dyn Library>, String> {
-    Err("this build links no library: it takes --library, --program or --batch".into())
+    Err("this build links no library: it takes --library, --program, --batch or --book".into())
 }
 
 #[cfg(feature = "ours")]
@@ -112,6 +117,7 @@ fn options() -> Result<Options, String> {
             Some("--library") => options.library = Some(value.into()),
             Some("--program") => options.program = Some(value.into()),
             Some("--batch") => options.batch = Some(value.into()),
+            Some("--book") => options.book = Some(value.into()),
             Some("--under") => options.under = Some(value.into()),
             _ => return Err(USAGE.into()),
         }

@@ -101,7 +101,7 @@ fn compare_in(folder: &Path, command: &mut Command, source: &Source, seed: u64, 
     Ok(true)
 }
 
-fn shown(text: &[u8]) -> String {
+pub fn shown(text: &[u8]) -> String {
     let shown: String = text.escape_ascii().to_string().chars().take(300).collect();
     format!("{} bytes: {shown}", text.len())
 }
