@@ -88,10 +88,11 @@ pub fn encode_largest(mut sections: Vec<SectionPlan>) -> Vec<u8> {
 }
 
 /// The guides and their registries in `data/rules.txt`.
-const REGISTRIES: [(&str, &str); 5] = [("000", "WEBIZ"), ("001", "ND"), ("002", "NJ"), ("003", "IZG"), ("004", "NYC")];
+pub const REGISTRIES: [(&str, &str); 5] =
+    [("000", "WEBIZ"), ("001", "ND"), ("002", "NJ"), ("003", "IZG"), ("004", "NYC")];
 
 /// The twenty receiving facilities that share the WEBIZ rules.
-const WEBIZ_KEYS: [&str; 20] = [
+pub const WEBIZ_KEYS: [&str; 20] = [
     "AS0000", "AR0000", "CDPHE", "MP0000", "CT0000", "DE0000", "FM0000", "GU0000", "KS0000", "KY0000", "MH0000",
     "MODHSS", "NHIIS", "NMSIIS", "NV0000", "OK0000", "PW0000", "PADOH", "PH0000", "SIMON",
 ];
@@ -114,12 +115,7 @@ pub fn largest_book() -> Vec<u8> {
 pub fn section(key: &str, registry: &str) -> SectionPlan {
     let mut plan = SectionPlan::new(key);
     let mut used: Vec<&str> = Vec::new();
-    let lines = include_str!("../data/rules.txt").lines();
-    let own = lines
-        .skip_while(|line| line.strip_prefix("registry ") != Some(registry))
-        .skip(1)
-        .take_while(|line| !line.starts_with("registry "));
-    for line in own {
+    for line in rule_lines(registry) {
         let items: Vec<&str> = line.split(' ').collect();
         let (kind, uses) = match items[4..] {
             ["REQUIRED"] => (1, [0, 0, 0]),
@@ -136,6 +132,15 @@ pub fn section(key: &str, registry: &str) -> SectionPlan {
     }
     plan.sets = used.into_iter().map(codes).collect();
     plan
+}
+
+/// A registry's lines in `data/rules.txt`: segment, field, component, severity, kind, bound.
+pub fn rule_lines(registry: &str) -> impl Iterator<Item = &'static str> + '_ {
+    let lines = include_str!("../data/rules.txt").lines();
+    lines
+        .skip_while(move |line| line.strip_prefix("registry ") != Some(registry))
+        .skip(1)
+        .take_while(|line| !line.starts_with("registry "))
 }
 
 fn set_number<'d>(used: &mut Vec<&'d str>, set: &'d str) -> u8 {

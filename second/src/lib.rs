@@ -16,6 +16,7 @@ pub mod line;
 pub mod locating;
 pub mod order;
 pub mod packing;
+pub mod registries;
 pub mod samples;
 pub mod values;
 
