@@ -216,32 +216,48 @@ fn books_by_hand() -> Vec<BookSample> {
         book(
             "a rule of one place in each kind, and each of them again",
             format!("{SECTION}rule PID-3 DATE E\nrule PID-3 NUMBER E\nalso PID-3 DATE W\nalso PID-3 NUMBER I\n"),
-            b"VXB\0\x01\x01\x01A\0\x04\0PID\x03\0\x04E\0\0\0PID\x03\0\x03E\0\0\0PID\x03\0\x04W\0\0\0PID\x03\0\x03I\0\0\0",
+            b"VXB\0\x01\x01\x01A\0\x04\0PID\x03\0\x04E\0\0\0PID\x03\0\x03E\0\0\0\
+              PID\x03\0\x04W\0\0\0PID\x03\0\x03I\0\0\0",
         ),
         book(
             "PID-3 and PID-3.1 are two places",
             format!("{SECTION}rule PID-3 DATE E\nrule PID-3.1 DATE E\n"),
             b"VXB\0\x01\x01\x01A\0\x02\0PID\x03\0\x04E\0\0\0PID\x03\x01\x04E\0\0\0",
         ),
-        book("LENGTH with equal bounds", format!("{SECTION}rule PID-3 LENGTH E 255 255\n"), {
-            b"VXB\0\x01\x01\x01A\0\x01\0PID\x03\0\x02E\0\xFF\xFF"
-        }),
-        book("odd signs in a key", "book 1\nsection !\"#'()/:;<=>?@[]`{}\n", {
-            b"VXB\0\x01\x01\x13!\"#'()/:;<=>?@[]`{}\0\0\0"
-        }),
-        book("odd signs in names", "book 1\nset ^&~\\ x\ncommon ^&~\\\nrule PID-3 CODE E ^&~\\\nsection A\nuse ^&~\\\n", {
-            b"VXB\0\x01\x01\x01A\0\x01\x01PID\x03\0\x06E\x01\0\0\0\x01\x01x"
-        }),
-        book("words of statements as names", "book 1\nset set set\ncommon set\nrule PID-3 CODE E set\nsection set\nuse set\n", {
-            b"VXB\0\x01\x01\x03set\0\x01\x01PID\x03\0\x06E\x01\0\0\0\x01\x03set"
-        }),
+        book(
+            "LENGTH with equal bounds",
+            format!("{SECTION}rule PID-3 LENGTH E 255 255\n"),
+            b"VXB\0\x01\x01\x01A\0\x01\0PID\x03\0\x02E\0\xFF\xFF",
+        ),
+        book(
+            "odd signs in a key",
+            "book 1\nsection !\"#'()/:;<=>?@[]`{}\n",
+            b"VXB\0\x01\x01\x13!\"#'()/:;<=>?@[]`{}\0\0\0",
+        ),
+        book(
+            "odd signs in names",
+            "book 1\nset ^&~\\ x\ncommon ^&~\\\nrule PID-3 CODE E ^&~\\\nsection A\nuse ^&~\\\n",
+            b"VXB\0\x01\x01\x01A\0\x01\x01PID\x03\0\x06E\x01\0\0\0\x01\x01x",
+        ),
+        book(
+            "words of statements as names",
+            "book 1\nset set set\ncommon set\nrule PID-3 CODE E set\nsection set\nuse set\n",
+            b"VXB\0\x01\x01\x03set\0\x01\x01PID\x03\0\x06E\x01\0\0\0\x01\x03set",
+        ),
         book("a set that nobody names", "book 1\nset s x\nsection A\n", EMPTY_BOOK),
         book("a set without codes that nobody names", "book 1\nset s\nsection A\n", EMPTY_BOOK),
-        book("a common that nobody uses", "book 1\ncommon c\nrule PID-3 DATE E\nrule PID-3 DATE E\nsection A\n", EMPTY_BOOK),
+        book(
+            "a common that nobody uses",
+            "book 1\ncommon c\n\
+            rule PID-3 DATE E\nrule PID-3 DATE E\nsection A\n",
+            EMPTY_BOOK,
+        ),
         book("a common without statements", "book 1\ncommon c\nsection A\nuse c\n", EMPTY_BOOK),
-        book("keys that differ by case or length", "book 1\nsection A\nsection a\nsection AA\n", {
-            b"VXB\0\x01\x03\x01A\0\0\0\x01a\0\0\0\x02AA\0\0\0"
-        }),
+        book(
+            "keys that differ by case or length",
+            "book 1\nsection A\nsection a\nsection AA\n",
+            b"VXB\0\x01\x03\x01A\0\0\0\x01a\0\0\0\x02AA\0\0\0",
+        ),
     ]
 }
 
@@ -337,7 +353,8 @@ fn set_orders() -> Vec<BookSample> {
         ),
         book(
             "two sections with sets of their own order",
-            "book 1\nset a 1\nset b 2\nsection A\nrule PID-1 CODE E b\nrule PID-2 CODE E a\nsection B\nrule PID-1 CODE E a\n",
+            "book 1\nset a 1\nset b 2\nsection A\nrule PID-1 CODE E b\nrule PID-2 CODE E a\n\
+             section B\nrule PID-1 CODE E a\n",
             [
                 b"VXB\0\x01\x02\x01A\0\x02\x02".to_vec(),
                 code(1, 1),
@@ -696,9 +713,11 @@ fn borders() -> Vec<BookSample> {
     vec![
         book("2,048 statements", pinned(2_048), one_set),
         refused("2,049 statements", pinned(2_049), [56, 3, 3]),
-        book("2,048 statements with 8 commons", commons(8, 2_032), {
-            [b"VXB\0\x01\x01\x01A\0\x08\x01".as_slice(), &common_rules.concat(), b"\0\x01\x01x"].concat()
-        }),
+        book(
+            "2,048 statements with 8 commons",
+            commons(8, 2_032),
+            [b"VXB\0\x01\x01\x01A\0\x08\x01".as_slice(), &common_rules.concat(), b"\0\x01\x01x"].concat(),
+        ),
         refused("2,049 statements with 8 commons", commons(8, 2_033), [56, 19, 19]),
         book(
             "256 rules",
@@ -718,9 +737,11 @@ fn borders() -> Vec<BookSample> {
             [b"VXB\0\x01\x01\x01A\0\x40\x40", &rules[..], &b"\0\x01\x01x".repeat(64)].concat()
         }),
         refused("65 sets by rules", ruled_sets(65), [51, 67, 67]),
-        book("64 sections", sections(64), {
-            [b"VXB\0\x01\x40".as_slice(), &section_bytes.collect::<Vec<_>>().concat()].concat()
-        }),
+        book(
+            "64 sections",
+            sections(64),
+            [b"VXB\0\x01\x40".as_slice(), &section_bytes.collect::<Vec<_>>().concat()].concat(),
+        ),
         refused("65 sections", sections(65), [44, 66, 0]),
         book("1,024 codes", codes(1_024), &many_codes),
         refused("1,025 codes", codes(1_025), [53, 2, 3]),
@@ -738,9 +759,11 @@ fn borders() -> Vec<BookSample> {
             [b"VXB\0\x01\x01\x14", key.as_bytes(), b"\0\0\0"].concat(),
         ),
         refused("a key of 21 bytes", format!("book 1\nsection {key}1\n"), [37, 2, 0]),
-        book("a code of 20 bytes", format!("book 1\nset s {key}\nsection A\nsets s\n"), {
-            [set_head, b"\x01\0\x01\x14", key.as_bytes()].concat()
-        }),
+        book(
+            "a code of 20 bytes",
+            format!("book 1\nset s {key}\nsection A\nsets s\n"),
+            [set_head, b"\x01\0\x01\x14", key.as_bytes()].concat(),
+        ),
         refused("a code of 21 bytes", format!("book 1\nset s\ncode {key}1\nsection A\nsets s\n"), [38, 3, 0]),
         book(
             "names of 70 bytes",
@@ -752,9 +775,7 @@ fn borders() -> Vec<BookSample> {
         ),
         book(
             "1,000 sets and commons",
-            {
-                format!("book 1\n{}{}set s x\nsection A\nsets s\n", numbered("set n#", 500), numbered("common n#", 500))
-            },
+            format!("book 1\n{}{}set s x\nsection A\nsets s\n", numbered("set n#", 500), numbered("common n#", 500)),
             one_set,
         ),
     ]
@@ -826,6 +847,7 @@ fn longest_texts() -> Vec<BookSample> {
 }
 
 fn shown_books() -> Vec<BookSample> {
+    let names: String = (1..=64).map(|number| format!(" A/{number}")).collect();
     let many: String = numbered("rule PID-9 DATE E", 256).replacen("rule", "also", 256).replacen("also", "rule", 1);
     vec![
         show("no rule and no set", EMPTY_BOOK, "book 1\nsection A\n"),
@@ -835,7 +857,8 @@ fn shown_books() -> Vec<BookSample> {
             b"VXB\0\x01\x01\x01A\0\x07\x01PID\x01\0\x01E\0\0\0PID\x63\x14\x02W\0\x01\xFFPID\x03\0\x03I\0\0\0\
               PID\x03\0\x04I\0\0\0MSH\x03\0\x05E\0\x04\0MSH\x63\x01\x05E\0\x0E\0NTE\x03\x09\x06E\x01\0\0\0\x01\x01A",
             "book 1\nset A/1\ncode A\nsection A\nsets A/1\nrule PID-1 REQUIRED E\nrule PID-99.20 LENGTH W 1 255\n\
-             rule PID-3 NUMBER I\nrule PID-3 DATE I\nrule MSH-3 TIME E 4\nrule MSH-99.1 TIME E 14\nrule NTE-3.9 CODE E A/1\n",
+             rule PID-3 NUMBER I\nrule PID-3 DATE I\nrule MSH-3 TIME E 4\nrule MSH-99.1 TIME E 14\n\
+             rule NTE-3.9 CODE E A/1\n",
         ),
         show(
             "a further rule of a place and kind, with another severity or bound",
@@ -851,15 +874,15 @@ fn shown_books() -> Vec<BookSample> {
             "book 1\nset /1/1\ncode x\nset /1/2\ncode y\ncode y\nset /1/3\ncode x\nsection /1\nsets /1/1 /1/2 /1/3\n\
              rule PID-1 CODE E /1/3\nrule PID-2 CODE E /1/1\n",
         ),
-        show("the same rule 256 times", [b"VXB\0\x01\x01\x01A\x01\0\0", &b"PID\x09\0\x04E\0\0\0".repeat(256)[..]].concat(), {
-            &format!("book 1\nsection A\n{many}")
-        }),
+        show(
+            "the same rule 256 times",
+            [b"VXB\0\x01\x01\x01A\x01\0\0", &b"PID\x09\0\x04E\0\0\0".repeat(256)[..]].concat(),
+            &format!("book 1\nsection A\n{many}"),
+        ),
         show(
             "64 sets",
             [b"VXB\0\x01\x01\x01A\0\0\x40".as_slice(), &b"\0\x01\x01x".repeat(64)].concat(),
-            &format!("book 1\n{}section A\nsets{}\n", numbered("set A/#\ncode x", 64), {
-                (1..=64).map(|number| format!(" A/{number}")).collect::<String>()
-            }),
+            &format!("book 1\n{}section A\nsets{names}\n", numbered("set A/#\ncode x", 64)),
         ),
         sample(
             "64 sets of one code in each of 20 sections, keys of 20 bytes: the most text for a byte",
@@ -903,23 +926,21 @@ fn bad_books() -> Vec<BookSample> {
 }
 
 fn legends() -> Vec<BookSample> {
-    let words = "book 1 | x\nset s x | y\ncommon c | z\nrule PID-1 DATE E|a\nrule PID-2  CODE\tW s |  two  blanks | and a bar |\r\n\
-                 section A |\nuse c | used\nalso PID-1 DATE I |\t \nsets s | pinned\nrule PID-3 LENGTH E 1 20 || \nsection B | B's | words \t\r\n";
+    let words = "book 1 | x\nset s x | y\ncommon c | z\nrule PID-1 DATE E|a\n\
+                 rule PID-2  CODE\tW s |  two  blanks | and a bar |\r\n\
+                 section A |\nuse c | used\nalso PID-1 DATE I |\t \nsets s | pinned\n\
+                 rule PID-3 LENGTH E 1 20 || \nsection B | B's | words \t\r\n";
+    let meant = "A 0\nA 1 PID-1 DATE E | a\nA 2 PID-2 CODE W s | two  blanks | and a bar |\nA 3 PID-1 DATE I\n\
+                 A 4 PID-3 LENGTH E 1 20 | |\nB 0 | B's | words\n";
     vec![
         legend("the shortest text", "book 1\nsection A", "A 0\n"),
-        legend("words for people", words, {
-            "A 0\nA 1 PID-1 DATE E | a\nA 2 PID-2 CODE W s | two  blanks | and a bar |\nA 3 PID-1 DATE I\n\
-             A 4 PID-3 LENGTH E 1 20 | |\nB 0 | B's | words\n"
-        }),
+        legend("words for people", words, meant),
         legend(
             "every kind of bound",
-            {
-                "book 1\nset s^ x\nsection A\nrule PID-1 REQUIRED E\nrule PID-1 NUMBER W\nrule PID-1 TIME I 10\n\
-             rule PID-1.2 CODE E s^ | x\nalso PID-1.2 CODE E s^\n"
-            },
-            {
-                "A 0\nA 1 PID-1 REQUIRED E\nA 2 PID-1 NUMBER W\nA 3 PID-1 TIME I 10\nA 4 PID-1.2 CODE E s^ | x\nA 5 PID-1.2 CODE E s^\n"
-            },
+            "book 1\nset s^ x\nsection A\nrule PID-1 REQUIRED E\nrule PID-1 NUMBER W\nrule PID-1 TIME I 10\n\
+             rule PID-1.2 CODE E s^ | x\nalso PID-1.2 CODE E s^\n",
+            "A 0\nA 1 PID-1 REQUIRED E\nA 2 PID-1 NUMBER W\nA 3 PID-1 TIME I 10\n\
+             A 4 PID-1.2 CODE E s^ | x\nA 5 PID-1.2 CODE E s^\n",
         ),
         legend(
             "numbers of three digits",
@@ -938,7 +959,7 @@ fn legends() -> Vec<BookSample> {
             )
             .as_bytes(),
             ROOM,
-            // With a key of one digit a section's line has 4 bytes, the rule's 20 beside the remark; 55 keys have one more.
+            // With a key of one digit a section's line has 4 bytes, the rule's 20 and the remark; 55 keys have two.
             format!("55 {} 0\n", 64 * (4 + 20 + 100_000) + 2 * 55).into_bytes(),
         ),
     ]
