@@ -1,6 +1,9 @@
-//! Books as text. What is to be answered is written by hand: of a book its bytes, of a refusal number, line and section.
+//! Books as text. What is to be answered is written by hand: of a book its bytes, of a refusal number, line, section.
 
-use crate::books::{self, SectionPlan};
+mod borders;
+mod refusals;
+mod shown;
+
 use crate::cases::{BookCall, BookCase};
 
 pub struct BookSample {
@@ -12,7 +15,6 @@ pub struct BookSample {
 
 /// More than any book takes; with it a sample's text is shorter than what a runner of packed cases has room for.
 const ROOM: usize = 70_000;
-const TEXT_LIMIT: usize = 1_048_576;
 
 /// The first lines of most samples; what follows is on line 3.
 const SECTION: &str = "book 1\nsection A\n";
@@ -26,16 +28,9 @@ pub fn samples() -> Vec<BookSample> {
     all.extend(lines_and_bytes());
     all.extend(set_orders());
     all.extend(inclusions());
-    all.extend(bad_statements());
-    all.extend(positions());
-    all.extend(bad_names());
-    all.extend(bad_sections());
-    all.extend(rows_in_turn());
-    all.extend(borders());
-    all.extend(book_lengths());
-    all.extend(longest_texts());
-    all.extend(shown_books());
-    all.extend(bad_books());
+    all.extend(refusals::samples());
+    all.extend(borders::samples());
+    all.extend(shown::samples());
     all.extend(legends());
     all.extend(outputs());
     all
@@ -74,6 +69,22 @@ fn refused_twice(name: &str, text: impl AsRef<[u8]>, told: [usize; 3]) -> [BookS
     let BookSample { case, expected, .. } = &by_compile;
     let by_legend = sample(name, BookCall::Legend, &case.given, ROOM, expected.clone());
     [by_compile, by_legend]
+}
+
+/// So many lines, each with its number from 1 for the sign #.
+fn numbered(line: &str, count: usize) -> String {
+    (1..=count).map(|number| line.replace('#', &number.to_string()) + "\n").collect()
+}
+
+/// A line so many times.
+fn repeated(line: &str, count: usize) -> String {
+    format!("{line}\n").repeat(count)
+}
+
+/// So many sets of 1,024 codes, each of 20 bytes. A set takes 21,506 bytes of the book.
+fn large_sets(count: usize) -> String {
+    let codes = " 12345678901234567890".repeat(1_024);
+    (1..=count).map(|number| format!("set large{number}{codes}\n")).collect()
 }
 
 /// The page's own example with the statements that there are.
@@ -403,528 +414,6 @@ fn inclusions() -> Vec<BookSample> {
     ]
 }
 
-/// Rows 33 to 42, one statement alone.
-fn bad_statements() -> Vec<BookSample> {
-    let in_section: [(&str, usize); 61] = [
-        ("Rule PID-3 DATE E", 33),
-        ("rules PID-3 DATE E", 33),
-        ("x", 33),
-        ("end", 33),
-        ("drop PID-3 DATE", 33),
-        ("severity PID-3 DATE E", 33),
-        ("bound PID-3 TIME 8", 33),
-        ("more s x", 33),
-        ("less s x", 33),
-        ("book 1", 34),
-        ("book 2", 34),
-        ("code x", 34),
-        ("code", 34),
-        ("rule", 35),
-        ("rule PID-3 DATE", 35),
-        ("rule PID-3 LENGTH E 1 2 3", 35),
-        ("also PID-3 DATE", 35),
-        ("also PID-3 LENGTH E 1 2 3", 35),
-        ("use", 35),
-        ("use c E E", 35),
-        ("sets", 35),
-        ("set", 35),
-        ("common", 35),
-        ("common c d", 35),
-        ("section", 35),
-        ("section A B", 35),
-        ("section A^", 37),
-        ("section &", 37),
-        ("section a~b", 37),
-        ("section \\", 37),
-        ("section 123456789012345678901", 37),
-        ("set s x^", 38),
-        ("set s x y~", 38),
-        ("set s 123456789012345678901", 38),
-        ("set s & y", 38),
-        ("set s \\", 38),
-        ("rule PID DATE E", 39),
-        ("rule PID-8.0 DATE E", 39),
-        ("rule PID-08 DATE E", 39),
-        ("rule PID-8. DATE E", 39),
-        ("rule PID- DATE E", 39),
-        ("rule PID-8.1.1 DATE E", 39),
-        ("also MSH-2 DATE E", 39),
-        ("also PID-100 DATE E", 39),
-        ("rule PID-3.21 DATE E", 39),
-        ("rule ZZZ-3 DATE E", 39),
-        ("rule PID-3 Date E", 40),
-        ("rule PID-3 SINCE-BIRTH E", 40),
-        ("rule PID-3 4 E", 40),
-        ("rule PID-3 DATE e", 41),
-        ("rule PID-3 DATE EW", 41),
-        ("use c A", 41),
-        ("use c 8", 41),
-        ("rule PID-3 DATE E 8", 42),
-        ("rule PID-3 LENGTH E 0 9", 42),
-        ("rule PID-3 LENGTH E 9 8", 42),
-        ("rule PID-3 LENGTH E 1 256", 42),
-        ("rule PID-3 LENGTH E 9", 42),
-        ("also PID-3 TIME E 9", 42),
-        ("rule PID-3 CODE E", 42),
-        ("rule PID-3 CODE E s t", 42),
-    ];
-    let mut all: Vec<BookSample> = in_section
-        .into_iter()
-        .map(|(statement, row)| {
-            refused(&format!("in a section {statement}"), format!("{SECTION}{statement}\n"), [row, 3, 0])
-        })
-        .collect();
-    let others: [(&str, [usize; 3]); 23] = [
-        ("section A\nbook 1\n", [34, 1, 0]),
-        ("set s x\nbook 1\n", [34, 1, 0]),
-        ("common c\nbook 1\n", [34, 1, 0]),
-        ("rule PID-3 DATE E\n", [34, 1, 0]),
-        ("\n\ncode x\n", [34, 3, 0]),
-        ("book 1\ncode x\n", [34, 2, 0]),
-        ("book 1\nuse c\n", [34, 2, 0]),
-        ("book 1\nsets s\n", [34, 2, 0]),
-        ("book 1\nrule PID-3 DATE E\n", [34, 2, 0]),
-        ("book 1\nbook 1\n", [34, 2, 0]),
-        ("book 1\nset s\nrule PID-3 DATE E\n", [34, 3, 0]),
-        ("book 1\nset s\nalso PID-3 DATE E\n", [34, 3, 0]),
-        ("book 1\nset s\nuse c\n", [34, 3, 0]),
-        ("book 1\nset s\nsets s\n", [34, 3, 0]),
-        ("book 1\nset s\ncode\n", [35, 3, 0]),
-        ("book 1\nset s\ncode ^\n", [38, 3, 0]),
-        ("book 1\ncommon c\ncode x\n", [34, 3, 0]),
-        ("book 1\ncommon c\nuse c\n", [34, 3, 0]),
-        ("book 1\ncommon c\nsets s\n", [34, 3, 0]),
-        ("book 2\n", [36, 1, 0]),
-        ("book 01\n", [36, 1, 0]),
-        ("book\n", [35, 1, 0]),
-        ("book 1 1\n", [35, 1, 0]),
-    ];
-    all.extend(others.into_iter().flat_map(|(text, told)| refused_twice(&text.escape_debug().to_string(), text, told)));
-    all
-}
-
-/// Of several statements with rows 33 to 42 the first is told, whatever its row; of one statement the first row.
-fn positions() -> Vec<BookSample> {
-    let rows: [(&str, [usize; 3]); 20] = [
-        ("foo\nbook 2\n", [33, 1, 0]),
-        ("code\n", [34, 1, 0]),
-        ("book 2 2\n", [35, 1, 0]),
-        ("book 2\nfoo\n", [36, 1, 0]),
-        ("book 1\nsection ^\nfoo\n", [37, 2, 0]),
-        ("book 1\nsection ^ ^\n", [35, 2, 0]),
-        ("book 1\nset s ^\nsection ^\n", [38, 2, 0]),
-        ("book 1\nsection ^\nset s ^\n", [37, 2, 0]),
-        ("book 1\nsection A\nset s ^\nrule X DATE E\n", [38, 3, 0]),
-        ("book 1\nsection A\nrule X DATE E\nset s ^\n", [39, 3, 0]),
-        ("book 1\nset s\nrule X Y Z 1\n", [34, 3, 0]),
-        ("book 1\nsection A\nrule X Y Z 1 2 3\n", [35, 3, 0]),
-        ("book 1\nsection A\nrule X Y Z 1\n", [39, 3, 0]),
-        ("book 1\nsection A\nrule PID-3 Y Z 1\n", [40, 3, 0]),
-        ("book 1\nsection A\nrule PID-3 DATE Z 1\n", [41, 3, 0]),
-        ("book 1\nsection A\nrule PID-3 DATE E 1\n", [42, 3, 0]),
-        ("book 1\nsection A\nuse c A A\n", [35, 3, 0]),
-        ("book 1\ncommon c\nuse c A\n", [34, 3, 0]),
-        ("book 1\nsection A\nsection A\nrule PID-3 DATE E 1\n", [42, 4, 0]),
-        ("book 1\nsection A\nuse c\nrule PID-3 DATE E 1\n", [42, 4, 0]),
-    ];
-    rows.map(|(text, told)| refused(&format!("order {}", text.escape_debug()), text, told)).into()
-}
-
-/// Rows 43 to 45, and a text without section.
-fn bad_names() -> Vec<BookSample> {
-    let sections = |count: usize| -> String { (1..=count).map(|number| format!("section S{number}\n")).collect() };
-    let rows: [(&str, String, [usize; 3]); 20] = [
-        ("a set twice", "book 1\nset s 1\nset t 2\nset s 1\nsection A\n".into(), [43, 4, 0]),
-        ("a common twice", "book 1\ncommon c\nsection A\ncommon c\n".into(), [43, 4, 0]),
-        ("a key twice", "book 1\nsection A\nsection B\nsection A\n".into(), [43, 4, 0]),
-        ("65 sections", format!("book 1\n{}", sections(65)), [44, 66, 0]),
-        ("65 sections, the last with a key that stands", format!("book 1\n{}section S9\n", sections(64)), [43, 66, 0]),
-        ("66 sections, the last with a key that stands", format!("book 1\n{}section S9\n", sections(65)), [44, 66, 0]),
-        ("no section", "book 1\nset s x\ncommon c\n".into(), [44, 0, 0]),
-        ("no common of this name", format!("{SECTION}use c\n"), [45, 3, 0]),
-        ("a set is no common", "book 1\nset c x\nsection A\nuse c\n".into(), [45, 4, 0]),
-        ("a section is no common", format!("{SECTION}use A\n"), [45, 3, 0]),
-        ("no set of this name", format!("{SECTION}rule PID-3 CODE E s\n"), [45, 3, 0]),
-        ("a common is no set", "book 1\ncommon s\nsection A\nrule PID-3 CODE E s\n".into(), [45, 4, 0]),
-        ("no set in a further rule", format!("{SECTION}also PID-3 CODE E s\n"), [45, 3, 0]),
-        (
-            "no set in a common that nobody uses",
-            "book 1\ncommon c\nrule PID-3 CODE E s\nsection A\n".into(),
-            [45, 3, 0],
-        ),
-        ("no set among those that are pinned", "book 1\nset s x\nsection A\nsets s t s\n".into(), [45, 4, 0]),
-        ("45 before there is no section", "book 1\ncommon c\nrule PID-3 CODE E s\n".into(), [45, 3, 0]),
-        ("45 stands before 43", "book 1\nsection A\nuse c\nsection A\n".into(), [45, 3, 0]),
-        ("43 stands before 45", "book 1\nsection A\nsection A\nuse c\n".into(), [43, 3, 0]),
-        ("45 stands before 44", format!("{SECTION}use c\n{}", sections(64)), [45, 3, 0]),
-        ("44 stands before 45", format!("book 1\n{}use c\n", sections(65)), [44, 66, 0]),
-    ];
-    rows.into_iter().flat_map(|(name, text, told)| refused_twice(name, text, told)).collect()
-}
-
-/// Rows 46 to 53, each alone.
-fn bad_sections() -> Vec<BookSample> {
-    let commons = "book 1\ncommon c\nrule PID-1 DATE E\ncommon d\nalso PID-1 DATE E\n";
-    let rows: [(&str, String, [usize; 3]); 17] = [
-        ("a common twice", format!("{commons}section A\nuse c\nuse c\n"), [46, 8, 6]),
-        (
-            "the first of two that are used twice",
-            format!("{commons}section A\nuse c\nuse d\nuse d\nuse c\n"),
-            [46, 9, 6],
-        ),
-        ("a common twice, with another severity", format!("{commons}section A\nuse c E\nuse c W\n"), [46, 8, 6]),
-        (
-            "a common twice in the second section",
-            format!("{commons}section A\nuse c\nsection B\nuse c\nuse c\n"),
-            [46, 10, 8],
-        ),
-        ("a rule twice", format!("{SECTION}rule PID-1 DATE E\nrule PID-2 DATE E\nrule PID-1 DATE W\n"), [47, 5, 2]),
-        ("a rule that a common has", format!("{commons}section A\nuse c\nrule PID-1 DATE E\n"), [47, 8, 6]),
-        (
-            "a rule of a common that the section has",
-            format!("{commons}section A\nrule PID-1 DATE E\nuse c W\n"),
-            [47, 3, 6],
-        ),
-        ("a rule after a further one", format!("{commons}section A\nuse c\nuse d\nrule PID-1 DATE E\n"), [47, 9, 6]),
-        ("a further rule first", format!("{SECTION}also PID-1 DATE E\n"), [48, 3, 2]),
-        ("a further rule of another kind", format!("{SECTION}rule PID-1 DATE E\nalso PID-1 NUMBER E\n"), [48, 4, 2]),
-        ("a further rule of another place", format!("{SECTION}rule PID-1.1 DATE E\nalso PID-1 DATE E\n"), [48, 4, 2]),
-        ("a further rule of a common", format!("{commons}section A\nuse d\nuse c\n"), [48, 5, 6]),
-        (
-            "a further rule in the second section",
-            format!("{commons}section A\nuse c\nuse d\nsection B\nuse d\n"),
-            [48, 5, 9],
-        ),
-        (
-            "a set without codes",
-            "book 1\nset s\nset t 1\nsection A\nrule PID-1 CODE E t\nrule PID-2 CODE E s\n".into(),
-            [53, 2, 4],
-        ),
-        ("a pinned set without codes", "book 1\nsection A\nsets s\nset s\n".into(), [53, 4, 2]),
-        (
-            "the first of two sets without codes by first use",
-            "book 1\nset s\nset t\nsection A\nrule PID-1 CODE E t\nrule PID-2 CODE E s\n".into(),
-            [53, 3, 4],
-        ),
-        (
-            "the pinned one of two sets without codes",
-            "book 1\nset s\nset t\nsection A\nrule PID-1 CODE E t\nsets s\n".into(),
-            [53, 2, 4],
-        ),
-    ];
-    rows.into_iter().flat_map(|(name, text, told)| refused_twice(name, text, told)).collect()
-}
-
-/// So many lines, each with its number from 1 for the sign #.
-fn numbered(line: &str, count: usize) -> String {
-    (1..=count).map(|number| line.replace('#', &number.to_string()) + "\n").collect()
-}
-
-/// A line so many times.
-fn repeated(line: &str, count: usize) -> String {
-    format!("{line}\n").repeat(count)
-}
-
-/// So many sets of 1,024 codes, each of 20 bytes. A set takes 21,506 bytes of the book.
-fn large_sets(count: usize) -> String {
-    let codes = " 12345678901234567890".repeat(1_024);
-    (1..=count).map(|number| format!("set large{number}{codes}\n")).collect()
-}
-
-/// Of a section's rows both hold, and the earlier one is told.
-fn rows_in_turn() -> Vec<BookSample> {
-    let common = "book 1\ncommon c\nrule PID-1 DATE E\nset s x\n";
-    let pinned = repeated("sets s", 2_049);
-    let rules = format!("rule PID-9 DATE E\n{}", repeated("also PID-9 DATE E", 256));
-    let sets = numbered("set s# x", 64);
-    let names: String = (1..=64).map(|number| format!(" s{number}")).collect();
-    let rows: Vec<(&str, String, [usize; 3])> = vec![
-        ("46 before 56", format!("{common}section A\nuse c\nuse c\n{pinned}"), [46, 7, 5]),
-        ("46 before 47", format!("{common}section A\nrule PID-1 DATE E\nuse c\nuse c\n"), [46, 8, 5]),
-        ("56 before 47", format!("{common}section A\nuse c\nrule PID-1 DATE E\n{pinned}"), [56, 5, 5]),
-        ("56 before 48", format!("{common}section A\nalso PID-2 DATE E\n{pinned}"), [56, 5, 5]),
-        (
-            "47 stands before 48",
-            format!("{common}section A\nuse c\nrule PID-1 DATE E\nalso PID-2 DATE E\n"),
-            [47, 7, 5],
-        ),
-        (
-            "48 stands before 47",
-            format!("{common}section A\nuse c\nalso PID-2 DATE E\nrule PID-1 DATE E\n"),
-            [48, 7, 5],
-        ),
-        ("47 before 50", format!("{common}section A\nuse c\n{rules}rule PID-1 DATE E\n"), [47, 264, 5]),
-        ("48 before 50", format!("{common}section A\nuse c\n{rules}also PID-2 DATE E\n"), [48, 264, 5]),
-        ("50 before 51", format!("{common}{sets}section A\nsets s{names}\n{rules}"), [50, 69, 69]),
-        ("51 before 53", format!("{common}{sets}set e\nsection A\nsets e{names}\n"), [51, 70, 70]),
-        ("50 before 53", format!("{common}set e\nsection A\nsets e\n{rules}"), [50, 6, 6]),
-        (
-            "53 before 54",
-            format!("{common}{}set e\nsection A\nsets large1 large2 large3 large4 e\n", large_sets(4)),
-            [53, 9, 10],
-        ),
-        (
-            "46 in a later section than 53",
-            format!("{common}set e\nsection A\nsets e\nsection B\nuse c\nuse c\n"),
-            [53, 5, 6],
-        ),
-        (
-            "53 in a later section than 46",
-            format!("{common}set e\nsection B\nuse c\nuse c\nsection A\nsets e\n"),
-            [46, 8, 6],
-        ),
-        ("45 before 46", format!("{common}section A\nuse c\nuse c\nuse d\n"), [45, 8, 0]),
-        ("43 before 46", format!("{common}section A\nuse c\nuse c\nset s\n"), [43, 8, 0]),
-        ("32 before 33", "foo\n\x01".into(), [32, 2, 0]),
-    ];
-    rows.into_iter().map(|(name, text, told)| refused(name, text, told)).collect()
-}
-
-/// Both sides of the limits, but those of book and text.
-fn borders() -> Vec<BookSample> {
-    let one_set: &[u8] = b"VXB\0\x01\x01\x01A\0\0\x01\0\x01\x01x";
-    let pinned = |count: usize| format!("book 1\nset s x\nsection A\n{}", repeated("sets s", count));
-    let commons = |count: usize, pinned: usize| {
-        let commons = numbered("common c#\nrule PID-# DATE E", count);
-        let uses = numbered("use c#", count);
-        format!("book 1\nset s x\n{commons}section A\n{uses}{}", repeated("sets s", pinned))
-    };
-    let common_rules = (1..=8).map(|field| [b"PID", [field, 0, 4].as_slice(), b"E\0\0\0"].concat()).collect::<Vec<_>>();
-    let rules = |count: usize| format!("{SECTION}rule PID-9 DATE E\n{}", repeated("also PID-9 DATE E", count - 1));
-    let fields = |segment: &str| numbered(&format!("rule {segment}-# DATE E"), 99);
-    let sets = |count: usize| {
-        let names: String = (1..=count).map(|number| format!(" s{number}")).collect();
-        format!("book 1\n{}section A\nsets{names}\n", numbered("set s# x", count))
-    };
-    let ruled_sets = |count: usize| {
-        format!("book 1\n{}section A\n{}", numbered("set s# x", count), numbered("rule PID-# CODE E s#", count))
-    };
-    let ruled = (1..=64).map(|number| [b"PID", [number, 0, 6].as_slice(), b"E", &[number, 0, 0]].concat());
-    let sections = |count: usize| format!("book 1\n{}", numbered("section S#", count));
-    let section_bytes = (1..=64).map(|number| {
-        let key = format!("S{number}");
-        [&[key.len() as u8], key.as_bytes(), b"\0\0\0"].concat()
-    });
-    let codes = |count: usize| format!("book 1\nset s{}\nsection A\nsets s\n", " x".repeat(count));
-    let code_lines = |count: usize| format!("book 1\nset s x\n{}section A\nsets s\n", repeated("code x", count - 1));
-    let set_head: &[u8] = b"VXB\0\x01\x01\x01A\0\0";
-    let many_codes = [set_head, b"\x01\x04\0", &b"\x01x".repeat(1_024)].concat();
-    let key = "12345678901234567890";
-    vec![
-        book("2,048 statements", pinned(2_048), one_set),
-        refused("2,049 statements", pinned(2_049), [56, 3, 3]),
-        book(
-            "2,048 statements with 8 commons",
-            commons(8, 2_032),
-            [b"VXB\0\x01\x01\x01A\0\x08\x01".as_slice(), &common_rules.concat(), b"\0\x01\x01x"].concat(),
-        ),
-        refused("2,049 statements with 8 commons", commons(8, 2_033), [56, 19, 19]),
-        book(
-            "256 rules",
-            rules(256),
-            [b"VXB\0\x01\x01\x01A\x01\0\0", &b"PID\x09\0\x04E\0\0\0".repeat(256)[..]].concat(),
-        ),
-        refused("257 rules", rules(257), [50, 2, 2]),
-        refused(
-            "297 rules of different places",
-            format!("{SECTION}{}{}{}", fields("PID"), fields("OBX"), fields("RXA")),
-            [50, 2, 2],
-        ),
-        book("64 sets", sets(64), [set_head, b"\x40", &b"\0\x01\x01x".repeat(64)].concat()),
-        refused("65 sets", sets(65), [51, 67, 67]),
-        book("64 sets by rules", ruled_sets(64), {
-            let rules = ruled.collect::<Vec<_>>().concat();
-            [b"VXB\0\x01\x01\x01A\0\x40\x40", &rules[..], &b"\0\x01\x01x".repeat(64)].concat()
-        }),
-        refused("65 sets by rules", ruled_sets(65), [51, 67, 67]),
-        book(
-            "64 sections",
-            sections(64),
-            [b"VXB\0\x01\x40".as_slice(), &section_bytes.collect::<Vec<_>>().concat()].concat(),
-        ),
-        refused("65 sections", sections(65), [44, 66, 0]),
-        book("1,024 codes", codes(1_024), &many_codes),
-        refused("1,025 codes", codes(1_025), [53, 2, 3]),
-        book("1,024 codes on lines of their own", code_lines(1_024), &many_codes),
-        refused("1,025 codes on lines of their own", code_lines(1_025), [53, 2, 1_027]),
-        refused("no code", "book 1\nset s\nsection A\nsets s\n", [53, 2, 3]),
-        book(
-            "a set of 1,025 codes that nobody names",
-            format!("book 1\nset s{}\nsection A\n", " x".repeat(1_025)),
-            EMPTY_BOOK,
-        ),
-        book(
-            "a key of 20 bytes",
-            format!("book 1\nsection {key}\n"),
-            [b"VXB\0\x01\x01\x14", key.as_bytes(), b"\0\0\0"].concat(),
-        ),
-        refused("a key of 21 bytes", format!("book 1\nsection {key}1\n"), [37, 2, 0]),
-        book(
-            "a code of 20 bytes",
-            format!("book 1\nset s {key}\nsection A\nsets s\n"),
-            [set_head, b"\x01\0\x01\x14", key.as_bytes()].concat(),
-        ),
-        refused("a code of 21 bytes", format!("book 1\nset s\ncode {key}1\nsection A\nsets s\n"), [38, 3, 0]),
-        book(
-            "names of 70 bytes",
-            {
-                let name = "n".repeat(70);
-                format!("book 1\nset {name} x\ncommon {name}\nsection A\nuse {name}\nsets {name}\n")
-            },
-            one_set,
-        ),
-        book(
-            "1,000 sets and commons",
-            format!("book 1\n{}{}set s x\nsection A\nsets s\n", numbered("set n#", 500), numbered("common n#", 500)),
-            one_set,
-        ),
-    ]
-}
-
-/// A section with three large sets and codes that bring the book to so many bytes, and its book.
-fn of_length(bytes: usize) -> (String, Vec<u8>) {
-    // Head and section take 11 bytes, three large sets 64,518, and a set 2 and its codes.
-    let left = bytes - 11 - 64_518 - 2;
-    let sizes: Vec<usize> = (0..left / 20).map(|at| if at == 0 { 20 + left % 20 } else { 20 }).collect();
-    let codes: Vec<String> = sizes.iter().map(|size| "y".repeat(size - 1)).collect();
-    let text =
-        format!("book 1\n{}set rest {}\nsection A\nsets large1 large2 large3 rest\n", large_sets(3), codes.join(" "));
-    let large = [b"\x04\0".as_slice(), &b"\x1412345678901234567890".repeat(1_024)].concat().repeat(3);
-    let mut book = [b"VXB\0\x01\x01\x01A\0\0\x04".as_slice(), &large, &(codes.len() as u16).to_be_bytes()].concat();
-    for code in codes {
-        book.push(code.len() as u8);
-        book.extend(code.as_bytes());
-    }
-    (text, book)
-}
-
-fn book_lengths() -> Vec<BookSample> {
-    // Lengths for which the codes that fill up have 19 bytes, but the first 19 or 20.
-    let (text, longest) = of_length(65_536 - 5);
-    let (over, _) = of_length(65_532);
-    let key = |text: &str, key: &str| text.replace("section A", &format!("section {key}"));
-    let keyed = [&longest[..6], b"\x06AAAAAA", &longest[8..]].concat();
-    let two = format!("{text}section B\n");
-    let two_book = [b"VXB\0\x01\x02", &longest[6..], b"\x01B\0\0\0"].concat();
-    vec![
-        book("65,536 bytes", key(&text, "AAAAAA"), keyed),
-        refused("65,537 bytes", key(&text, "AAAAAAA"), [54, 6, 6]),
-        book("65,536 bytes with a second section", &two, two_book),
-        refused("65,537 bytes with a second section", format!("{text}section BB\n"), [54, 8, 8]),
-        refused("65,537 bytes by a code", format!("{over}section B\n"), [54, 8, 8]),
-        refused("65,541 bytes with a third section", format!("{two}section C\nuse c\ncommon c\n"), [54, 9, 9]),
-        refused(
-            "four large sets",
-            format!("book 1\n{}section A\nsets large1 large2 large3 large4\n", large_sets(4)),
-            [54, 6, 6],
-        ),
-    ]
-}
-
-/// Texts of 1,048,576 bytes and one more.
-fn longest_texts() -> Vec<BookSample> {
-    let filled = |text: &str, length: usize, filler: &str| {
-        let mut filled = text.as_bytes().to_vec();
-        filled.resize(length, filler.as_bytes()[0]);
-        filled
-    };
-    let mut all = vec![
-        book("1,048,576 bytes, a remark", filled(&format!("{SECTION}|"), TEXT_LIMIT, "x"), EMPTY_BOOK),
-        book("1,048,576 bytes, line ends", filled(SECTION, TEXT_LIMIT, "\n"), EMPTY_BOOK),
-        book("1,048,576 bytes, blanks", filled(SECTION, TEXT_LIMIT, " "), EMPTY_BOOK),
-        refused("1,048,576 bytes, a long word", filled(SECTION, TEXT_LIMIT, "x"), [33, 3, 0]),
-        refused("1,048,576 bytes, bars", filled("", TEXT_LIMIT, "|"), [44, 0, 0]),
-        refused(
-            "the last byte of 1,048,576",
-            [filled(SECTION, TEXT_LIMIT - 1, "\n"), vec![0]].concat(),
-            [32, 1_048_561, 0],
-        ),
-    ];
-    all.extend(refused_twice("1,048,577 bytes", filled(SECTION, TEXT_LIMIT + 1, "\n"), [31, 0, 0]));
-    all.extend(refused_twice("1,048,577 bytes with a byte 0", filled("\0", TEXT_LIMIT + 1, "\n"), [31, 0, 0]));
-    all.push(refused("2 MiB", filled(SECTION, 2 * TEXT_LIMIT, " "), [31, 0, 0]));
-    all
-}
-
-fn shown_books() -> Vec<BookSample> {
-    let names: String = (1..=64).map(|number| format!(" A/{number}")).collect();
-    let many: String = numbered("rule PID-9 DATE E", 256).replacen("rule", "also", 256).replacen("also", "rule", 1);
-    vec![
-        show("no rule and no set", EMPTY_BOOK, "book 1\nsection A\n"),
-        show("two sections", b"VXB\0\x01\x02\x01A\0\0\0\x01a\0\0\0", "book 1\nsection A\nsection a\n"),
-        show(
-            "each kind",
-            b"VXB\0\x01\x01\x01A\0\x07\x01PID\x01\0\x01E\0\0\0PID\x63\x14\x02W\0\x01\xFFPID\x03\0\x03I\0\0\0\
-              PID\x03\0\x04I\0\0\0MSH\x03\0\x05E\0\x04\0MSH\x63\x01\x05E\0\x0E\0NTE\x03\x09\x06E\x01\0\0\0\x01\x01A",
-            "book 1\nset A/1\ncode A\nsection A\nsets A/1\nrule PID-1 REQUIRED E\nrule PID-99.20 LENGTH W 1 255\n\
-             rule PID-3 NUMBER I\nrule PID-3 DATE I\nrule MSH-3 TIME E 4\nrule MSH-99.1 TIME E 14\n\
-             rule NTE-3.9 CODE E A/1\n",
-        ),
-        show(
-            "a further rule of a place and kind, with another severity or bound",
-            b"VXB\0\x01\x01\x01A\0\x05\0PID\x03\0\x02E\0\x01\x02PID\x03\x01\x02E\0\x01\x02PID\x03\0\x02W\0\x03\x04\
-              OBX\x03\0\x02E\0\x01\x02PID\x03\x01\x02E\0\x01\x02",
-            "book 1\nsection A\nrule PID-3 LENGTH E 1 2\nrule PID-3.1 LENGTH E 1 2\nalso PID-3 LENGTH W 3 4\n\
-             rule OBX-3 LENGTH E 1 2\nalso PID-3.1 LENGTH E 1 2\n",
-        ),
-        show(
-            "sets out of the order of use, equal ones and one that no rule uses",
-            b"VXB\0\x01\x01\x02/1\0\x02\x03PID\x01\0\x06E\x03\0\0PID\x02\0\x06E\x01\0\0\
-              \0\x01\x01x\0\x02\x01y\x01y\0\x01\x01x",
-            "book 1\nset /1/1\ncode x\nset /1/2\ncode y\ncode y\nset /1/3\ncode x\nsection /1\nsets /1/1 /1/2 /1/3\n\
-             rule PID-1 CODE E /1/3\nrule PID-2 CODE E /1/1\n",
-        ),
-        show(
-            "the same rule 256 times",
-            [b"VXB\0\x01\x01\x01A\x01\0\0", &b"PID\x09\0\x04E\0\0\0".repeat(256)[..]].concat(),
-            &format!("book 1\nsection A\n{many}"),
-        ),
-        show(
-            "64 sets",
-            [b"VXB\0\x01\x01\x01A\0\0\x40".as_slice(), &b"\0\x01\x01x".repeat(64)].concat(),
-            &format!("book 1\n{}section A\nsets{names}\n", numbered("set A/#\ncode x", 64)),
-        ),
-        sample(
-            "64 sets of one code in each of 20 sections, keys of 20 bytes: the most text for a byte",
-            BookCall::Show,
-            &books::encode(&long_names()),
-            ROOM,
-            format!("55 {} 0\n", 7 + 20 * (8 + 20 + 1 + 5) + 20 * (35 * 64 - 9 + 24 * 64 - 9)).into_bytes(),
-        ),
-    ]
-}
-
-/// Twenty sections, each with 64 sets of the code x.
-fn long_names() -> Vec<SectionPlan> {
-    let key = |number: usize| format!("{number:0>20}").into_bytes();
-    let sets = vec![vec![b"x".to_vec()]; 64];
-    (1..=20).map(|number| SectionPlan { key: key(number), rules: Vec::new(), sets: sets.clone() }).collect()
-}
-
-/// What 01 refuses is shown as nothing: 7, then 8, then 7.
-fn bad_books() -> Vec<BookSample> {
-    let longer = |version: u8| [b"VXB\0".as_slice(), &[version], &[0; 65_532]].concat();
-    let (longest_eight, longer_one) = (longer(2)[..65_536].to_vec(), longer(1));
-    let rows: [(&str, &[u8], u8); 14] = [
-        ("nothing", b"", 7),
-        ("four bytes", b"VXB\0", 7),
-        ("no section count", b"VXB\0\x01", 7),
-        ("another mark", b"VXC\0\x02", 7),
-        ("another version", b"VXB\0\x02", 8),
-        ("version 256", b"VXB\x01\0\x01\x01A\0\0\0", 8),
-        ("no section", b"VXB\0\x01\0", 7),
-        ("a byte after the last section", b"VXB\0\x01\x01\x01A\0\0\0\0", 7),
-        ("a key twice", b"VXB\0\x01\x02\x01A\0\0\0\x01A\0\0\0", 7),
-        ("a set without codes", b"VXB\0\x01\x01\x01A\0\0\x01\0\0", 7),
-        ("MSH-2", b"VXB\0\x01\x01\x01A\0\x01\0MSH\x02\0\x01W\0\0\0", 7),
-        ("a text", b"book 1\nsection A\n", 7),
-        ("another version in 65,536 bytes", &longest_eight, 8),
-        ("65,537 bytes", &longer_one, 7),
-    ];
-    let told = |number: u8| format!("{number} 0 0\n").into_bytes();
-    rows.map(|(name, book, number)| sample(name, BookCall::Show, book, ROOM, told(number))).into()
-}
-
 fn legends() -> Vec<BookSample> {
     let words = "book 1 | x\nset s x | y\ncommon c | z\nrule PID-1 DATE E|a\n\
                  rule PID-2  CODE\tW s |  two  blanks | and a bar |\r\n\
@@ -996,7 +485,7 @@ fn outputs() -> Vec<BookSample> {
 #[cfg(test)]
 mod tests {
     use super::*;
-    use crate::booktext;
+    use crate::{books, booktext};
 
     #[test]
     fn every_book_is_told_as_written_by_hand() {
@@ -1020,7 +509,7 @@ mod tests {
 
     #[test]
     fn what_is_shown_compiles_to_the_same_book() {
-        let registries = [books::registries_book(), books::largest_book(), books::encode(&long_names())];
+        let registries = [books::registries_book(), books::largest_book(), books::encode(&shown::long_names())];
         let samples = samples().into_iter().filter(|sample| sample.case.call == BookCall::Show);
         let mut shown = 0;
         for book in samples.map(|sample| sample.case.given).chain(registries) {
