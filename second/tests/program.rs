@@ -8,6 +8,7 @@ use std::process::{Command, Stdio};
 
 const RELAY: &str = env!("CARGO_BIN_EXE_second");
 const BATCH: &str = env!("CARGO_BIN_EXE_batch");
+const BOOK: &str = env!("CARGO_BIN_EXE_book");
 
 /// A folder of a test's own with the files that are given.
 fn folder_with(name: &str, files: [(&str, Option<&[u8]>); 2]) -> PathBuf {
@@ -98,4 +99,45 @@ fn batches() {
     assert_eq!(batch("batch-longer", Some(&long), Some(&case.book), line), "refused 14 0\n");
     long.resize(3_000_000, b'\r');
     assert_eq!(batch("batch-longest", Some(&long), Some(&case.book), line), "refused 14 0\n");
+}
+
+/// What the book program prints, and its status.
+fn book(folder: &Path, arguments: &[&str]) -> (String, i32) {
+    let output = Command::new(BOOK).current_dir(folder).args(arguments).output().unwrap();
+    (String::from_utf8(output.stdout).unwrap(), output.status.code().unwrap())
+}
+
+#[test]
+fn books_as_text() {
+    let text = "book 1\nset s x\nsection A | words\nrule PID-3 CODE E s\n";
+    let folder = folder_with("book", [("a", Some(text.as_bytes())), ("b", Some(b"old"))]);
+    let run = |arguments: &[&str]| book(&folder, arguments);
+    let told = |text: &str, status: i32| (text.to_string(), status);
+    let compiled = told("compiled 25 bytes, 1 sections, 1 rules, 1 sets\n", 0);
+    assert_eq!(run(&["check", "a"]), compiled);
+    assert_eq!(fs::read(folder.join("b")).unwrap(), b"old");
+    assert_eq!(run(&["show", "b"]), told("book refused 7: it is no book: malformed\n", 3));
+    assert_eq!(run(&["compile", "a", "b"]), compiled);
+    let bytes = b"VXB\0\x01\x01\x01A\0\x01\x01PID\x03\0\x06E\x01\0\0\0\x01\x01x";
+    assert_eq!(fs::read(folder.join("b")).unwrap(), bytes);
+    let shown = "book 1\nset A/1\ncode x\nsection A\nsets A/1\nrule PID-3 CODE E A/1\n";
+    assert_eq!(run(&["show", "b"]), told(shown, 0));
+    assert_eq!(run(&["legend", "a"]), told("A 0 | words\nA 1 PID-3 CODE E s\n", 0));
+    // A source that is refused leaves the book alone, also one of 1 MiB and a byte.
+    fs::write(folder.join("a"), text.replace("E s", "E t")).unwrap();
+    let refused = told("refused 45 line 4: it names a set or common that there is not\n", 2);
+    assert_eq!(run(&["compile", "a", "b"]), refused);
+    assert_eq!(run(&["compile", "a", "nowhere/b"]), refused);
+    fs::write(folder.join("a"), [b'\n'; 1_048_577]).unwrap();
+    assert_eq!(run(&["compile", "a", "b"]), told("refused 31: the text has over 1,048,576 bytes\n", 2));
+    assert_eq!(fs::read(folder.join("b")).unwrap(), bytes);
+    fs::write(folder.join("b"), [b"VXB\0\x02".as_slice(), &[0; 65_532]].concat()).unwrap();
+    assert_eq!(run(&["show", "b"]), told("book refused 7: it is no book: malformed\n", 3));
+    assert_eq!(run(&["show", "c"]), told("file cannot be read: c\n", 4));
+    fs::write(folder.join("a"), text).unwrap();
+    assert_eq!(run(&["compile", "a", "nowhere/b"]), told("file cannot be written: nowhere/b\n", 4));
+    let usage = told("usage: book compile SOURCE BOOK | check SOURCE | show BOOK | legend SOURCE\n", 5);
+    for wrong in [["compile", "a"].as_slice(), &[], &["show"], &["check", "a", "b"], &["diff", "a", "b"]] {
+        assert_eq!(run(wrong), usage);
+    }
 }
