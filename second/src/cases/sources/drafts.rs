@@ -41,11 +41,15 @@ const NAMES: [&str; 14] =
 impl Draft {
     /// A source that is not refused.
     pub fn sound(random: &mut Random) -> Self {
+        let count = if random.one_in(60) { 64 } else { random.pick(&[1, 1, 1, 2, 2, 3, 4, 7]) };
+        Draft::of_sections(random, count)
+    }
+
+    pub fn of_sections(random: &mut Random, count: usize) -> Self {
         let sets: Vec<Word> = distinct(random, 6);
         let mut pages: Vec<Vec<Statement>> = sets.iter().map(|name| set(random, name)).collect();
         let commons: Vec<Common> = distinct(random, 5).into_iter().map(|name| common(random, name, &sets)).collect();
         pages.extend(commons.iter().map(Common::page));
-        let count = if random.one_in(60) { 64 } else { random.pick(&[1, 1, 1, 2, 2, 3, 4, 7]) };
         let mut keys = HashSet::new();
         while keys.len() < count {
             let key = near::word(random);

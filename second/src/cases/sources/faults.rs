@@ -10,7 +10,7 @@ pub const NO_SECTION: u8 = 244;
 pub const ROWS: [u8; 25] =
     [31, 32, 33, 34, 35, 36, 37, 38, 39, 40, 41, 42, 43, 44, 45, NO_SECTION, 46, 56, 47, 48, 50, 51, 53, 54, 55];
 /// Those that are about one section.
-const OF_SECTIONS: [u8; 8] = [46, 56, 47, 48, 50, 51, 53, 54];
+pub const OF_SECTIONS: [u8; 8] = [46, 56, 47, 48, 50, 51, 53, 54];
 
 /// The number that is told for a row.
 pub fn number_of(row: u8) -> u8 {

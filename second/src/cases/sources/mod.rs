@@ -103,7 +103,7 @@ impl BookGenerator {
         }
         at -= 2 * BOOK_ROWS.len();
         if let Some(pair) = self.pairs.get(at) {
-            return (paired(random, *pair), Some(*pair));
+            return (paired(random, *pair, true), Some(*pair));
         }
         at -= self.pairs.len();
         match BAD_BOOKS.get(at) {
@@ -124,7 +124,8 @@ impl BookGenerator {
             200..480 => {
                 let pair = random.pick(&self.pairs);
                 let pair = if pair.0 == 31 && !random.one_in(20) { (53, 54) } else { pair };
-                return (paired(random, pair), Some(pair));
+                let together = random.one_in(2);
+                return (paired(random, pair, together), Some(pair));
             }
             480..600 => {
                 let mut text = Draft::sound(random).text(random);
@@ -168,12 +169,17 @@ fn spoilt(random: &mut Random, call: BookCall, row: u8) -> BookCase {
     lend_for(random, case(call, text), row == 55)
 }
 
-/// A source for which both rows hold, in one statement if that can be, and the earlier one is told.
-fn paired(random: &mut Random, (earlier, later): Pair) -> BookCase {
+/// A source for which both rows hold and the earlier one is told; together means in one statement or one section, where
+/// that can be.
+fn paired(random: &mut Random, (earlier, later): Pair, together: bool) -> BookCase {
+    let of_sections = [earlier, later].iter().all(|row| faults::OF_SECTIONS.contains(row));
     loop {
-        let mut draft = Draft::sound(random);
-        let rows = if random.one_in(2) && faults::put_in_one(random, &mut draft, (earlier, later)) {
+        let mut draft = if together && of_sections { Draft::of_sections(random, 1) } else { Draft::sound(random) };
+        let rows = if together && faults::put_in_one(random, &mut draft, (earlier, later)) {
             vec![]
+        } else if of_sections && random.one_in(2) {
+            // What is put in first stands first, mostly.
+            vec![earlier, later]
         } else {
             vec![later, earlier]
         };
@@ -303,8 +309,10 @@ mod tests {
     fn each_pair_can_be_made() {
         let generator = BookGenerator::new(4);
         for (index, pair) in generator.pairs().iter().enumerate() {
-            let case = paired(&mut Random::new(9, index as u64), *pair);
-            assert_eq!(number(&case), number_of(pair.0));
+            for together in [true, false] {
+                let case = paired(&mut Random::new(9, index as u64), *pair, together);
+                assert_eq!(number(&case), number_of(pair.0));
+            }
         }
         for number in BAD_BOOKS {
             assert_eq!(super::tests::number(&bad_book(&mut Random::new(9, 0), number)), number);
