@@ -3,6 +3,7 @@
 use super::drafts::{rule, severity, using, Draft, Standing, Statement, Word, HEADS};
 use crate::booktext::TEXT_LIMIT;
 use crate::cases::Random;
+use std::ops::Range;
 
 /// Row 44 has two conditions; this one stands for a source without sections.
 pub const NO_SECTION: u8 = 244;
@@ -171,7 +172,7 @@ fn bad_code(random: &mut Random, draft: &mut Draft) {
     statement.words.insert(at, code);
 }
 
-/// Spoils a rule in one of its words, or a new one.
+/// A new rule that is spoilt in one of its words, or a `use`.
 fn bad_rule(random: &mut Random, draft: &mut Draft, row: u8) {
     let mut statement = rule(random, &[]);
     if random.one_in(3) {
@@ -347,7 +348,7 @@ fn names(draft: &Draft, head: &str) -> Vec<Word> {
 }
 
 /// A section that is there or a new one.
-fn any_section(random: &mut Random, draft: &mut Draft) -> std::ops::Range<usize> {
+fn any_section(random: &mut Random, draft: &mut Draft) -> Range<usize> {
     loop {
         match draft.page(random, "section") {
             Some(page) => return page,
@@ -368,7 +369,7 @@ fn used_twice(random: &mut Random, draft: &mut Draft) {
 }
 
 /// The rules of a section after inclusion, with those of commons.
-fn included(draft: &Draft, page: std::ops::Range<usize>) -> Vec<Statement> {
+fn included(draft: &Draft, page: Range<usize>) -> Vec<Statement> {
     let mut rules = Vec::new();
     for statement in &draft.statements[page] {
         if statement.is(&["use"]) {

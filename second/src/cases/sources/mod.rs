@@ -320,6 +320,25 @@ mod tests {
     }
 
     #[test]
+    fn no_accepted_text_makes_a_book_that_is_refused() {
+        let generator = BookGenerator::new(5);
+        let mut accepted = 0;
+        for index in 0..generator.firsts() + 1_500 {
+            let given = generator.case(index).0.given;
+            let (compiled, legend) = (booktext::compiled(&given), booktext::legend_of(&given));
+            assert_eq!(compiled.as_ref().err(), legend.as_ref().err());
+            if let Ok(compiled) = compiled {
+                let shown = booktext::shown(&compiled.book).unwrap_or_else(|told| panic!("{told:?}"));
+                // The worst is 59 bytes for 4.
+                assert!(shown.len() <= 15 * compiled.book.len());
+                assert!(booktext::compiled(&shown).is_ok_and(|again| again.book == compiled.book));
+                accepted += 1;
+            }
+        }
+        assert!(accepted > 400, "{accepted}");
+    }
+
+    #[test]
     fn an_index_has_one_book() {
         let (one, other) = (BookGenerator::new(3), BookGenerator::new(3));
         let first = one.firsts();
