@@ -1,5 +1,5 @@
-/* Calls the library as a C program would: the worked example, a refusal at each end, places, other delimiters, a batch. Says what
- * differs. */
+/* Calls the library as a C program would: the worked example, a refusal at each end, places, other delimiters, a batch, a book from
+ * text. Says what differs. */
 #include "../include/jasminedo.h"
 
 #include <stdio.h>
@@ -51,6 +51,32 @@ static void expect_batches(void) {
     expect("what follows the ACKs is left", memcmp(output + length, before, sizeof(output) - length) == 0);
 }
 
+/* A book of one rule, and a text that is refused at its third line. */
+static void expect_books(void) {
+    static const char text[] = "book 1\nsection A\nrule PID-7.1 REQUIRED E\n";
+    static const char unknown[] = "book 1\nsection A\nrules PID-7.1 REQUIRED E\n";
+    static const char book[] = "VXB\0\1\1\1A\0\1\0"
+                               "PID\7\1\1E\0\0\0";
+    const size_t length = sizeof(book) - 1;
+    uint8_t output[40], before[sizeof(output)];
+    memset(output, '.', sizeof(output));
+    memcpy(before, output, sizeof(output));
+
+    uint64_t got = jasminedo_compile(BYTES(unknown), output, sizeof(output));
+    expect("a text with an unknown word is refusal 33 with its line",
+           jasminedo_number(got) == 33 && jasminedo_line(got) == 3 && jasminedo_section(got) == 0);
+    got = jasminedo_compile(BYTES(text), output, length - 1);
+    expect("a book that needs one byte more is refused with its length",
+           jasminedo_number(got) == 55 && jasminedo_line(got) == length && jasminedo_section(got) == 0);
+    expect("a refused text leaves the output", memcmp(output, before, sizeof(output)) == 0);
+
+    got = jasminedo_compile(BYTES(text), output, sizeof(output));
+    expect("a text is compiled with its book's length",
+           jasminedo_number(got) == 0 && jasminedo_line(got) == length && jasminedo_section(got) == 0);
+    expect("the book has its 21 bytes", length == 21 && memcmp(output, book, length) == 0);
+    expect("what follows the book is left", memcmp(output + length, before, sizeof(output) - length) == 0);
+}
+
 int main(void) {
     static const char message[] = "MSH|^~\\&|CAB|C1|REG|AX|20250113115900+0000||VXU^V04^VXU_V04|M1|P|2.5.1\r"
                                   "PID|1||77||ROE^ANN||20240230\r";
@@ -90,6 +116,7 @@ int main(void) {
     expect("a delimiter that stands twice is refusal 4", jasminedo_number(got) == 4);
 
     expect_batches();
+    expect_books();
 
     if (!wrong)
         printf("calling: as expected\n");
