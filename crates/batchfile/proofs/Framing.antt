@@ -1,21 +1,19 @@
 -- Laws of `specs/Frame.antt`, in the words of the code: the counts, the frame segments, where they stand. Assumes nothing.
-use mathlib.Core.Path.{_≡_, refl, sym, ap, ap₂, _∙_}
+use mathlib.Core.Path.{_≡_, refl, ap, ap₂, _∙_}
 use mathlib.Core.Bool.{Bool, true, false, not, _&&_, _||_}
-use mathlib.Core.List.{List, [], _∷_, _++_}
-use Prim.Native.Nat.{ℕ, _+_, _-_, _≤_, _<_, min}
+use mathlib.Core.List.{List, [], _∷_}
+use Prim.Native.Nat.{ℕ, _-_, _<_, min}
 use native.Mathlib.Omega.{arith}
 use native.Mathlib.Decide.{decLt}
-use native.Mathlib.Numerals.{add-one}
 use lib.Dec.{eqb}
-use lib.ListN.{length, getD, take, drop}
-use lib.Seq.{take-all, take-suc}
+use lib.ListN.{length, drop}
 use borrow.Author.Tests.{ne-eqb}
 use Rattle.hl7.specs.Text.{bytes}
 use Rattle.hl7.specs.Bytes.{isDigit, all}
-use Rattle.hl7.specs.Counted.{tooLarge, withDigit}
+use Rattle.hl7.specs.Counted.{tooLarge}
 use Rattle.hl7.specs.Cut.{cut, partAt}
 use Rattle.hl7.specs.Delimiters.{opens}
-use Rattle.hl7.specs.Number.{valueAfter, valueOf}
+use Rattle.hl7.specs.Number.{valueOf}
 use Rattle.hl7.specs.Place.{carriageReturn, delimsOf, segmentOf, fieldOf}
 use Rattle.hl7.specs.Refusals.{isSome, rowAt, firstRow, passes, firstOf, wrongBytes, wrongSegments}
 use Rattle.hl7.specs.Spans.{between, Spans}
@@ -23,38 +21,12 @@ use Rattle.hl7.specs.declared.cut.Span.{Span}
 use Rattle.hl7.specs.declared.place.Delims.{Delims}
 use Rattle.hl7.specs.declared.refusal.Found.{Found}
 use Rattle.hl7.specs.declared.refusal.Found.the-variants.{At, Nothing}
-use Rattle.hl7.proofs.Comparing.{all-last}
-use Rattle.hl7.proofs.Numbering.{value-more}
 use Rattle.batchfile.specs.Messages.{linesOf, gathered, fromFrame}
 use Rattle.batchfile.specs.Frame.{trailerOf, keepsRows, isSegment, isNone, isFramed, isCount, countIn, isCounted}
 use Rattle.batchfile.specs.Walk.{linesAt, gatheredAt, LineEnds, BodyEnds, IsNothing, Framing}
 use Rattle.batchfile.specs.declared.frame.Body.{Body}
 use Rattle.batchfile.specs.declared.frame.Frame.{Frame}
 use Rattle.batchfile.proofs.Gathering.{lines-none}
-
--- ---- digits
--- of the first i bytes, whether all are digits, and their value, as far as values are told apart
-pub record Read (field : List ℕ) (every : Bool) (value i : ℕ) : Type 0 where
-  pub digits : every ≡ all isDigit (take i field)
-  pub counted : value ≡ min (valueOf (take i field)) tooLarge
-
-pub read-none : (field : List ℕ) → Read field true 0 0
-unfolding all valueAfter
-read-none field = record { digits = refl; counted = refl }
-
-module _ (field : List ℕ) {every : Bool} {value i : ℕ} (r : Read field every value i) where
-  pub read-more : {digit : Bool} {next : ℕ} → i < length field → digit ≡ isDigit (getD field i 0) → next ≡ withDigit value (getD field i 0) → Read field (every && digit) next (i + 1)
-  read-more h d n =
-      let more : take (i + 1) field ≡ take i field ++ (getD field i 0 ∷ []) = ap (λ (k : ℕ). take k field) (add-one i) ∙ take-suc field i 0 h in
-      record {
-        digits = rw (more, all-last isDigit (take i field) (getD field i 0), ← r .digits, d);
-        counted = n ∙ value-more 0 (take i field) (getD field i 0) (r .counted) ∙ ap (λ (l : List ℕ). min (valueOf l) tooLarge) (sym more);
-      }
-
-  pub read-all : length field ≤ i → (every ≡ all isDigit field) × (value ≡ min (valueOf field) tooLarge)
-  read-all h =
-      let whole = take-all i field h in
-      (r .digits ∙ ap (all isDigit) whole, r .counted ∙ ap (λ (l : List ℕ). min (valueOf l) tooLarge) whole)
 
 -- ---- counts
 count-told : (v n : ℕ) → n < tooLarge → eqb (min v tooLarge) n ≡ eqb v n

@@ -2,10 +2,9 @@
 use crate::message::is_frame;
 use crate::message::line_end;
 use hl7::bytes::begins_with;
-use hl7::bytes::is_within;
 use hl7::bytes::pick;
 use hl7::delimiters::opens_with;
-use hl7::number::with_digit;
+use hl7::number::read_digits;
 use hl7::place::Delims;
 use hl7::place::field_span;
 use hl7::place::is_msh;
@@ -14,11 +13,9 @@ use hl7::refusal::Found;
 use hl7::refusal::wrong_byte;
 use hl7::refusal::wrong_segment;
 ghost use mathlib.Core.Path.{_≡_};
-ghost use Prim.Native.Nat.{_≤_, _<_, min};
+ghost use Prim.Native.Nat.{_≤_, _<_};
 ghost use lib.ListN.{length};
-ghost use Rattle.hl7.specs.Bytes.{isDigit, all};
 ghost use Rattle.hl7.specs.Counted.{tooLarge};
-ghost use Rattle.hl7.specs.Number.{valueOf};
 ghost use Rattle.hl7.specs.Place.{delimsOf};
 ghost use Rattle.batchfile.specs.Frame.{keepsRows, isSegment, isNone, isFramed, isCount, countIn, isCounted};
 ghost use Rattle.batchfile.specs.Walk.{gatheredAt, BodyEnds, IsNothing, Framing};
@@ -131,26 +128,6 @@ pub(crate) fn is_framed(d: Delims, f: &[u8], frame: Frame) -> bool
 }
 
 // ---- the counts
-// Whether bytes are all digits, and their value, as far as values are told apart.
-struct Digits {
-    all: bool,
-    value: usize,
-}
-
-fn read_digits(field: &[u8]) -> Digits
-    ensures { λ r. ⌜ (r .all ≡ all isDigit (now (field .entry))) × (r .value ≡ min (valueOf (now (field .entry))) tooLarge) ⌝ }
-{
-    let mut all = true;
-    let mut value = 0;
-    let mut i = 0;
-    while i < field.len() {
-        all = all & is_within(field[i], b'0', b'9');
-        value = with_digit(value, field[i]);
-        i += 1;
-    }
-    Digits { all, value }
-}
-
 // Whether a field is empty or n in decimal digits.
 fn is_count(field: &[u8], n: usize) -> bool
     requires { ⌜ n < tooLarge ⌝ }

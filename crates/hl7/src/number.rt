@@ -1,7 +1,10 @@
 // The value of decimal digits, one digit after the other.
+use crate::bytes::is_within;
 ghost use mathlib.Core.Path.{_≡_};
 ghost use Prim.Native.Nat.{_-_, _≤_, min};
+ghost use Rattle.hl7.specs.Bytes.{isDigit, all};
 ghost use Rattle.hl7.specs.Counted.{tooLarge, withDigit};
+ghost use Rattle.hl7.specs.Number.{valueOf};
 
 // One past the largest number of 32 bits.
 pub const TOO_LARGE: usize = 0x1_0000_0000;
@@ -31,4 +34,24 @@ pub fn with_digit(value: usize, digit: u8) -> usize
     ensures { λ r. ⌜ r ≡ withDigit value digit ⌝ }
 {
     capped(10 * capped(value) + digit_value(digit))
+}
+
+// Whether bytes are all digits, and their value, as far as values are told apart.
+pub struct Digits {
+    pub all: bool,
+    pub value: usize,
+}
+
+pub fn read_digits(text: &[u8]) -> Digits
+    ensures { λ r. ⌜ (r .all ≡ all isDigit (now (text .entry))) × (r .value ≡ min (valueOf (now (text .entry))) tooLarge) ⌝ }
+{
+    let mut all = true;
+    let mut value = 0;
+    let mut i = 0;
+    while i < text.len() {
+        all = all & is_within(text[i], b'0', b'9');
+        value = with_digit(value, text[i]);
+        i += 1;
+    }
+    Digits { all, value }
 }

@@ -1,16 +1,16 @@
--- `batchfile::frame::read_digits` meets its contract. The invariant of its loop: what was read so far, and its value, counted. Assumes nothing.
+-- `hl7::number::read_digits` meets its contract. The invariant of its loop: what was read so far, and its value, counted. Assumes nothing.
 use Prim.Native.Nat.{_-_}
 use borrow.Author.Needs.{needs}
 use lib.ListN.{length}
-use Rattle.batchfile.proofs.Framing.{Read, read-none, read-more, read-all}
-use Rattle.batchfile.proofs.frame.read_digits.Statement.{statement}
-use Rattle.batchfile.proofs.frame.read_digits.Tie as tie
+use Rattle.hl7.proofs.Numbering.{Read, read-none, read-more, read-all}
+use Rattle.hl7.proofs.number.read_digits.Statement.{statement}
+use Rattle.hl7.proofs.number.read_digits.Tie as tie
 
 abbrev Inv-loop : tie.InvT-loop
-Inv-loop field all₀ value₀ i₀ every value i = Read field every value i
+Inv-loop text all₀ value₀ i₀ every value i = Read text every value i
 
 abbrev μ-loop : tie.MeasureT-loop
-μ-loop field all₀ value₀ i₀ every value i = length field - i
+μ-loop text all₀ value₀ i₀ every value i = length text - i
 
 loop-holds : tie.Need-loop-holds Inv-loop μ-loop
 loop-holds c = read-none _
