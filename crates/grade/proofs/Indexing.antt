@@ -135,7 +135,7 @@ module _ (b starts : List ℕ) {r : Indexed} (is : Indexes b starts r) where
     none-holds : firstRow (indexRows b) .number ≡ 0
     none-holds = sym (ap (λ (t : Told). t .number) (is .toldIs)) ∙ ap (λ (x : Indexed). indexedTold x .number) of
 
-    sections-read : isFound (sections b headSize) ≡ true
+    pub sections-read : isFound (sections b headSize) ≡ true
     unfolding malformed otherVersion numbersOf apartly isIn
     sections-read =
         let none = none-exactly (indexRows b) refl .0 none-holds in

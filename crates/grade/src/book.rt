@@ -95,7 +95,7 @@ fn keys_distinct(book: &[u8], starts: &[usize]) -> bool
 }
 
 // Where the rules and the sets of the section at a position stand. Rules are all of one size, so nothing is read again.
-fn site_at(book: &[u8], at: usize) -> Section
+pub fn site_at(book: &[u8], at: usize) -> Section
     requires { ⌜ standsAt (now book) at ≡ true ⌝ }
     ensures { λ r. ⌜ r ≡ siteAt (now (book .entry)) at ⌝ }
 {

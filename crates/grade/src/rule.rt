@@ -84,7 +84,7 @@ fn letters(a: u8, b: u8, c: u8) -> u32
 }
 
 // The number of the name with these three letters.
-pub(crate) fn name_of_letters(a: u8, b: u8, c: u8) -> u8
+pub fn name_of_letters(a: u8, b: u8, c: u8) -> u8
     ensures { λ r. ⌜ (r ≡ nameOfLetters a b c) × (r ≤ 11) ⌝ }
 {
     match letters(a, b, c) {
@@ -130,7 +130,7 @@ fn first_field(segment: u8) -> u8
     1
 }
 
-fn place_fits(place: Place) -> bool
+pub fn place_fits(place: Place) -> bool
     ensures { λ r. ⌜ r ≡ placeFits place ⌝ }
 {
     let counted = is_within(place.segment, 1, SEGMENT_COUNT);
@@ -189,7 +189,7 @@ fn unused_zero(kind: Kind, set: u8, low: u8, high: u8) -> bool
     }
 }
 
-fn time_digits(n: u8) -> bool
+pub fn time_digits(n: u8) -> bool
     ensures { λ r. ⌜ r ≡ timeDigits n ⌝ }
 {
     (n == 4) | (n == 6) | (n == 8) | (n == 10) | (n == 12) | (n == 14)
