@@ -15,7 +15,10 @@ use Rattle.ack.specs.declared.refusal.Answer.{Answer}
 use Rattle.ack.proofs.Promises.{answer-bounded}
 use Rattle.batchfile.specs.Batch.{batchOf}
 use Rattle.batchfile.proofs.Bounds.{batch-bounded}
-use Rattle.jasminedo.specs.Packed.{packed, packedPlace, packedSpan}
+use Rattle.booktext.specs.Refusals.{compileOf}
+use Rattle.booktext.specs.declared.told.Told.{Told as BookTold}
+use Rattle.booktext.proofs.Bounds.{compile-small}
+use Rattle.jasminedo.specs.Packed.{packed, packedPlace, packedSpan, packedTold}
 
 -- ---- answers
 packed-back : (t : Told) → t .number < 256 → (packed t % 256 ≡ t .number) × (packed t / 256 ≡ t .detail)
@@ -83,3 +86,19 @@ place-unpacked m n f r c w =
     let long = spans-length w in
     let small = place-small m n f r c w in
     (omega arith, omega arith)
+
+-- ---- texts
+pub compile-unpacked : (t out : List ℕ) → let told = compileOf t out .told in
+    (packedTold told % 256 ≡ told .number) × (packedTold told / 256 % 4294967296 ≡ told .detail) × (packedTold told / 1099511627776 ≡ told .section)
+compile-unpacked t out =
+    let small = compile-small t out in
+    let n = small .number in
+    let d = small .detail in
+    (omega (arith, n, d), omega (arith, n, d), omega (arith, n, d))
+
+module _ (t out : List ℕ) {r : BookTold} {after : List ℕ} (w : (r ≡ compileOf t out .told) × (after ≡ compileOf t out .output)) where
+  pub compiled-small : (r .number ≤ 56) × (r .detail ≤ 1048577) × (r .section ≤ 1048577)
+  compiled-small = let small = compile-small t out in subst (λ (x : BookTold). (x .number ≤ 56) × (x .detail ≤ 1048577) × (x .section ≤ 1048577)) (sym (w .0)) (small .number, small .detail, small .section)
+
+  pub compiled-packed : {code : ℕ} → code ≡ packedTold r → (code ≡ packedTold (compileOf t out .told)) × (after ≡ compileOf t out .output)
+  compiled-packed e = (e ∙ ap packedTold (w .0), w .1)

@@ -3,6 +3,8 @@ use ack::answer::answer;
 use ack::refusal::Answer;
 use ack::refusal::of_reading;
 use batchfile::batch::answer_batch;
+use booktext::compile::compile;
+use booktext::told::Told;
 use hl7::cut::Span;
 use hl7::locate::locate_span;
 use hl7::refusal::check;
@@ -11,7 +13,8 @@ ghost use Prim.Native.Nat.{_≤_, _^_};
 ghost use Rattle.hl7.specs.Refusals.{firstRow, messageRows, located};
 ghost use Rattle.ack.specs.Answers.{answerOf, paper};
 ghost use Rattle.batchfile.specs.Batch.{batchOf};
-ghost use Rattle.jasminedo.specs.Packed.{packed, packedSpan, packedPlace};
+ghost use Rattle.booktext.specs.Refusals.{compileOf};
+ghost use Rattle.jasminedo.specs.Packed.{packed, packedSpan, packedPlace, packedTold};
 
 // The number in the low byte, the detail above.
 fn pack(answer: Answer) -> u64
@@ -19,6 +22,14 @@ fn pack(answer: Answer) -> u64
     ensures { λ r. ⌜ r ≡ packed (paper answer) ⌝ }
 {
     (answer.detail as u64) * 256 + (answer.number as u64)
+}
+
+// The number in the low byte, the detail in the next four, the section's line above.
+fn pack_told(told: Told) -> u64
+    requires { ⌜ (told .number ≤ 56) × (told .detail ≤ 1048577) × (told .section ≤ 1048577) ⌝ }
+    ensures { λ r. ⌜ r ≡ packedTold told ⌝ }
+{
+    (told.section as u64) * 1099511627776 + (told.detail as u64) * 256 + (told.number as u64)
 }
 
 // The length in the low two bytes, the start above.
@@ -73,4 +84,11 @@ pub extern "C" fn jasminedo_locate(
     ensures { λ r. ⌜ r ≡ packedPlace (located (now (message .entry)) segment field repetition component) ⌝ }
 {
     pack_span(locate_span(message, segment, field, repetition, component))
+}
+
+#[no_mangle]
+pub extern "C" fn jasminedo_compile(text: &[u8], output: &mut [u8]) -> u64
+    ensures { λ r. ⌜ (r ≡ packedTold (compileOf (now (text .entry)) (now (output .entry)) .told)) × (now (output .exit) ≡ compileOf (now (text .entry)) (now (output .entry)) .output) ⌝ }
+{
+    pack_told(compile(text, output))
 }

@@ -2,10 +2,12 @@
 //
 // A number has four bytes, the high byte first. A case is its kind (1 a message, 2 a batch file), the length of the message or file, its
 // bytes, book length, book, stamp length, stamp, control number, output length. A message's case goes on with a place: segment, field,
-// repetition, component.
+// repetition, component. A case of kind 3 is a text that is compiled: its length, its bytes, output length.
 use ack::answer::answer;
 use ack::refusal::Answer;
 use batchfile::batch::answer_batch;
+use booktext::compile::compile;
+use booktext::told::Told;
 use hl7::bytes::front;
 use hl7::bytes::pick;
 use hl7::bytes::wide;
@@ -18,6 +20,8 @@ ghost use Rattle.samples.specs.Pack.{numberOf};
 const MESSAGE: u32 = 1;
 
 const BATCH: u32 = 2;
+
+const TEXT: u32 = 3;
 
 // A number of the pack: how many of its bytes there were, and its value.
 struct Number {
@@ -179,14 +183,60 @@ fn run_case(fd: i32, kind: u32) -> bool {
     false
 }
 
+// Prints number, detail and section on a line.
+fn print_told(told: Told) {
+    io::print_decimal(STDOUT_FILENO, told.number as u64);
+    io::write_all(STDOUT_FILENO, b" ");
+    io::print_decimal(STDOUT_FILENO, told.detail as u64);
+    io::write_all(STDOUT_FILENO, b" ");
+    io::print_decimal(STDOUT_FILENO, told.section as u64);
+    io::write_all(STDOUT_FILENO, b"\n");
+}
+
+// Compiles a text with the first so many bytes of out lent, and prints the answer and the book. Answers whether there are so many.
+fn print_compiled(text: &[u8], out: &mut [u8], length: usize) -> bool {
+    if out.len() < length {
+        return false;
+    }
+    let told = compile(text, &mut out[0..length]);
+    print_told(told);
+    if told.number == 0 {
+        io::write_all(STDOUT_FILENO, front(out, told.detail));
+        io::write_all(STDOUT_FILENO, b"\n");
+    }
+    true
+}
+
+// A text's case. Answers whether it is whole.
+fn run_text(fd: i32) -> bool {
+    let mut text = [0u8; 131072];
+    let part = read_part(fd, &mut text);
+    let length = read_number(fd);
+    if part.whole & (length.count == 4) {
+        return print_compiled(
+            front(&text, part.length),
+            &mut [0u8; 131072],
+            length.value as usize,
+        );
+    }
+    false
+}
+
+// A case of any kind. Answers whether it is whole, and of a kind that there is.
+fn run_kind(fd: i32, kind: u32) -> bool {
+    if kind == TEXT {
+        return run_text(fd);
+    }
+    ((kind == MESSAGE) | (kind == BATCH)) && run_case(fd, kind)
+}
+
 // The next case, if there is one. Answers whether to go on.
 fn run_next(fd: i32) -> bool {
     let kind = read_number(fd);
     if kind.count == 0 {
         return false;
     }
-    let is_known = (kind.value == MESSAGE) | (kind.value == BATCH);
-    let is_whole = is_known && run_case(fd, kind.value);
+    let is_whole = run_kind(fd, kind.value);
     if !is_whole {
         io::write_all(STDOUT_FILENO, b"bad pack\n");
     }
