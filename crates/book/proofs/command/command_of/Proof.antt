@@ -1,0 +1,30 @@
+-- `book::command::command_of` meets its contract. Assumes nothing.
+use borrow.Author.Needs.{needs}
+use Rattle.book.proofs.Replying.{command-compile, command-check, command-unknown}
+use Rattle.book.proofs.command.command_of.Statement.{statement}
+use Rattle.book.proofs.command.command_of.Tie as tie
+
+returns : tie.Need-returns
+returns c = command-compile _ _ (c .before .same-bytes .ensures) (c .if1 .taken)
+
+returns-2 : tie.Need-returns-2
+returns-2 c =
+    let first = c .before .before .before in
+    command-check _ _ (first .before .same-bytes .ensures) (first .if1 .left) (c .before .same-bytes2 .ensures) (c .if2 .taken)
+
+returns-3 : tie.Need-returns-3
+returns-3 c =
+    let first = c .before .before .before in
+    command-unknown _ _ (first .before .same-bytes .ensures) (first .if1 .left) (c .before .same-bytes2 .ensures) (c .if2 .left)
+
+pub command-of-spec : {M : Type 1} → statement M
+command-of-spec =
+    tie.close
+    (tie.spec
+    (λ c. search needs)
+    (λ c κs. tt)
+    returns
+    (λ c. search needs)
+    (λ c κs. tt)
+    returns-2
+    returns-3)

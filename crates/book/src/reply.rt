@@ -1,0 +1,83 @@
+// The line that the program prints.
+use crate::counts::Counts;
+use crate::counts::counts_of;
+use crate::words::put_words;
+use ack::output::put;
+use ack::output::put_byte;
+use ack::output::put_number;
+use booktext::told::Told;
+ghost use Rattle.ack.specs.Splice.{Wrote};
+ghost use Rattle.book.specs.Reply.{lineText, refusedText, compiledText, toldText, fileText, usageText};
+ghost use Rattle.book.specs.Standing.{newName};
+
+// A word, and the number of a line after it, where there is one.
+fn put_line(out: &mut [u8], at: usize, word: &[u8], line: usize) -> usize
+    ensures { λ r. ⌜ Wrote (now (out .entry)) at (lineText (now (word .entry)) line) (now (out .exit)) r ⌝ }
+{
+    if line == 0 {
+        return put(out, at, b"");
+    }
+    let next = put(out, at, word);
+    put_number(out, next, b' ', line)
+}
+
+fn put_refused(out: &mut [u8], number: usize, line: usize, section: usize) -> usize
+    ensures { λ r. ⌜ Wrote (now (out .entry)) 0 (refusedText number line section) (now (out .exit)) r ⌝ }
+{
+    let a = put(out, 0, b"refused");
+    let b = put_number(out, a, b' ', number);
+    let c = put_line(out, b, b" line", line);
+    let d = put_line(out, c, b" section", section);
+    let e = put(out, d, b": ");
+    let f = put_words(out, e, number);
+    put_byte(out, f, b'\n')
+}
+
+fn put_counts(out: &mut [u8], size: usize, counts: Counts) -> usize
+    ensures { λ r. ⌜ Wrote (now (out .entry)) 0 (compiledText size (counts .sections) (counts .rules) (counts .sets)) (now (out .exit)) r ⌝ }
+{
+    let a = put(out, 0, b"compiled");
+    let b = put_number(out, a, b' ', size);
+    let c = put(out, b, b" bytes,");
+    let d = put_number(out, c, b' ', counts.sections);
+    let e = put(out, d, b" sections,");
+    let f = put_number(out, e, b' ', counts.rules);
+    let g = put(out, f, b" rules,");
+    let h = put_number(out, g, b' ', counts.sets);
+    put(out, h, b" sets\n")
+}
+
+// What compiling told; with number 0 this is the book that it made.
+pub(crate) fn put_told(out: &mut [u8], told: Told, book: &[u8]) -> usize
+    ensures { λ r. ⌜ Wrote (now (out .entry)) 0 (toldText told (now (book .entry))) (now (out .exit)) r ⌝ }
+{
+    if told.number == 0 {
+        return put_counts(out, told.detail, counts_of(book));
+    }
+    put_refused(out, told.number, told.detail, told.section)
+}
+
+// A file by its path, and what cannot be done with it.
+pub(crate) fn put_file(out: &mut [u8], what: &[u8], path: &[u8]) -> usize
+    ensures { λ r. ⌜ Wrote (now (out .entry)) 0 (fileText (now (what .entry)) (now (path .entry))) (now (out .exit)) r ⌝ }
+{
+    let a = put(out, 0, b"file cannot be ");
+    let b = put(out, a, what);
+    let c = put(out, b, b": ");
+    let d = put(out, c, path);
+    put_byte(out, d, b'\n')
+}
+
+pub(crate) fn put_usage(out: &mut [u8]) -> usize
+    ensures { λ r. ⌜ Wrote (now (out .entry)) 0 usageText (now (out .exit)) r ⌝ }
+{
+    put(out, 0, b"usage: book compile SOURCE BOOK | check SOURCE\n")
+}
+
+// The name of a new file beside a path; the six letters are replaced when it is made.
+pub(crate) fn put_new_name(out: &mut [u8], path: &[u8]) -> usize
+    ensures { λ r. ⌜ Wrote (now (out .entry)) 0 (newName (now (path .entry))) (now (out .exit)) r ⌝ }
+{
+    let a = put(out, 0, path);
+    put(out, a, b".XXXXXX")
+}
