@@ -33,7 +33,8 @@ pub trait Library {
 pub fn compare(ours: &mut dyn Library, seed: u64, cases: u64, limit: Duration) -> Result<bool, String> {
     let generator = AllCases::new(seed);
     let start = Instant::now();
-    let in_time = (0..cases).take_while(|_| start.elapsed() < limit);
+    // The first cases hold all that has to be hit, so the clock cuts only those after them short.
+    let in_time = (0..cases).take_while(|&index| index < generator.firsts() || start.elapsed() < limit);
     let run = Run::of(ours, in_time.map(|index| generator.case(index)), &format!("seed {seed}"))?;
     let covered = run.coverage.print();
     if !run.failed.is_empty() {
