@@ -15,7 +15,7 @@ use Rattle.hl7.proofs.Comparing.{and-both, all-at, rest-at}
 use Rattle.grade.specs.declared.book.Indexed.{Indexed}
 use Rattle.grade.specs.declared.walk.Section.{Section}
 use Rattle.grade.specs.Limits.{ruleLimit, setLimit, sectionLimit}
-use Rattle.grade.specs.Book.{Contents, decoded, malformed, otherVersion, codeSet, ruleIn}
+use Rattle.grade.specs.Book.{decoded, malformed, otherVersion, codeSet, ruleIn}
 use Rattle.grade.specs.Admission.{indexedTold}
 use Rattle.grade.specs.Standing.{standsAt, contentsAt, siteAt, Indexes}
 use Rattle.grade.proofs.Readings.{row-length}
@@ -24,7 +24,6 @@ use Rattle.grade.proofs.Opening.{sections-started}
 use Rattle.grade.proofs.Indexing.{sections-read, index-fits, index-stand}
 use Rattle.book.specs.Counts.{sectionsIn, ruleTotal, setTotal}
 use Rattle.book.specs.Standing.{countsOf}
-use Rattle.book.specs.declared.counts.Counts.{Counts}
 
 -- ---- one section: the counts that its bytes say are those of what it says
 record Counted (b : List ℕ) (at : ℕ) : Type 0 where

@@ -1,5 +1,5 @@
 -- Laws of `specs/Command.antt`, `specs/Words.antt` and `specs/Reply.antt`, in the words of the code. Assumes nothing.
-use mathlib.Core.Path.{_≡_, sym, ap, _∙_}
+use mathlib.Core.Path.{_≡_}
 use mathlib.Core.Bool.{Bool, true, false, _&&_}
 use mathlib.Core.List.{List, [], _∷_, _++_}
 use Prim.Native.Nat.{ℕ}
@@ -13,7 +13,7 @@ use Rattle.book.specs.declared.command.Command.{Command}
 use Rattle.book.specs.declared.counts.Counts.{Counts}
 use Rattle.book.specs.Command.{commandOf}
 use Rattle.book.specs.Counts.{sectionsIn}
-use Rattle.book.specs.Words.{wordsFor}
+use Rattle.book.specs.Words.{laterWords, wordsFor}
 use Rattle.book.specs.Reply.{lineText, refusedText, compiledText, toldText}
 use Rattle.book.specs.Standing.{countsOf}
 
@@ -33,10 +33,21 @@ module _ (count : ℕ) (verb : List ℕ) {first : Bool} (e : first ≡ same verb
     command-unknown t = rw (← e, f, ← g, t)
 
 -- ---- a refusal
-pub words-other : (n : ℕ) → (n ≡ 31 → ⊥) → (n ≡ 32 → ⊥) → (n ≡ 33 → ⊥) → (n ≡ 34 → ⊥) → (n ≡ 35 → ⊥) → (n ≡ 36 → ⊥) → (n ≡ 37 → ⊥) → (n ≡ 38 → ⊥) → (n ≡ 39 → ⊥) → (n ≡ 40 → ⊥) → (n ≡ 41 → ⊥) → (n ≡ 42 → ⊥) → (n ≡ 43 → ⊥) → (n ≡ 44 → ⊥) → (n ≡ 45 → ⊥) → (n ≡ 46 → ⊥) → (n ≡ 47 → ⊥) → (n ≡ 48 → ⊥) → (n ≡ 50 → ⊥) → (n ≡ 51 → ⊥) → (n ≡ 53 → ⊥) → (n ≡ 54 → ⊥) → (n ≡ 55 → ⊥) → (n ≡ 56 → ⊥) → wordsFor n ≡ []
+pub words-none : (n : ℕ) →
+    (n ≡ 43 → ⊥) → (n ≡ 44 → ⊥) → (n ≡ 45 → ⊥) → (n ≡ 46 → ⊥) → (n ≡ 47 → ⊥) → (n ≡ 48 → ⊥) →
+    (n ≡ 50 → ⊥) → (n ≡ 51 → ⊥) → (n ≡ 53 → ⊥) → (n ≡ 54 → ⊥) → (n ≡ 55 → ⊥) → (n ≡ 56 → ⊥) →
+    laterWords n ≡ []
+unfolding laterWords
+words-none n h43 h44 h45 h46 h47 h48 h50 h51 h53 h54 h55 h56 =
+    rw (ne-eqb n 43 h43, ne-eqb n 44 h44, ne-eqb n 45 h45, ne-eqb n 46 h46, ne-eqb n 47 h47, ne-eqb n 48 h48, ne-eqb n 50 h50, ne-eqb n 51 h51, ne-eqb n 53 h53, ne-eqb n 54 h54, ne-eqb n 55 h55, ne-eqb n 56 h56)
+
+pub words-later : (n : ℕ) →
+    (n ≡ 31 → ⊥) → (n ≡ 32 → ⊥) → (n ≡ 33 → ⊥) → (n ≡ 34 → ⊥) → (n ≡ 35 → ⊥) → (n ≡ 36 → ⊥) →
+    (n ≡ 37 → ⊥) → (n ≡ 38 → ⊥) → (n ≡ 39 → ⊥) → (n ≡ 40 → ⊥) → (n ≡ 41 → ⊥) → (n ≡ 42 → ⊥) →
+    wordsFor n ≡ laterWords n
 unfolding wordsFor
-words-other n h31 h32 h33 h34 h35 h36 h37 h38 h39 h40 h41 h42 h43 h44 h45 h46 h47 h48 h50 h51 h53 h54 h55 h56 =
-    rw (ne-eqb n 31 h31, ne-eqb n 32 h32, ne-eqb n 33 h33, ne-eqb n 34 h34, ne-eqb n 35 h35, ne-eqb n 36 h36, ne-eqb n 37 h37, ne-eqb n 38 h38, ne-eqb n 39 h39, ne-eqb n 40 h40, ne-eqb n 41 h41, ne-eqb n 42 h42, ne-eqb n 43 h43, ne-eqb n 44 h44, ne-eqb n 45 h45, ne-eqb n 46 h46, ne-eqb n 47 h47, ne-eqb n 48 h48, ne-eqb n 50 h50, ne-eqb n 51 h51, ne-eqb n 53 h53, ne-eqb n 54 h54, ne-eqb n 55 h55, ne-eqb n 56 h56)
+words-later n h31 h32 h33 h34 h35 h36 h37 h38 h39 h40 h41 h42 =
+    rw (ne-eqb n 31 h31, ne-eqb n 32 h32, ne-eqb n 33 h33, ne-eqb n 34 h34, ne-eqb n 35 h35, ne-eqb n 36 h36, ne-eqb n 37 h37, ne-eqb n 38 h38, ne-eqb n 39 h39, ne-eqb n 40 h40, ne-eqb n 41 h41, ne-eqb n 42 h42)
 
 module _ (word : List ℕ) (line : ℕ) where
   pub line-none : line ≡ 0 → [] ≡ lineText word line

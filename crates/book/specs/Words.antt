@@ -5,6 +5,22 @@ use mathlib.Core.List.{List, []}
 use lib.Dec.{eqb}
 use Rattle.hl7.specs.Text.{bytes}
 
+-- of those that look at more than the text's bytes and a statement by itself
+unfoldable pub laterWords : ℕ → List ℕ
+laterWords n =
+    cond (eqb n 43) (bytes "an earlier one has this name or key")
+    (cond (eqb n 44) (bytes "there are no sections, or over 64")
+    (cond (eqb n 45) (bytes "it names a set or common that there is not")
+    (cond (eqb n 46) (bytes "the section has used this common before")
+    (cond (eqb n 47) (bytes "the section has a rule of this place and kind: write also for a further one")
+    (cond (eqb n 48) (bytes "the section has no rule of this place and kind yet: write rule")
+    (cond (eqb n 50) (bytes "the section has over 256 rules")
+    (cond (eqb n 51) (bytes "the section holds over 64 sets")
+    (cond (eqb n 53) (bytes "the set has no code, or over 1,024")
+    (cond (eqb n 54) (bytes "the book has over 65,536 bytes, counted up to this section")
+    (cond (eqb n 55) (bytes "the output is too short")
+    (cond (eqb n 56) (bytes "the section has over 2,048 statements, with those it takes over") [])))))))))))
+
 unfoldable pub wordsFor : ℕ → List ℕ
 wordsFor n =
     cond (eqb n 31) (bytes "the text has over 1,048,576 bytes")
@@ -18,16 +34,4 @@ wordsFor n =
     (cond (eqb n 39) (bytes "not a place: SEGMENT-FIELD or SEGMENT-FIELD.COMPONENT")
     (cond (eqb n 40) (bytes "not a kind: REQUIRED, LENGTH, NUMBER, DATE, TIME or CODE")
     (cond (eqb n 41) (bytes "not a severity: E, W or I")
-    (cond (eqb n 42) (bytes "the bound does not fit the kind")
-    (cond (eqb n 43) (bytes "an earlier one has this name or key")
-    (cond (eqb n 44) (bytes "there are no sections, or over 64")
-    (cond (eqb n 45) (bytes "it names a set or common that there is not")
-    (cond (eqb n 46) (bytes "the section has used this common before")
-    (cond (eqb n 47) (bytes "the section has a rule of this place and kind: write also for a further one")
-    (cond (eqb n 48) (bytes "the section has no rule of this place and kind yet: write rule")
-    (cond (eqb n 50) (bytes "the section has over 256 rules")
-    (cond (eqb n 51) (bytes "the section holds over 64 sets")
-    (cond (eqb n 53) (bytes "the set has no code, or over 1,024")
-    (cond (eqb n 54) (bytes "the book has over 65,536 bytes, counted up to this section")
-    (cond (eqb n 55) (bytes "the output is too short")
-    (cond (eqb n 56) (bytes "the section has over 2,048 statements, with those it takes over") [])))))))))))))))))))))))
+    (cond (eqb n 42) (bytes "the bound does not fit the kind") (laterWords n))))))))))))

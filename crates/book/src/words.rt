@@ -1,36 +1,13 @@
 // The words for a refusal's number.
 use ack::output::put;
 ghost use Rattle.ack.specs.Splice.{Wrote};
-ghost use Rattle.book.specs.Words.{wordsFor};
+ghost use Rattle.book.specs.Words.{laterWords, wordsFor};
 
-pub(crate) fn put_words(out: &mut [u8], at: usize, number: usize) -> usize
-    ensures { λ r. ⌜ Wrote (now (out .entry)) at (wordsFor number) (now (out .exit)) r ⌝ }
+// Of those that look at more than the text's bytes and a statement by itself.
+fn put_later_words(out: &mut [u8], at: usize, number: usize) -> usize
+    ensures { λ r. ⌜ Wrote (now (out .entry)) at (laterWords number) (now (out .exit)) r ⌝ }
 {
     match number {
-        31 => put(out, at, b"the text has over 1,048,576 bytes"),
-        32 => put(
-            out,
-            at,
-            b"a byte that is not allowed: only ASCII signs, blanks, tabs and line ends are",
-        ),
-        33 => put(out, at, b"the first word is no statement's name"),
-        34 => put(out, at, b"this statement may not stand here"),
-        35 => put(out, at, b"too few or too many words"),
-        36 => put(out, at, b"the version is not 1"),
-        37 => put(out, at, b"not a key: 1 to 20 signs, none of | ^ ~ \\ &"),
-        38 => put(out, at, b"not a code: 1 to 20 signs, none of | ^ ~ \\ &"),
-        39 => put(
-            out,
-            at,
-            b"not a place: SEGMENT-FIELD or SEGMENT-FIELD.COMPONENT",
-        ),
-        40 => put(
-            out,
-            at,
-            b"not a kind: REQUIRED, LENGTH, NUMBER, DATE, TIME or CODE",
-        ),
-        41 => put(out, at, b"not a severity: E, W or I"),
-        42 => put(out, at, b"the bound does not fit the kind"),
         43 => put(out, at, b"an earlier one has this name or key"),
         44 => put(out, at, b"there are no sections, or over 64"),
         45 => put(out, at, b"it names a set or common that there is not"),
@@ -60,5 +37,37 @@ pub(crate) fn put_words(out: &mut [u8], at: usize, number: usize) -> usize
             b"the section has over 2,048 statements, with those it takes over",
         ),
         _ => put(out, at, b""),
+    }
+}
+
+pub(crate) fn put_words(out: &mut [u8], at: usize, number: usize) -> usize
+    ensures { λ r. ⌜ Wrote (now (out .entry)) at (wordsFor number) (now (out .exit)) r ⌝ }
+{
+    match number {
+        31 => put(out, at, b"the text has over 1,048,576 bytes"),
+        32 => put(
+            out,
+            at,
+            b"a byte that is not allowed: only ASCII signs, blanks, tabs and line ends are",
+        ),
+        33 => put(out, at, b"the first word is no statement's name"),
+        34 => put(out, at, b"this statement may not stand here"),
+        35 => put(out, at, b"too few or too many words"),
+        36 => put(out, at, b"the version is not 1"),
+        37 => put(out, at, b"not a key: 1 to 20 signs, none of | ^ ~ \\ &"),
+        38 => put(out, at, b"not a code: 1 to 20 signs, none of | ^ ~ \\ &"),
+        39 => put(
+            out,
+            at,
+            b"not a place: SEGMENT-FIELD or SEGMENT-FIELD.COMPONENT",
+        ),
+        40 => put(
+            out,
+            at,
+            b"not a kind: REQUIRED, LENGTH, NUMBER, DATE, TIME or CODE",
+        ),
+        41 => put(out, at, b"not a severity: E, W or I"),
+        42 => put(out, at, b"the bound does not fit the kind"),
+        _ => put_later_words(out, at, number),
     }
 }

@@ -3,15 +3,16 @@ use mathlib.Core.Path.{sym}
 use borrow.Author.Needs.{needs}
 use Rattle.ack.proofs.Writing.{wrote-as}
 use Rattle.book.specs.Words.{wordsFor}
-use Rattle.book.proofs.Replying.{words-other}
+use Rattle.book.proofs.Replying.{words-later}
 use Rattle.book.proofs.words.put_words.Statement.{statement}
 use Rattle.book.proofs.words.put_words.Tie as tie
 
-returns-25 : tie.Need-returns-25
-returns-25 c =
+returns-13 : tie.Need-returns-13
+returns-13 c =
     let at-put = c .before .before in
-    let others = at-put .before .before .before .match .rest in
-    wrote-as (at-put .put25 .ensures) (sym (words-other _ (others .0 .0 .0 .0 .0 .0 .0 .0 .0 .0 .0 .0 .0 .0 .0 .0 .0 .0 .0 .0 .0 .0 .0 .1) (others .0 .0 .0 .0 .0 .0 .0 .0 .0 .0 .0 .0 .0 .0 .0 .0 .0 .0 .0 .0 .0 .0 .1) (others .0 .0 .0 .0 .0 .0 .0 .0 .0 .0 .0 .0 .0 .0 .0 .0 .0 .0 .0 .0 .0 .1) (others .0 .0 .0 .0 .0 .0 .0 .0 .0 .0 .0 .0 .0 .0 .0 .0 .0 .0 .0 .0 .1) (others .0 .0 .0 .0 .0 .0 .0 .0 .0 .0 .0 .0 .0 .0 .0 .0 .0 .0 .0 .1) (others .0 .0 .0 .0 .0 .0 .0 .0 .0 .0 .0 .0 .0 .0 .0 .0 .0 .0 .1) (others .0 .0 .0 .0 .0 .0 .0 .0 .0 .0 .0 .0 .0 .0 .0 .0 .0 .1) (others .0 .0 .0 .0 .0 .0 .0 .0 .0 .0 .0 .0 .0 .0 .0 .0 .1) (others .0 .0 .0 .0 .0 .0 .0 .0 .0 .0 .0 .0 .0 .0 .0 .1) (others .0 .0 .0 .0 .0 .0 .0 .0 .0 .0 .0 .0 .0 .0 .1) (others .0 .0 .0 .0 .0 .0 .0 .0 .0 .0 .0 .0 .0 .1) (others .0 .0 .0 .0 .0 .0 .0 .0 .0 .0 .0 .0 .1) (others .0 .0 .0 .0 .0 .0 .0 .0 .0 .0 .0 .1) (others .0 .0 .0 .0 .0 .0 .0 .0 .0 .0 .1) (others .0 .0 .0 .0 .0 .0 .0 .0 .0 .1) (others .0 .0 .0 .0 .0 .0 .0 .0 .1) (others .0 .0 .0 .0 .0 .0 .0 .1) (others .0 .0 .0 .0 .0 .0 .1) (others .0 .0 .0 .0 .0 .1) (others .0 .0 .0 .0 .1) (others .0 .0 .0 .1) (others .0 .0 .1) (others .0 .1) (others .1)))
+    let others = at-put .before .before .match .rest in
+    wrote-as (at-put .put-later-words .ensures)
+    (sym (words-later _ (others .0 .0 .0 .0 .0 .0 .0 .0 .0 .0 .0 .1) (others .0 .0 .0 .0 .0 .0 .0 .0 .0 .0 .1) (others .0 .0 .0 .0 .0 .0 .0 .0 .0 .1) (others .0 .0 .0 .0 .0 .0 .0 .0 .1) (others .0 .0 .0 .0 .0 .0 .0 .1) (others .0 .0 .0 .0 .0 .0 .1) (others .0 .0 .0 .0 .0 .1) (others .0 .0 .0 .0 .1) (others .0 .0 .0 .1) (others .0 .0 .1) (others .0 .1) (others .1)))
 
 pub put-words-spec : {M : Type 1} → statement M
 unfolding wordsFor
@@ -30,19 +31,7 @@ put-words-spec =
     (λ c. search needs) (λ c κs. tt)
     (λ c. search needs) (λ c κs. tt)
     (λ c. search needs) (λ c κs. tt)
-    (λ c. search needs) (λ c κs. tt)
-    (λ c. search needs) (λ c κs. tt)
-    (λ c. search needs) (λ c κs. tt)
-    (λ c. search needs) (λ c κs. tt)
-    (λ c. search needs) (λ c κs. tt)
-    (λ c. search needs) (λ c κs. tt)
-    (λ c. search needs) (λ c κs. tt)
-    (λ c. search needs) (λ c κs. tt)
-    (λ c. search needs) (λ c κs. tt)
-    (λ c. search needs) (λ c κs. tt)
-    (λ c. search needs) (λ c κs. tt)
-    (λ c. search needs) (λ c κs. tt)
-    (λ c. search needs) (λ c κs. tt)
+    (λ c κs. tt)
     (λ c. search needs) (λ c. rw (c .before .before .before .before .before .match .keys1) (c .before .before .put .ensures))
     (λ c. search needs) (λ c. rw (c .before .before .before .before .before .match .keys2) (c .before .before .put2 .ensures))
     (λ c. search needs) (λ c. rw (c .before .before .before .before .before .match .keys3) (c .before .before .put3 .ensures))
@@ -55,16 +44,4 @@ put-words-spec =
     (λ c. search needs) (λ c. rw (c .before .before .before .before .before .match .keys10) (c .before .before .put10 .ensures))
     (λ c. search needs) (λ c. rw (c .before .before .before .before .before .match .keys11) (c .before .before .put11 .ensures))
     (λ c. search needs) (λ c. rw (c .before .before .before .before .before .match .keys12) (c .before .before .put12 .ensures))
-    (λ c. search needs) (λ c. rw (c .before .before .before .before .before .match .keys13) (c .before .before .put13 .ensures))
-    (λ c. search needs) (λ c. rw (c .before .before .before .before .before .match .keys14) (c .before .before .put14 .ensures))
-    (λ c. search needs) (λ c. rw (c .before .before .before .before .before .match .keys15) (c .before .before .put15 .ensures))
-    (λ c. search needs) (λ c. rw (c .before .before .before .before .before .match .keys16) (c .before .before .put16 .ensures))
-    (λ c. search needs) (λ c. rw (c .before .before .before .before .before .match .keys17) (c .before .before .put17 .ensures))
-    (λ c. search needs) (λ c. rw (c .before .before .before .before .before .match .keys18) (c .before .before .put18 .ensures))
-    (λ c. search needs) (λ c. rw (c .before .before .before .before .before .match .keys19) (c .before .before .put19 .ensures))
-    (λ c. search needs) (λ c. rw (c .before .before .before .before .before .match .keys20) (c .before .before .put20 .ensures))
-    (λ c. search needs) (λ c. rw (c .before .before .before .before .before .match .keys21) (c .before .before .put21 .ensures))
-    (λ c. search needs) (λ c. rw (c .before .before .before .before .before .match .keys22) (c .before .before .put22 .ensures))
-    (λ c. search needs) (λ c. rw (c .before .before .before .before .before .match .keys23) (c .before .before .put23 .ensures))
-    (λ c. search needs) (λ c. rw (c .before .before .before .before .before .match .keys24) (c .before .before .put24 .ensures))
-    (λ c. search needs) returns-25)
+    (λ c. search needs) returns-13)
