@@ -83,7 +83,7 @@ fn put_decimal(out: &mut [u8], at: usize, n: usize) -> usize
 }
 
 // A mark, and then all of bytes.
-pub(crate) fn put_field(out: &mut [u8], at: usize, mark: u8, bytes: &[u8]) -> usize
+pub fn put_field(out: &mut [u8], at: usize, mark: u8, bytes: &[u8]) -> usize
     ensures { λ r. ⌜ Wrote (now (out .entry)) at (mark ∷ now (bytes .entry)) (now (out .exit)) r ⌝ }
 {
     let next = put_byte(out, at, mark);

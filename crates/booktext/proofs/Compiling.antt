@@ -7,7 +7,7 @@ use native.Mathlib.Omega.{arith}
 use lib.Dec.{eqb, ltb}
 use lib.ListN.{length, take, drop}
 use lib.Seq.{take-append-seam}
-use borrow.Author.Tests.{eqb-true, eq-eqb, ne-eqb, ltb-false, lt-ltb, le-ltb}
+use borrow.Author.Tests.{eqb-true, eq-eqb, ne-eqb, ltb-false}
 use Rattle.hl7.specs.Text.{bytes}
 use Rattle.hl7.proofs.Comparing.{and-both}
 use Rattle.grade.specs.Book.{Contents}
@@ -18,11 +18,12 @@ use Rattle.ack.proofs.Writing.{wrote-as, wrote-length, wrote-at-start, _then_}
 use Rattle.booktext.specs.Lines.{Statement, verb, says, statements, lineOf, textLimit, aSection}
 use Rattle.booktext.specs.Contents.{sectionOf, sectionsIn, meaning}
 use Rattle.booktext.specs.Faults.{tell, nothing, firstly, firstFault}
-use Rattle.booktext.specs.Refusals.{wrongAt, bytesTold, firstNameFault, sectionTold, sectionsTold, beginning, namedTold, refusal, Outcome, outcome, written, compiled, compileOf}
+use Rattle.booktext.specs.Refusals.{wrongAt, bytesTold, firstNameFault, sectionTold, sectionsTold, beginning, namedTold, refusal, outcome, written, unlessRefused, compiled, compileOf}
 use Rattle.booktext.specs.Standing.{statementAt, nextLine, left, Finds, sound, Puts, MakesBy}
 use Rattle.booktext.specs.declared.told.Told.{Told}
 use Rattle.booktext.specs.declared.sets.Put.{Put}
 use Rattle.booktext.proofs.Completing.{Completes, completes-more, completes-over}
+use Rattle.booktext.proofs.Answering.{written-short, written-done}
 use Rattle.booktext.proofs.Stating.{left-start, onward, onward-none, onward-some, found-onward}
 use Rattle.booktext.proofs.Faulting.{sound-all}
 use Rattle.booktext.proofs.Forming.{section-passed, sizes-fit}
@@ -249,51 +250,52 @@ module _ (t : List ℕ) {first : Told} (e : first ≡ bytesTold t) where
 
 -- ---- compiling
 module _ (t place : List ℕ) {made : Told} (m : MakesBy (refusal t) t made place) where
+  -- whatever was to be written of the text
+  pub refused-as : (result out : List ℕ) → (made .number ≡ 0 → ⊥) → (made ≡ unlessRefused (refusal t) result out .told) × (out ≡ unlessRefused (refusal t) result out .output)
+  refused-as result out n = by (eqb (refusal t .number) 0) (m .tells)
+    where
+      by : (b : Bool) → made ≡ cond b (tell 0 (length (compiled t)) 0) (refusal t)
+          → (made ≡ cond b (written result out) (outcome (refusal t) out) .told) × (out ≡ cond b (written result out) (outcome (refusal t) out) .output)
+      by true e = absurd (n (numbers e))
+      by false e = (e, refl)
+
   abbrev Compiles : (out : List ℕ) → Told → List ℕ → Type 0
   Compiles out r after = (r ≡ compileOf t out .told) × (after ≡ compileOf t out .output)
 
   pub compile-refused : (out : List ℕ) → (made .number ≡ 0 → ⊥) → Compiles out made out
   unfolding compileOf
-  compile-refused out n = by (eqb (refusal t .number) 0) (m .tells)
-    where
-      by : (b : Bool) → made ≡ cond b (tell 0 (length (compiled t)) 0) (refusal t)
-          → (made ≡ cond b (written (compiled t) out) (outcome (refusal t) out) .told) × (out ≡ cond b (written (compiled t) out) (outcome (refusal t) out) .output)
-      by true e = absurd (n (numbers e))
-      by false e = (e, refl)
+  compile-refused out n = refused-as (compiled t) out n
 
   module _ (h : made .number ≡ 0) where
-    none-refused : eqb (refusal t .number) 0 ≡ true
+    pub none-refused : refusal t .number ≡ 0
     none-refused = by (eqb (refusal t .number) 0) refl (m .tells)
       where
-        by : (b : Bool) → eqb (refusal t .number) 0 ≡ b → made ≡ cond b (tell 0 (length (compiled t)) 0) (refusal t) → eqb (refusal t .number) 0 ≡ true
-        by true e f = e
-        by false e f = eq-eqb (refusal t .number) 0 (sym (numbers f) ∙ h)
+        by : (b : Bool) → eqb (refusal t .number) 0 ≡ b → made ≡ cond b (tell 0 (length (compiled t)) 0) (refusal t) → refusal t .number ≡ 0
+        by true e f = eqb-true (refusal t .number) 0 e
+        by false e f = sym (numbers f) ∙ h
+
+    pub answered-as : (result out : List ℕ) → unlessRefused (refusal t) result out ≡ written result out
+    answered-as result out = ap (λ (b : Bool). cond b (written result out) (outcome (refusal t) out)) (eq-eqb (refusal t .number) 0 none-refused)
 
     made-is : made ≡ tell 0 (length (compiled t)) 0
-    made-is = m .tells ∙ ap (λ (b : Bool). cond b (tell 0 (length (compiled t)) 0) (refusal t)) none-refused
+    made-is = m .tells ∙ ap (λ (b : Bool). cond b (tell 0 (length (compiled t)) 0) (refusal t)) (eq-eqb (refusal t .number) 0 none-refused)
 
     size-is : made .detail ≡ length (compiled t)
     size-is = ap (λ (x : Told). x .detail) made-is
 
     pub size-fits : length place ≡ bookLimit → made .detail ≤ length place
-    size-fits room = omega (arith, size-is, room, m .fits (eqb-true (refusal t .number) 0 none-refused))
+    size-fits room = omega (arith, size-is, room, m .fits none-refused)
 
     module _ (out : List ℕ) where
-      -- with the output's length tested
-      compile-is : {b : Bool} → ltb (length out) (length (compiled t)) ≡ b
-          → compileOf t out ≡ cond b (outcome (tell 55 (length (compiled t)) 0) out) (outcome (tell 0 (length (compiled t)) 0) (compiled t ++ drop (length (compiled t)) out))
-      unfolding compileOf written
-      compile-is e =
-          ap (λ (b : Bool). cond b (written (compiled t) out) (outcome (refusal t) out)) none-refused
-          ∙ ap (λ (b : Bool). cond b (outcome (tell 55 (length (compiled t)) 0) out) (outcome (tell 0 (length (compiled t)) 0) (compiled t ++ drop (length (compiled t)) out))) e
+      compile-is : compileOf t out ≡ written (compiled t) out
+      unfolding compileOf
+      compile-is = answered-as (compiled t) out
 
       pub compile-short : length out < made .detail → {r : Told} → r ≡ tell 55 (made .detail) 0 → Compiles out r out
-      compile-short l f =
-          let is = compile-is (lt-ltb (length out) (length (compiled t)) (omega (arith, l, size-is))) in
-          (f ∙ ap (λ (n : ℕ). tell 55 n 0) size-is ∙ sym (ap (λ (x : Outcome). x .told) is), sym (ap (λ (x : Outcome). x .output) is))
+      compile-short l f = rw compile-is (written-short (compiled t) out size-is l f)
 
       pub compile-done : made .detail ≤ length out → {after : List ℕ} {n : ℕ} → Wrote out 0 (take (made .detail) place) after n → Compiles out made after
       compile-done l w =
-          let is = compile-is (le-ltb (length out) (length (compiled t)) (omega (arith, l, size-is))) in
-          let book : take (made .detail) place ≡ compiled t = ap (λ (n : ℕ). take n place) size-is ∙ m .holds (eqb-true (refusal t .number) 0 none-refused) in
-          (made-is ∙ sym (ap (λ (x : Outcome). x .told) is), wrote-at-start (wrote-as w book) (omega (arith, l, size-is)) ∙ sym (ap (λ (x : Outcome). x .output) is))
+          let book : take (made .detail) place ≡ compiled t = ap (λ (n : ℕ). take n place) size-is ∙ m .holds none-refused in
+          let told : made ≡ tell 0 (made .detail) 0 = made-is ∙ ap (λ (n : ℕ). tell 0 n 0) (sym size-is) in
+          rw compile-is (written-done (compiled t) out size-is l told (wrote-as w book))

@@ -169,6 +169,7 @@ keys-differ all n (s ∷ ss) r e =
 
 -- what they leave of a section that follows so many bytes
 pub record SectionPassed (t : List ℕ) (all : List Statement) (size : ℕ) (s : Statement) (after : List Statement) : Type 0 where
+  pub few : length (expand all (body after)) ≤ statementLimit
   pub rules : length (sectionOf all s after .rules) ≤ ruleLimit
   pub sets : length (sectionOf all s after .sets) ≤ setLimit
   pub codes : firstBadSet t (lineOf t (s .at)) all (namesOf (expand all (body after))) .number ≡ 0
@@ -188,6 +189,7 @@ section-passed t all size s after h =
     let f = firstly-both (over 51 line (ltb setLimit (length (c .sets)))) late (e .1) in
     let g = firstly-both (firstBadSet t line all (namesOf ss)) (over 54 line (ltb bookLimit (size + length (sectionBytes c)))) (f .1) in
     record {
+      few = ltb-false statementLimit (length ss) (over-none 55 line (ltb statementLimit (length ss)) (b .0));
       rules = ltb-false ruleLimit (length (c .rules)) (over-none 49 line (ltb ruleLimit (length (c .rules))) (e .0));
       sets = ltb-false setLimit (length (c .sets)) (over-none 50 line (ltb setLimit (length (c .sets))) (f .0));
       codes = g .0;

@@ -6,6 +6,7 @@ pub mod Heading
 pub mod Noting
 pub mod Referring
 pub mod Completing
+pub mod Answering
 pub mod Naming
 pub mod Each
 pub mod Sounding

@@ -46,7 +46,7 @@ ghost use Rattle.booktext.specs.Standing.{wordsFrom, statementAt, nextLi
 const RULE_LIMIT: usize = 256;
 
 // The longest book, in bytes.
-const BOOK_LIMIT: usize = 65536;
+pub const BOOK_LIMIT: usize = 65536;
 
 // A refusal, with nothing more written.
 fn refused(told: Told, at: usize) -> Put
@@ -223,7 +223,7 @@ fn make_book(out: &mut [u8], t: &[u8], heads: &[usize], rest: usize, sections: u
 }
 
 // Rows 31 to 54 and 56. Where none holds, the book stands in the first bytes of the place, and the detail is its length.
-pub(crate) fn make(t: &[u8], place: &mut [u8]) -> Told
+pub fn make(t: &[u8], place: &mut [u8]) -> Told
     requires { ⌜ length (now place) ≡ bookLimit ⌝ }
     ensures { λ r. ⌜ MakesBy (refusal (now (t .entry))) (now (t .entry)) r (now (place .exit)) ⌝ }
 {

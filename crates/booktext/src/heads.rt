@@ -17,7 +17,7 @@ ghost use Rattle.booktext.specs.Meaning.{from};
 ghost use Rattle.booktext.specs.Standing.{statementAt, nextLine, left, Finds, Heads};
 
 // So many are noted; those of a longer text are looked for in its lines.
-pub(crate) const HEAD_LIMIT: usize = 4096;
+pub const HEAD_LIMIT: usize = 4096;
 
 // How many are noted, and where the text goes on after them.
 pub struct Noted {
@@ -38,7 +38,7 @@ fn note_head(t: &[u8], heads: &mut [usize], count: usize, at: usize) -> usize
 }
 
 // Notes as many as there is room for.
-pub(crate) fn note_heads(t: &[u8], heads: &mut [usize]) -> Noted
+pub fn note_heads(t: &[u8], heads: &mut [usize]) -> Noted
     ensures { λ r. ⌜ (r .count ≤ length (now (heads .exit))) × Heads (now (t .entry)) (take (r .count) (now (heads .exit))) (r .rest) ⌝ }
 {
     let mut count = 0;

@@ -1,13 +1,13 @@
 // Rule books as text.
 pub mod compile;
 pub(crate) mod fault;
-pub(crate) mod heads;
-pub(crate) mod line;
+pub mod heads;
+pub mod line;
 pub(crate) mod names;
 pub(crate) mod refer;
-pub(crate) mod rules;
-pub(crate) mod section;
+pub mod rules;
+pub mod section;
 pub(crate) mod sets;
-pub(crate) mod statement;
+pub mod statement;
 pub mod told;
-pub(crate) mod word;
+pub mod word;

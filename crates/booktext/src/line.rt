@@ -11,7 +11,7 @@ ghost use Rattle.booktext.specs.Lines.{blank, lineOf};
 ghost use Rattle.booktext.specs.Standing.{dark, run, wordsFrom, spanBytes, NextWord};
 
 // Blank, tab or CR.
-fn is_blank(x: u8) -> bool
+pub fn is_blank(x: u8) -> bool
     ensures { λ r. ⌜ r ≡ blank x ⌝ }
 {
     (x == 32) | (x == 9) | (x == 13)
@@ -25,7 +25,7 @@ fn is_dark(x: u8) -> bool
 }
 
 // Where the blanks that begin at from end.
-fn past_blanks(t: &[u8], from: usize) -> usize
+pub fn past_blanks(t: &[u8], from: usize) -> usize
     ensures { λ r. ⌜ r ≡ from + length (run blank (drop from (now (t .entry)))) ⌝ }
 {
     let mut i = from;
@@ -53,7 +53,7 @@ fn word_end(t: &[u8], from: usize) -> usize
 }
 
 // The first word at a position or later.
-pub(crate) fn next_word(t: &[u8], at: usize) -> Span
+pub fn next_word(t: &[u8], at: usize) -> Span
     ensures { λ r. ⌜ NextWord (now (t .entry)) at r ⌝ }
 {
     let start = past_blanks(t, at);
@@ -62,7 +62,7 @@ pub(crate) fn next_word(t: &[u8], at: usize) -> Span
 }
 
 // The bytes of a part; none where it ends before it starts.
-pub(crate) fn part(t: &[u8], span: Span) -> &[u8]
+pub fn part(t: &[u8], span: Span) -> &[u8]
     ensures { λ r. ⌜ now r ≡ spanBytes (now (t .entry)) span ⌝ }
 {
     if span.end < span.start {
@@ -72,7 +72,7 @@ pub(crate) fn part(t: &[u8], span: Span) -> &[u8]
 }
 
 // Where the words after the first so many begin.
-pub(crate) fn skip_words(t: &[u8], at: usize, count: usize) -> usize
+pub fn skip_words(t: &[u8], at: usize, count: usize) -> usize
     ensures { λ r. ⌜ wordsFrom (now (t .entry)) r ≡ drop count (wordsFrom (now (t .entry)) at) ⌝ }
 {
     let mut i = at;
@@ -85,7 +85,7 @@ pub(crate) fn skip_words(t: &[u8], at: usize, count: usize) -> usize
 }
 
 // Word k, from 0; empty where there is none.
-pub(crate) fn word_of(t: &[u8], at: usize, k: usize) -> &[u8]
+pub fn word_of(t: &[u8], at: usize, k: usize) -> &[u8]
     ensures { λ r. ⌜ now r ≡ getD (wordsFrom (now (t .entry)) at) k [] ⌝ }
 {
     part(t, next_word(t, skip_words(t, at, k)))

@@ -62,7 +62,7 @@ pub(crate) fn note_spots(t: &[u8], cells: &[usize], spots: &mut [usize])
 }
 
 // Whether a number is among some.
-fn is_in(spots: &[usize], x: usize) -> bool
+pub fn is_in(spots: &[usize], x: usize) -> bool
     ensures { λ r. ⌜ r ≡ isIn x (now (spots .entry)) ⌝ }
 {
     let mut any = false;
@@ -117,7 +117,7 @@ pub(crate) fn count_rules(t: &[u8], cells: &[usize]) -> usize
 
 // ---- bytes
 // The severity that a section gives a statement, else its own.
-fn letter_of(t: &[u8], cell: usize) -> u8
+pub fn letter_of(t: &[u8], cell: usize) -> u8
     ensures { λ r. ⌜ r ≡ letterOf (noted (now (t .entry)) cell) ⌝ }
 {
     let given = (cell % 256) as u8;

@@ -23,7 +23,7 @@ ghost use Rattle.booktext.specs.Refusals.{isFirst, usedTwice, statementL
 ghost use Rattle.booktext.specs.Standing.{statementAt, left, bodyFrom, Heads, Holds, NotesMore};
 
 // The most statements of a section after inclusion.
-pub(crate) const STATEMENT_LIMIT: usize = 2048;
+pub const STATEMENT_LIMIT: usize = 2048;
 
 // ---- row 46
 // Whether it is a use of a common that was used since the section's head.
@@ -125,7 +125,7 @@ fn note_both(
 }
 
 // Notes the statements of a section that begin at start, with what they take over.
-pub(crate) fn note_section(
+pub fn note_section(
     t: &[u8],
     heads: &[usize],
     rest: usize,

@@ -20,14 +20,14 @@ ghost use Rattle.booktext.specs.Standing.{wordsFrom, statementAt, nextLi
 const LF: u8 = 10;
 
 // The number of its verb, 0 for none.
-pub(crate) fn verb_at(t: &[u8], at: usize) -> u8
+pub fn verb_at(t: &[u8], at: usize) -> u8
     ensures { λ r. ⌜ (r ≡ verb (statementAt (now (t .entry)) at 0)) × (r ≤ 9) ⌝ }
 {
     verb_of(word_of(t, at, 0))
 }
 
 // Where the next line begins.
-pub(crate) fn next_line(t: &[u8], at: usize) -> usize
+pub fn next_line(t: &[u8], at: usize) -> usize
     requires { ⌜ at ≤ length (now t) ⌝ }
     ensures { λ r. ⌜ r ≡ nextLine (now (t .entry)) at ⌝ }
 {
@@ -43,7 +43,7 @@ fn has_words(t: &[u8], at: usize) -> bool
 }
 
 // The first statement of the lines that begin at from or later.
-pub(crate) fn next_statement(t: &[u8], from: usize) -> usize
+pub fn next_statement(t: &[u8], from: usize) -> usize
     ensures { λ r. ⌜ Finds (now (t .entry)) (left (now (t .entry)) from) (left (now (t .entry)) (nextLine (now (t .entry)) r)) r ⌝ }
 {
     let mut at = from;

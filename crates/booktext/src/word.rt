@@ -27,7 +27,7 @@ pub(crate) const SET: u8 = 2;
 
 pub(crate) const COMMON: u8 = 3;
 
-pub(crate) const SECTION: u8 = 4;
+pub const SECTION: u8 = 4;
 
 pub(crate) const CODE: u8 = 5;
 
@@ -106,7 +106,7 @@ pub(crate) fn kind_number(w: &[u8]) -> u8
 }
 
 // Whether a verb makes a rule.
-pub(crate) fn is_rule(verb: u8) -> bool
+pub fn is_rule(verb: u8) -> bool
     ensures { λ r. ⌜ r ≡ ofRule verb ⌝ }
 {
     (verb == RULE) | (verb == ALSO)

@@ -1,0 +1,31 @@
+-- Laws of `written`: what is answered once the length of what is to be written is known. Assumes nothing.
+use mathlib.Core.Path.{_≡_, refl, ap, _∙_}
+use mathlib.Core.Bool.{true, false}
+use mathlib.Core.List.{List}
+use Prim.Native.Nat.{ℕ, _≤_, _<_}
+use native.Mathlib.Omega.{arith}
+use lib.Dec.{ltb}
+use lib.ListN.{length}
+use borrow.Author.Tests.{lt-ltb, le-ltb}
+use Rattle.ack.specs.Splice.{Wrote, limit}
+use Rattle.ack.proofs.Writing.{wrote-at-start}
+use Rattle.booktext.specs.Faults.{tell}
+use Rattle.booktext.specs.Refusals.{written}
+use Rattle.booktext.specs.declared.told.Told.{Told}
+
+module _ (result out : List ℕ) {size : ℕ} (e : size ≡ length result) where
+  pub written-short : length out < size → {r : Told} → r ≡ tell 55 size 0 → (r ≡ written result out .told) × (out ≡ written result out .output)
+  unfolding written
+  written-short l f =
+      let over : ltb (length out) (length result) ≡ true = lt-ltb (length out) (length result) (omega arith) in
+      rw over (f ∙ ap (λ (n : ℕ). tell 55 n 0) e, refl)
+
+  pub written-done : size ≤ length out → {r : Told} {after : List ℕ} {n : ℕ} → r ≡ tell 0 size 0 → Wrote out 0 result after n → (r ≡ written result out .told) × (after ≡ written result out .output)
+  unfolding written
+  written-done l f w =
+      let fits : ltb (length out) (length result) ≡ false = le-ltb (length out) (length result) (omega arith) in
+      rw fits (f ∙ ap (λ (n : ℕ). tell 0 n 0) e, wrote-at-start w (omega arith))
+
+-- it was written onto no byte first, which tells its length where that is no counted limit
+pub measured : {none after result : List ℕ} {size : ℕ} → Wrote none 0 result after size → length result < limit → size ≡ length result
+measured w h = omega (arith, w .ends)
