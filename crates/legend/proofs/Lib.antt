@@ -1,0 +1,4 @@
+pub mod Trimming
+pub mod Listing
+pub mod Sizes
+pub mod Answering
