@@ -5,7 +5,7 @@ pub(crate) mod heads;
 pub(crate) mod line;
 pub(crate) mod names;
 pub(crate) mod refer;
-pub(crate) mod rules;
+pub mod rules;
 pub(crate) mod section;
 pub(crate) mod sets;
 pub(crate) mod statement;

@@ -62,7 +62,7 @@ pub(crate) fn note_spots(t: &[u8], cells: &[usize], spots: &mut [usize])
 }
 
 // Whether a number is among some.
-fn is_in(spots: &[usize], x: usize) -> bool
+pub fn is_in(spots: &[usize], x: usize) -> bool
     ensures { λ r. ⌜ r ≡ isIn x (now (spots .entry)) ⌝ }
 {
     let mut any = false;

@@ -9,7 +9,7 @@ pub struct Told {
     pub section: usize,
 }
 
-pub(crate) fn tell(number: usize, detail: usize, section: usize) -> Told
+pub fn tell(number: usize, detail: usize, section: usize) -> Told
     ensures { λ r. ⌜ r ≡ tell number detail section ⌝ }
 {
     Told {
