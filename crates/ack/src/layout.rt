@@ -70,7 +70,7 @@ fn put_own(out: &mut [u8], at: usize, d: Delims, text: &[u8]) -> usize
 }
 
 // A segment's name by its number.
-fn put_name(out: &mut [u8], at: usize, name: u8) -> usize
+pub fn put_name(out: &mut [u8], at: usize, name: u8) -> usize
     ensures { λ r. ⌜ Wrote (now (out .entry)) at (nameBytes name) (now (out .exit)) r ⌝ }
 {
     let letters = letters_of(name);
@@ -86,7 +86,7 @@ fn put_name(out: &mut [u8], at: usize, name: u8) -> usize
 }
 
 // ERR-2's component, where it is not 0.
-fn put_component(out: &mut [u8], at: usize, caret: u8, component: u8) -> usize
+pub fn put_component(out: &mut [u8], at: usize, caret: u8, component: u8) -> usize
     ensures { λ r. ⌜ Wrote (now (out .entry)) at (marked caret (componentParts component)) (now (out .exit)) r ⌝ }
 {
     if component == 0 {

@@ -29,7 +29,7 @@ use hl7::bytes::wide;
 use hl7::bytes::wide16;
 
 // The rule with a number, counted from 0. Its limits are not looked at again.
-pub(crate) fn rule_at(book: &[u8], section: Section, i: usize) -> Rule
+pub fn rule_at(book: &[u8], section: Section, i: usize) -> Rule
     requires { ⌜ Holds (now book) section × (i < section .«rule_count») ⌝ }
     ensures { λ r. ⌜ r ≡ getD (rulesIn (now (book .entry)) section) i noRule ⌝ }
 {

@@ -35,7 +35,7 @@ fn pair_of(high: u8, low: u8) -> usize
 }
 
 // Two bytes, the high one first.
-pub(crate) fn pair_at(book: &[u8], at: usize) -> usize
+pub fn pair_at(book: &[u8], at: usize) -> usize
     requires { ⌜ at + 2 ≤ length (now book) ⌝ }
     ensures { λ r. ⌜ r ≡ pair (now (book .entry)) at ⌝ }
 {
@@ -58,7 +58,7 @@ fn all_plain(table: &[bool; 256], letters: &[u8]) -> bool
 }
 
 // The text whose length byte stands at a position.
-pub(crate) fn text_part(book: &[u8], at: usize) -> &[u8]
+pub fn text_part(book: &[u8], at: usize) -> &[u8]
     requires { ⌜ TextFits (now book) at ⌝ }
     ensures { λ r. ⌜ now r ≡ textAt (now (book .entry)) at ⌝ }
 {
@@ -69,7 +69,7 @@ pub(crate) fn text_part(book: &[u8], at: usize) -> &[u8]
 }
 
 // Where that text ends.
-pub(crate) fn text_after(book: &[u8], at: usize) -> usize
+pub fn text_after(book: &[u8], at: usize) -> usize
     requires { ⌜ TextFits (now book) at ⌝ }
     ensures { λ r. ⌜ r ≡ textEnd (now (book .entry)) at ⌝ }
 {

@@ -1,7 +1,7 @@
 -- `legend::legend::write_legend` meets its contract. Assumes nothing.
 use native.Mathlib.Omega.{arith}
 use borrow.Author.Needs.{needs}
-use Rattle.legend.proofs.Answering.{measured-short, measured-done}
+use Rattle.booktext.proofs.Answering.{measured-short, measured-done}
 use Rattle.legend.specs.Legend.{legend}
 use Rattle.legend.proofs.Sizes.{text-fits, text-roomy, legend-short}
 use Rattle.legend.proofs.legend.write_legend.Statement.{statement}

@@ -1,0 +1,16 @@
+pub mod Printing
+pub mod ReadBack
+pub mod Paging
+pub mod Showable
+pub mod Showing
+pub mod ShownWords
+pub mod ShownMeans
+pub mod ShownRight
+pub mod ShownNamed
+pub mod ShownPasses
+pub mod ShownShort
+pub mod ShownAgain
+pub mod PutSets
+pub mod PutRules
+pub mod PutBook
+pub mod Bounds

@@ -1,0 +1,2 @@
+// The canonical text of a rule book.
+pub mod show;
