@@ -54,6 +54,14 @@ static inline uint64_t jasminedo_section(uint64_t told) { return told / 10995116
 /* The book that a text means, or one of 31 to 48, 50, 51, 53 to 56. */
 uint64_t jasminedo_compile(const uint8_t *text, size_t text_length, uint8_t *output, size_t output_length);
 
+/* The canonical text of a book, which compiles to the same bytes, or 7, the book is malformed, 8, it has another version
+ * than 1, or 55. No line and no section is told with 7 and 8. */
+uint64_t jasminedo_show(const uint8_t *book, size_t book_length, uint8_t *output, size_t output_length);
+
+/* A line for each section that a text has and each of its rules: what the rule numbers of the text's book mean. Refused
+ * as jasminedo_compile refuses the text; then 55. */
+uint64_t jasminedo_legend(const uint8_t *text, size_t text_length, uint8_t *output, size_t output_length);
+
 #ifdef __cplusplus
 }
 #endif

@@ -8,7 +8,7 @@ use std::io::{self, Read};
 use std::os::unix::ffi::OsStrExt;
 use std::path::Path;
 
-const USAGE: &str = "usage: book compile SOURCE BOOK | check SOURCE\n";
+const USAGE: &str = "usage: book compile SOURCE BOOK | check SOURCE | show BOOK | legend SOURCE\n";
 
 /// What is printed, and the status with which the program ends.
 #[derive(Clone, Debug, PartialEq, Eq)]
@@ -148,7 +148,7 @@ mod tests {
     #[test]
     fn each_sample_can_be_printed() {
         for sample in sources::samples() {
-            let given = &sample.given;
+            let given = &sample.case.given;
             for printed in [compiled(given).0, shown(given), legend(given)] {
                 assert_eq!(printed.text.last(), Some(&b'\n'), "{}", sample.name);
             }

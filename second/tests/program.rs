@@ -136,7 +136,7 @@ fn books_as_text() {
     assert_eq!(run(&["show", "c"]), told("file cannot be read: c\n", 4));
     fs::write(folder.join("a"), text).unwrap();
     assert_eq!(run(&["compile", "a", "nowhere/b"]), told("file cannot be written: nowhere/b\n", 4));
-    let usage = told("usage: book compile SOURCE BOOK | check SOURCE\n", 5);
+    let usage = told("usage: book compile SOURCE BOOK | check SOURCE | show BOOK | legend SOURCE\n", 5);
     for wrong in [["compile", "a"].as_slice(), &[], &["show"], &["check", "a", "b"], &["diff", "a", "b"]] {
         assert_eq!(run(wrong), usage);
     }

@@ -5,7 +5,7 @@
 mod ours;
 
 use second::batch::FILE_LIMIT;
-use second::book::BOOK_LIMIT;
+use second::cases::{BookCall, BookCase};
 use second::line::BATCH;
 use second::samples::{self, STAMP};
 use second::{books, booktext, cases, limits, registries};
@@ -134,23 +134,29 @@ fn measure_batch(file: &[u8], message: &[u8], count: u32) -> Result<[f64; 4], St
     ]))
 }
 
-/// The registries' source.
+/// The registries' source compiled, its book shown, and its legend.
 fn sources() -> Result<(), String> {
-    println!("\nCompiling a book's text: the registries' rules in 24 sections, in microseconds\n");
-    println!("{:>9} {:>9} {:>11} {:>11}", "bytes in", "bytes out", "ours", "second");
+    println!("\nBooks as text: the registries' rules in 24 sections, in microseconds\n");
+    println!("{:8} {:>9} {:>9} {:>11} {:>11}", "call", "bytes in", "bytes out", "ours", "second");
     let source = registries::source().into_bytes();
-    let (mut out_ours, mut out_second) = (vec![0; BOOK_LIMIT], vec![0; BOOK_LIMIT]);
-    let told = booktext::compile(&source, &mut out_second);
-    if told.number != 0 {
+    let Ok(compiled) = booktext::compiled(&source) else {
         return Err("the registries' source is refused".into());
+    };
+    let calls = [(BookCall::Compile, &source), (BookCall::Show, &compiled.book), (BookCall::Legend, &source)];
+    for (call, given) in calls {
+        let case = BookCase { call, given: given.clone(), output_length: 1_048_576 };
+        let (mut out_ours, mut out_second) = (vec![0; case.output_length], vec![0; case.output_length]);
+        let told = case.answer(&mut out_second);
+        if ours::told(call, given, &mut out_ours) != told || out_ours != out_second {
+            return Err(format!("{call:?}: ours and second answer differently"));
+        }
+        let [ours, second] = medians([&mut || ours::told(call, black_box(given), &mut out_ours).detail, &mut || {
+            black_box(&case).answer(&mut out_second).detail
+        }]);
+        let name = format!("{call:?}").to_lowercase();
+        let (ours, second) = (ours / 1000.0, second / 1000.0);
+        println!("{name:8} {:>9} {:>9} {ours:>11.1} {second:>11.1}", given.len(), told.detail);
     }
-    if ours::compile(&source, &mut out_ours) != told || out_ours != out_second {
-        return Err("the registries' source: ours and second answer differently".into());
-    }
-    let [ours, second] = medians([&mut || ours::compile(black_box(&source), &mut out_ours).detail, &mut || {
-        booktext::compile(black_box(&source), &mut out_second).detail
-    }]);
-    println!("{:>9} {:>9} {:>11.1} {:>11.1}", source.len(), told.detail, ours / 1000.0, second / 1000.0);
     Ok(())
 }
 

@@ -1,7 +1,8 @@
 //! Books that are shown, and those that are none.
 
-use super::{numbered, sample, show, BookCall, BookSample, EMPTY_BOOK, ROOM};
+use super::{numbered, sample, show, BookSample, EMPTY_BOOK, ROOM};
 use crate::books::{self, SectionPlan};
+use crate::cases::BookCall;
 
 pub fn samples() -> Vec<BookSample> {
     let mut all = shown_books();
