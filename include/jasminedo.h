@@ -44,10 +44,10 @@ uint64_t jasminedo_locate(const uint8_t *message, size_t message_length, size_t 
 static inline size_t jasminedo_start(uint64_t place) { return (size_t)(place / 65536); }
 static inline size_t jasminedo_length(uint64_t place) { return (size_t)(place % 65536); }
 
-/* Rule books as text. An answer about them holds a number in its low byte, a line in the four bytes above, and above
- * that the line of the section that was being made, 0 outside one. Number 0: what was asked for stands in the first bytes
- * of the output, jasminedo_line is its length, and all later bytes are as they were. Otherwise the whole output is as it
- * was. 55, the output is too short: jasminedo_line is the length needed. Lines count from 1; 0 is none. */
+/* Rule books as text. Number 0: what was asked for stands in the first bytes of the output, jasminedo_detail is its
+ * length, and all later bytes are as they were. Otherwise the whole output is as it was. 55, the output is too short:
+ * jasminedo_detail is the length needed. Any other number has a line in the four bytes above it, and above that the line
+ * of the section that was being made, 0 outside one. Lines count from 1; 0 is none. */
 static inline uint64_t jasminedo_line(uint64_t told) { return told / 256 % 4294967296u; }
 static inline uint64_t jasminedo_section(uint64_t told) { return told / 1099511627776u; }
 

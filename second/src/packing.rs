@@ -1,7 +1,7 @@
 //! Packed cases: numbers of four bytes with the high byte first, one case after the other. And the
 //! single numbers in which the library answers.
 
-use crate::booktext::Told;
+use crate::booktext::{Told, TOO_SHORT};
 use crate::cases::{AnyCase, BatchCase, BookCall, BookCase, Case};
 
 /// What a case begins with.
@@ -117,9 +117,12 @@ pub fn number_and_detail(result: u64) -> (u8, u64) {
     ((result % 256) as u8, result / 256)
 }
 
-/// An answer about books as text.
+/// An answer about books as text. A length takes all of the detail; a line leaves room for a section above it.
 pub fn told(result: u64) -> Told {
-    Told { number: (result % 256) as u8, detail: result / 256 % (1 << 32), section: result >> 40 }
+    match number_and_detail(result) {
+        (number @ (0 | TOO_SHORT), length) => (number, length).into(),
+        (number, detail) => Told { number, detail: detail % (1 << 32), section: detail >> 32 },
+    }
 }
 
 /// A place.
@@ -168,8 +171,11 @@ mod tests {
     }
 
     #[test]
-    fn answers_have_three_parts() {
-        let result = 56 + 256 * 0xFFEE_DDCC + (1 << 40) * 1_048_577;
-        assert_eq!(told(result), Told { number: 56, detail: 0xFFEE_DDCC, section: 1_048_577 });
+    fn answers_have_a_line_and_a_section_or_a_length() {
+        let above = 0xFFEE_DDCC + (1 << 32) * 1_048_577;
+        assert_eq!(told(56 + 256 * above), Told { number: 56, detail: 0xFFEE_DDCC, section: 1_048_577 });
+        for number in [0, TOO_SHORT] {
+            assert_eq!(told(u64::from(number) + 256 * above), Told { number, detail: above, section: 0 });
+        }
     }
 }
