@@ -421,6 +421,7 @@ fn legends() -> Vec<BookSample> {
                  rule PID-3 LENGTH E 1 20 || \nsection B | B's | words \t\r\n";
     let meant = "A 0\nA 1 PID-1 DATE E | a\nA 2 PID-2 CODE W s | two  blanks | and a bar |\nA 3 PID-1 DATE I\n\
                  A 4 PID-3 LENGTH E 1 20 | |\nB 0 | B's | words\n";
+    let (name, long) = ("n".repeat(300), "a  |".repeat(15_000));
     vec![
         legend("the shortest text", "book 1\nsection A", "A 0\n"),
         legend("words for people", words, meant),
@@ -438,6 +439,24 @@ fn legends() -> Vec<BookSample> {
         ),
         legend("CR inside the words", "book 1\nsection A | a\rb\r\n", "A 0 | a\rb\n"),
         legend("tabs inside the words", "book 1\nsection A |\ta\t\tb\t\n", "A 0 | a\t\tb\n"),
+        legend(
+            "words of a common in several sections, with and without a severity",
+            "book 1\ncommon c\nrule PID-1 DATE E | born\nalso PID-1 DATE W |\nsection A\nuse c I | used\n\
+             section B | B\nuse c\nsection C\nrule PID-2 DATE E | own\nuse c W\n",
+            "A 0\nA 1 PID-1 DATE I | born\nA 2 PID-1 DATE I\nB 0 | B\nB 1 PID-1 DATE E | born\nB 2 PID-1 DATE W\n\
+             C 0\nC 1 PID-2 DATE E | own\nC 2 PID-1 DATE W | born\nC 3 PID-1 DATE W\n",
+        ),
+        legend(
+            "bars and blanks alone",
+            "book 1\nsection A |||\nsection B | \t\r|\t|\r \nsection C \t\r|\r\t \r\n",
+            "A 0 | ||\nB 0 | |\t|\nC 0\n",
+        ),
+        legend("keys that a program could print", "book 1\nsection refused\nsection book\n", "refused 0\nbook 0\n"),
+        legend(
+            "a long name and long words",
+            format!("book 1\nset {name} x\nsection A\nrule PID-1 CODE E {name}|{long}\n"),
+            &format!("A 0\nA 1 PID-1 CODE E {name} | {long}\n"),
+        ),
         sample(
             "a long remark of a common in 64 sections",
             BookCall::Legend,

@@ -6,9 +6,9 @@ mod faults;
 pub use faults::{number_of, NO_SECTION, ROWS as BOOK_ROWS};
 
 use super::{faults as message_faults, large, lent, mutate_bytes, plans, Case, Pair, Random};
-use crate::books;
+use crate::books::{self, SectionPlan};
 use crate::booktext::{self, Told, TEXT_LIMIT, TOO_SHORT};
-use crate::samples;
+use crate::{limits, samples};
 use drafts::Draft;
 
 /// What is asked for.
@@ -55,8 +55,8 @@ impl BookCase {
     }
 }
 
-/// Cases by their index: the samples first, then each row by `compile` and by `legend`, each pair of rows and each
-/// refusal of a book once, then random ones without end.
+/// Cases by their index: the samples and the longest books first, then each row by `compile` and by `legend`, each pair of
+/// rows and each refusal of a book once, then random ones without end.
 pub struct BookGenerator {
     seed: u64,
     samples: Vec<BookCase>,
@@ -68,8 +68,8 @@ const BAD_BOOKS: [u8; 2] = [7, 8];
 
 impl BookGenerator {
     pub fn new(seed: u64) -> Self {
-        let samples = samples::sources::samples().into_iter().map(|sample| sample.case).collect();
-        BookGenerator { seed, samples, pairs: faults::pairs() }
+        let samples = samples::sources::samples().into_iter().map(|sample| sample.case);
+        BookGenerator { seed, samples: samples.chain(longest_books()).collect(), pairs: faults::pairs() }
     }
 
     /// How many come before the random ones.
@@ -229,6 +229,15 @@ fn longest(random: &mut Random) -> Vec<u8> {
     text
 }
 
+/// Books of 65,536 bytes to be shown, with a byte too few, just enough room and a byte more.
+fn longest_books() -> impl Iterator<Item = BookCase> {
+    [books::largest_book(), limits::wordiest_book()].into_iter().flat_map(|book| {
+        let case = case(BookCall::Show, book);
+        let needed = case.needed().unwrap_or_default() as usize;
+        [needed - 1, needed, needed + 1].map(|output_length| BookCase { output_length, ..case.clone() })
+    })
+}
+
 /// A book that 01 does not refuse, or hardly.
 fn any_book(random: &mut Random) -> Vec<u8> {
     match random.below(40) {
@@ -244,7 +253,26 @@ fn any_book(random: &mut Random) -> Vec<u8> {
             book
         }
         8..20 => booktext::compiled(&Draft::sound(random).text(random)).map_or(Vec::new(), |compiled| compiled.book),
-        _ => books::encode(&plans::sections(random).0),
+        _ => {
+            let sections = plans::sections(random).0;
+            books::encode(&doubled(random, sections))
+        }
+    }
+}
+
+/// Sections with a set or a rule once more here and there.
+fn doubled(random: &mut Random, mut sections: Vec<SectionPlan>) -> Vec<SectionPlan> {
+    for SectionPlan { rules, sets, .. } in &mut sections {
+        double(random, rules);
+        double(random, sets);
+    }
+    sections
+}
+
+fn double<T: Clone>(random: &mut Random, items: &mut Vec<T>) {
+    if !items.is_empty() && random.one_in(3) {
+        let (item, at) = (items[random.below(items.len())].clone(), random.below(items.len() + 1));
+        items.insert(at, item);
     }
 }
 
