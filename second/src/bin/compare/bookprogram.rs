@@ -2,6 +2,7 @@
 //! writes is compared.
 
 use crate::program::shown;
+use second::book::BOOK_LIMIT;
 use second::bookprogram::{self, Printed};
 use second::cases::{BookCall, BookGenerator, Random};
 use std::path::{Path, PathBuf};
@@ -77,7 +78,12 @@ fn told(book: &Option<Vec<u8>>) -> String {
 fn files(random: &mut Random, generator: &BookGenerator, index: u64) -> Files {
     let case = generator.case(index).0;
     if case.call == BookCall::Show {
-        return Files { source: None, book: Some(case.given) };
+        let mut book = case.given;
+        // A good book with more after its limit is no good.
+        if random.one_in(if book.len() == BOOK_LIMIT { 2 } else { 20 }) {
+            book.resize(BOOK_LIMIT + random.pick(&[0, 1, 4_096, 70_000]), 0);
+        }
+        return Files { source: None, book: Some(book) };
     }
     // A book that is there already is longer or shorter than the one that is written, or is none.
     let length = random.pick(&[0, 5, 300, 70_000]);

@@ -1,9 +1,10 @@
 //! What the books and texts among the cases hit.
 
 use crate::coverage::Row;
+use crate::traits::{self, Trait};
 use second::booktext::{self, Told};
 use second::cases::{number_of, BookCall, BookCase, BookGenerator, Pair, BOOK_ROWS, NO_SECTION};
-use std::collections::HashMap;
+use std::collections::{BTreeMap, HashMap};
 
 /// How much room an answered case had beyond what it needed.
 const ROOMS: [&str; 2] = ["just enough room", "more room"];
@@ -29,6 +30,9 @@ pub struct Books {
     later_section: u64,
     /// Shown texts that compile to the same book.
     shown_again: u64,
+    /// What shown books and what legends have.
+    shown: BTreeMap<&'static str, u64>,
+    meant: BTreeMap<&'static str, u64>,
 }
 
 const CALLS: [&str; 3] = ["compile", "show", "legend"];
@@ -54,6 +58,8 @@ impl Default for Books {
             elsewhere: 0,
             later_section: 0,
             shown_again: 0,
+            shown: BTreeMap::new(),
+            meant: BTreeMap::new(),
         }
     }
 }
@@ -84,7 +90,11 @@ impl Books {
         if case.call == BookCall::Show {
             let again = booktext::shown(text).and_then(|shown| booktext::compiled(&shown));
             self.shown_again += u64::from(again.is_ok_and(|again| again.book == *text));
+            add(&mut self.shown, traits::of_book(text));
             return;
+        }
+        if case.call == BookCall::Legend {
+            add(&mut self.meant, traits::of_legend(text));
         }
         let said: Vec<Vec<&[u8]>> = says(text).collect();
         for (verb, count) in VERBS.iter().zip(&mut self.verbs) {
@@ -142,10 +152,19 @@ impl Books {
         add("refused with a line before its section".into(), self.elsewhere);
         add("refused in a later section".into(), self.later_section);
         add("shown and compiled to the same bytes".into(), self.shown_again);
+        for (call, counts) in [("shown", &self.shown), ("legend", &self.meant)] {
+            counts.iter().for_each(|(label, count)| add(format!("{call} with {label}"), *count));
+        }
         for ((earlier, later), count) in &self.pairs {
             add(format!("refusal {} before {}", label(*earlier), label(*later)), *count);
         }
         rows
+    }
+}
+
+fn add(counts: &mut BTreeMap<&'static str, u64>, traits: Vec<Trait>) {
+    for (label, has) in traits {
+        *counts.entry(label).or_default() += u64::from(has);
     }
 }
 
