@@ -5,10 +5,11 @@
 mod ours;
 
 use second::batch::FILE_LIMIT;
+use second::booktext::TEXT_LIMIT;
 use second::cases::{BookCall, BookCase};
 use second::line::BATCH;
 use second::samples::{self, STAMP};
-use second::{books, booktext, cases, limits, registries};
+use second::{books, booktext, cases, hostile, limits, registries};
 use std::env;
 use std::hint::black_box;
 use std::io::Write;
@@ -21,6 +22,7 @@ const ROUNDS: usize = 25;
 const SLOW_ROUNDS: usize = 7;
 const ONE_SAMPLE: Duration = Duration::from_millis(2);
 const OUTPUT_LENGTH: usize = 65_536;
+const USAGE: &str = "usage: bench [hostile [BYTES]]";
 
 struct Input {
     name: String,
@@ -46,6 +48,16 @@ fn main() -> ExitCode {
 }
 
 fn run() -> Result<(), String> {
+    let arguments: Vec<String> = env::args().skip(1).collect();
+    match arguments.iter().map(String::as_str).collect::<Vec<_>>()[..] {
+        [] => usual(),
+        ["hostile"] => hostile(TEXT_LIMIT),
+        ["hostile", length] => hostile(length.parse().map_err(|_| USAGE)?),
+        _ => Err(USAGE.into()),
+    }
+}
+
+fn usual() -> Result<(), String> {
     println!("Medians of {ROUNDS} samples, of {SLOW_ROUNDS} where one run takes 2 ms or more. Bytes are those of message and book.");
     answers()?;
     growths()?;
@@ -156,6 +168,37 @@ fn sources() -> Result<(), String> {
         let name = format!("{call:?}").to_lowercase();
         let (ours, second) = (ours / 1000.0, second / 1000.0);
         println!("{name:8} {:>9} {:>9} {ours:>11.1} {second:>11.1}", given.len(), told.detail);
+    }
+    Ok(())
+}
+
+/// Texts that are slow on purpose, each once, since some take long.
+fn hostile(length: usize) -> Result<(), String> {
+    println!("Texts of {length} bytes that are slow on purpose, in milliseconds, and the number told: 0 is accepted\n");
+    println!(
+        "{:42} {:>9} {:>6} {:>11} {:>8} {:>11} {:>8}",
+        "", "bytes", "number", "compile", "second", "legend", "second"
+    );
+    for (name, text) in hostile::texts(length) {
+        print!("{name:42} {:>9}", text.len());
+        let mut times = String::new();
+        for call in [BookCall::Compile, BookCall::Legend] {
+            let mut case = BookCase { call, given: text.as_bytes().to_vec(), output_length: 0 };
+            case.output_length = case.needed().unwrap_or_default() as usize;
+            let (mut out_ours, mut out_second) = (vec![0; case.output_length], vec![0; case.output_length]);
+            let mut told = None;
+            let ours = sample(&mut || told = Some(ours::told(call, &case.given, &mut out_ours)), 1) / 1e6;
+            let second = sample(&mut || case.answer(&mut out_second), 1) / 1e6;
+            let expected = case.answer(&mut out_second);
+            if told != Some(expected) || out_ours != out_second {
+                return Err(format!("{name}, {call:?}: ours {told:?}, second {expected:?}"));
+            }
+            if call == BookCall::Compile {
+                print!(" {:>6}", expected.number);
+            }
+            times += &format!(" {ours:>11.1} {second:>8.1}");
+        }
+        println!("{times}");
     }
     Ok(())
 }
