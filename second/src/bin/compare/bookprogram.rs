@@ -115,11 +115,9 @@ fn steps(random: &mut Random, files: &Files) -> Vec<Step> {
     }
     let Some(text) = &files.source else {
         let missing = bookprogram::cannot_read(Path::new(SOURCE));
-        for arguments in [["compile", SOURCE, BOOK].as_slice(), &["check", SOURCE], &["legend", SOURCE]] {
-            if random.one_in(4) {
-                steps.push(same(arguments, missing.clone()));
-            }
-        }
+        let calls: [&[&str]; 4] =
+            [&["compile", SOURCE, BOOK], &["compile", SOURCE, NOWHERE], &["check", SOURCE], &["legend", SOURCE]];
+        steps.push(same(random.pick(&calls), missing));
         return steps;
     };
     let (printed, book) = bookprogram::compiled(text);
