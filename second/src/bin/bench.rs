@@ -174,33 +174,39 @@ fn sources() -> Result<(), String> {
 
 /// Texts that are slow on purpose, each once, since some take long.
 fn hostile(length: usize) -> Result<(), String> {
-    println!("Texts of {length} bytes that are slow on purpose, in milliseconds, and the number told: 0 is accepted\n");
     println!(
-        "{:42} {:>9} {:>6} {:>11} {:>8} {:>11} {:>8}",
-        "", "bytes", "number", "compile", "second", "legend", "second"
+        "Texts of {length} bytes that are slow on purpose, in milliseconds, and what is told: 0, it is accepted\n"
+    );
+    println!(
+        "{:42} {:>9} {:>4} {:>11} {:>8} {:>11} {:>8}",
+        "text", "bytes", "told", "compile", "second", "legend", "second"
     );
     for (name, text) in hostile::texts(length) {
-        print!("{name:42} {:>9}", text.len());
-        let mut times = String::new();
-        for call in [BookCall::Compile, BookCall::Legend] {
-            let mut case = BookCase { call, given: text.as_bytes().to_vec(), output_length: 0 };
-            case.output_length = case.needed().unwrap_or_default() as usize;
-            let (mut out_ours, mut out_second) = (vec![0; case.output_length], vec![0; case.output_length]);
-            let mut told = None;
-            let ours = sample(&mut || told = Some(ours::told(call, &case.given, &mut out_ours)), 1) / 1e6;
-            let second = sample(&mut || case.answer(&mut out_second), 1) / 1e6;
-            let expected = case.answer(&mut out_second);
-            if told != Some(expected) || out_ours != out_second {
-                return Err(format!("{name}, {call:?}: ours {told:?}, second {expected:?}"));
-            }
-            if call == BookCall::Compile {
-                print!(" {:>6}", expected.number);
-            }
-            times += &format!(" {ours:>11.1} {second:>8.1}");
-        }
-        println!("{times}");
+        let (number, ours, second) = measure_once(name, BookCall::Compile, &text)?;
+        let (_, legend_ours, legend_second) = measure_once(name, BookCall::Legend, &text)?;
+        print!("{name:42} {:>9} {number:>4} {ours:>11.1} {second:>8.1}", text.len());
+        println!(" {legend_ours:>11.1} {legend_second:>8.1}");
     }
     Ok(())
+}
+
+/// The number told, and milliseconds of ours and second.
+fn measure_once(name: &str, call: BookCall, text: &str) -> Result<(u8, f64, f64), String> {
+    let mut case = BookCase { call, given: text.into(), output_length: 0 };
+    case.output_length = case.needed().unwrap_or_default() as usize;
+    let (mut out_ours, mut out_second) = (vec![0; case.output_length], vec![0; case.output_length]);
+    let (told, ours) = once(|| ours::told(call, text.as_bytes(), &mut out_ours));
+    let (expected, second) = once(|| case.answer(&mut out_second));
+    if told != expected || out_ours != out_second {
+        return Err(format!("{name}, {call:?}: ours {told:?}, second {expected:?}"));
+    }
+    Ok((told.number, ours, second))
+}
+
+fn once<T>(run: impl FnOnce() -> T) -> (T, f64) {
+    let start = Instant::now();
+    let made = run();
+    (made, start.elapsed().as_secs_f64() * 1000.0)
 }
 
 /// Check and locate, beside a parser that does no more than read.
