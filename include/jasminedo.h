@@ -44,15 +44,23 @@ uint64_t jasminedo_locate(const uint8_t *message, size_t message_length, size_t 
 static inline size_t jasminedo_start(uint64_t place) { return (size_t)(place / 65536); }
 static inline size_t jasminedo_length(uint64_t place) { return (size_t)(place % 65536); }
 
-/* Rule books as text. An answer about them holds a number in its low byte, a line in the four bytes above, and above
- * that the line of the section that was being made, 0 outside one. Number 0: what was asked for stands in the first bytes
- * of the output, jasminedo_line is its length, and all later bytes are as they were. Otherwise the whole output is as it
- * was. 55, the output is too short: jasminedo_line is the length needed. Lines count from 1; 0 is none. */
+/* Rule books as text. Number 0: what was asked for stands in the first bytes of the output, jasminedo_detail is its
+ * length, and all later bytes are as they were. Otherwise the whole output is as it was. 55, the output is too short:
+ * jasminedo_detail is the length needed. Any other number has a line in the four bytes above it, and above that the line
+ * of the section that was being made, 0 outside one. Lines count from 1; 0 is none. */
 static inline uint64_t jasminedo_line(uint64_t told) { return told / 256 % 4294967296u; }
 static inline uint64_t jasminedo_section(uint64_t told) { return told / 1099511627776u; }
 
 /* The book that a text means, or one of 31 to 48, 50, 51, 53 to 56. */
 uint64_t jasminedo_compile(const uint8_t *text, size_t text_length, uint8_t *output, size_t output_length);
+
+/* The canonical text of a book, which compiles to the same bytes, or 7, the book is malformed, 8, it has another version
+ * than 1, or 55. No line and no section is told with 7 and 8. */
+uint64_t jasminedo_show(const uint8_t *book, size_t book_length, uint8_t *output, size_t output_length);
+
+/* A line for each section that a text has and each of its rules: what the rule numbers of the text's book mean. Refused
+ * as jasminedo_compile refuses the text; then 55. */
+uint64_t jasminedo_legend(const uint8_t *text, size_t text_length, uint8_t *output, size_t output_length);
 
 #ifdef __cplusplus
 }

@@ -1,5 +1,5 @@
 /* Calls the library as a C program would: the worked example, a refusal at each end, places, other delimiters, a batch, a book from
- * text. Says what differs. */
+ * text, its own text and the legend. Says what differs. */
 #include "../include/jasminedo.h"
 
 #include <stdio.h>
@@ -51,30 +51,57 @@ static void expect_batches(void) {
     expect("what follows the ACKs is left", memcmp(output + length, before, sizeof(output) - length) == 0);
 }
 
-/* A book of one rule, and a text that is refused at its third line. */
+/* A text of one rule, its book, the book's own text and the legend; a refusal of each, and a length needed. */
 static void expect_books(void) {
-    static const char text[] = "book 1\nsection A\nrule PID-7.1 REQUIRED E\n";
+    static const char text[] = "book 1\nsection A | a clinic\nrule PID-7.1 REQUIRED E | no date of birth\n";
     static const char unknown[] = "book 1\nsection A\nrules PID-7.1 REQUIRED E\n";
+    static const char twice[] = "book 1\nsection A\nrule PID-3 DATE E\nrule PID-3 DATE E\n";
     static const char book[] = "VXB\0\1\1\1A\0\1\0"
                                "PID\7\1\1E\0\0\0";
-    const size_t length = sizeof(book) - 1;
-    uint8_t output[40], before[sizeof(output)];
-    memset(output, '.', sizeof(output));
-    memcpy(before, output, sizeof(output));
+    static const char plain[] = "book 1\nsection A\nrule PID-7.1 REQUIRED E\n";
+    static const char legend[] = "A 0 | a clinic\nA 1 PID-7.1 REQUIRED E | no date of birth\n";
+    const size_t length = sizeof(book) - 1, plain_length = sizeof(plain) - 1, legend_length = sizeof(legend) - 1;
+    uint8_t output[100], before[sizeof(output)], shown[sizeof(output)], meant[sizeof(output)];
+    memset(before, '.', sizeof(before));
+    memcpy(output, before, sizeof(output));
+    memcpy(shown, before, sizeof(shown));
+    memcpy(meant, before, sizeof(meant));
 
     uint64_t got = jasminedo_compile(BYTES(unknown), output, sizeof(output));
     expect("a text with an unknown word is refusal 33 with its line",
            jasminedo_number(got) == 33 && jasminedo_line(got) == 3 && jasminedo_section(got) == 0);
     got = jasminedo_compile(BYTES(text), output, length - 1);
-    expect("a book that needs one byte more is refused with its length",
-           jasminedo_number(got) == 55 && jasminedo_line(got) == length && jasminedo_section(got) == 0);
-    expect("a refused text leaves the output", memcmp(output, before, sizeof(output)) == 0);
+    expect("a book that needs one byte more is refused with its length", jasminedo_number(got) == 55 && jasminedo_detail(got) == length);
+    got = jasminedo_show(BYTES("VXB\0\1"), output, sizeof(output));
+    expect("a book that is cut off is refusal 7", jasminedo_number(got) == 7 && jasminedo_detail(got) == 0);
+    got = jasminedo_show(BYTES(book), output, plain_length - 1);
+    expect("a shown text that needs one byte more is refused with its length",
+           jasminedo_number(got) == 55 && jasminedo_detail(got) == plain_length);
+    got = jasminedo_legend(BYTES(twice), output, sizeof(output));
+    expect("the legend of a text with a rule twice is refusal 47 with its line and its section's",
+           jasminedo_number(got) == 47 && jasminedo_line(got) == 4 && jasminedo_section(got) == 2);
+    got = jasminedo_legend(BYTES(text), output, legend_length - 1);
+    expect("a legend that needs one byte more is refused with its length",
+           jasminedo_number(got) == 55 && jasminedo_detail(got) == legend_length);
+    expect("a refused text and a refused book leave the output", memcmp(output, before, sizeof(output)) == 0);
 
     got = jasminedo_compile(BYTES(text), output, sizeof(output));
-    expect("a text is compiled with its book's length",
-           jasminedo_number(got) == 0 && jasminedo_line(got) == length && jasminedo_section(got) == 0);
+    expect("a text is compiled with its book's length", jasminedo_number(got) == 0 && jasminedo_detail(got) == length);
     expect("the book has its 21 bytes", length == 21 && memcmp(output, book, length) == 0);
     expect("what follows the book is left", memcmp(output + length, before, sizeof(output) - length) == 0);
+
+    got = jasminedo_show(output, length, shown, sizeof(shown));
+    expect("the book is shown with its text's length", jasminedo_number(got) == 0 && jasminedo_detail(got) == plain_length);
+    expect("the shown text has no words for people", memcmp(shown, plain, plain_length) == 0);
+    expect("what follows the shown text is left", memcmp(shown + plain_length, before, sizeof(shown) - plain_length) == 0);
+    memcpy(output, before, sizeof(output));
+    got = jasminedo_compile(shown, plain_length, output, sizeof(output));
+    expect("the shown text is compiled to the same book", got == 256 * length && memcmp(output, book, length) == 0);
+
+    got = jasminedo_legend(BYTES(text), meant, sizeof(meant));
+    expect("a legend is told with its length", jasminedo_number(got) == 0 && jasminedo_detail(got) == legend_length);
+    expect("the legend has the section and the rule with their words", memcmp(meant, legend, legend_length) == 0);
+    expect("what follows the legend is left", memcmp(meant + legend_length, before, sizeof(meant) - legend_length) == 0);
 }
 
 int main(void) {

@@ -1,6 +1,6 @@
 /* The library as a program, for machines whose own programs cannot be linked with it. Takes packed cases (second/README.md
  * says how they look) from standard input until it ends. Gives for each the answer and the whole lent output, for a message
- * also the check and the place; numbers have eight bytes, the high byte first. A case is a message, a batch or a text. */
+ * also the check and the place; numbers have eight bytes, the high byte first. A case is a message, a batch, a text or a book. */
 #include "../include/jasminedo.h"
 
 #include <stdio.h>
@@ -51,7 +51,7 @@ static void write_number(uint64_t number) {
         putchar((int)(number >> shift & 255));
 }
 
-/* What stands in the output before the answer: no ACK has these bytes. The comparison fills alike. */
+/* What stands in the output before the answer: no ACK and no text has these bytes. The comparison fills alike. */
 static uint8_t filled(size_t at) { return (uint8_t)(128 + at % 127); }
 
 /* The lent output before the answer, and the guard after it. */
@@ -70,7 +70,7 @@ static void write_output(const uint8_t *output, size_t length) {
 }
 
 /* What a case begins with. */
-enum { MESSAGE = 1, BATCH = 2, COMPILE = 3 };
+enum { MESSAGE = 1, BATCH = 2, COMPILE = 3, SHOW = 4, LEGEND = 5 };
 
 /* A message or a batch. */
 static void run_answer(uint32_t kind) {
@@ -95,16 +95,18 @@ static void run_answer(uint32_t kind) {
     free(output);
 }
 
-/* A text to be compiled. */
-static void run_compile(void) {
-    struct bytes text = read_bytes();
+/* A text or a book that is to become the other, or a legend. */
+static void run_book(uint32_t kind) {
+    struct bytes given = read_bytes();
     size_t length = read_number();
     uint8_t *output = lent(length);
 
-    write_number(jasminedo_compile(text.start, text.length, output, length));
+    uint64_t (*call)(const uint8_t *, size_t, uint8_t *, size_t) =
+        kind == COMPILE ? jasminedo_compile : kind == SHOW ? jasminedo_show : jasminedo_legend;
+    write_number(call(given.start, given.length, output, length));
     write_output(output, length);
 
-    free(text.start);
+    free(given.start);
     free(output);
 }
 
@@ -112,8 +114,8 @@ static void run_case(void) {
     uint32_t kind = read_number();
     if (kind == MESSAGE || kind == BATCH)
         run_answer(kind);
-    else if (kind == COMPILE)
-        run_compile();
+    else if (kind == COMPILE || kind == SHOW || kind == LEGEND)
+        run_book(kind);
     else
         fail("a case begins with another number");
 }

@@ -8,7 +8,7 @@ use std::io::{self, Read};
 use std::os::unix::ffi::OsStrExt;
 use std::path::Path;
 
-const USAGE: &str = "usage: book compile SOURCE BOOK | check SOURCE\n";
+const USAGE: &str = "usage: book compile SOURCE BOOK | check SOURCE | show BOOK | legend SOURCE\n";
 
 /// What is printed, and the status with which the program ends.
 #[derive(Clone, Debug, PartialEq, Eq)]
@@ -87,7 +87,7 @@ pub fn compiled(text: &[u8]) -> (Printed, Option<Vec<u8>>) {
 pub fn shown(book: &[u8]) -> Printed {
     match booktext::shown(book) {
         Ok(text) => Printed::new(text, 0),
-        Err(Told { number, .. }) => Printed::new(format!("book refused {number}: {}\n", reason(number)), 3),
+        Err(Told { number, .. }) => Printed::new(format!("book refused {number}\n"), 3),
     }
 }
 
@@ -110,8 +110,6 @@ fn refused(Told { number, detail: line, section }: Told) -> Printed {
 
 fn reason(number: u8) -> &'static str {
     match number {
-        7 => "it is no book: malformed",
-        8 => "another version than 1",
         31 => "the text has over 1,048,576 bytes",
         32 => "a byte that is not allowed: only ASCII signs, blanks, tabs and line ends are",
         33 => "the first word is no statement's name",
@@ -134,7 +132,6 @@ fn reason(number: u8) -> &'static str {
         51 => "the section holds over 64 sets",
         53 => "the set has no code, or over 1,024",
         54 => "the book has over 65,536 bytes, counted up to this section",
-        55 => "the output is too short",
         56 => "the section has over 2,048 statements, with those it takes over",
         _ => unreachable!("no refusal has the number {number}"),
     }
@@ -148,7 +145,7 @@ mod tests {
     #[test]
     fn each_sample_can_be_printed() {
         for sample in sources::samples() {
-            let given = &sample.given;
+            let given = &sample.case.given;
             for printed in [compiled(given).0, shown(given), legend(given)] {
                 assert_eq!(printed.text.last(), Some(&b'\n'), "{}", sample.name);
             }
@@ -165,7 +162,7 @@ mod tests {
         let expected = "refused 48 line 4 section 3: the section has no rule of this place and kind yet: write rule\n";
         assert_eq!(compiled(text).0.text, expected.as_bytes());
         assert_eq!(legend(text).text, expected.as_bytes());
-        assert_eq!(shown(b"").text, b"book refused 7: it is no book: malformed\n");
-        assert_eq!(shown(b"VXB\0\x02").text, b"book refused 8: another version than 1\n");
+        assert_eq!(shown(b""), Printed::new("book refused 7\n", 3));
+        assert_eq!(shown(b"VXB\0\x02"), Printed::new("book refused 8\n", 3));
     }
 }

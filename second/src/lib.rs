@@ -11,6 +11,7 @@ pub mod booktext;
 pub mod cases;
 pub mod cutting;
 pub mod findings;
+pub mod hostile;
 pub mod limits;
 pub mod line;
 pub mod locating;

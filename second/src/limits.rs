@@ -57,6 +57,18 @@ pub fn rules_of(count: usize) -> Vec<u8> {
     books::encode(&[section])
 }
 
+/// A book of 65,536 bytes with the most text for them: 64 sections with keys of 20 bytes, each with 64 sets of one code,
+/// and rules that name the last of them.
+pub fn wordiest_book() -> Vec<u8> {
+    let rule = rule("PID", 99, 20, 6, b'E', [64, 0, 0]);
+    let section = |number: usize| SectionPlan {
+        key: format!("{number:0>20}").into_bytes(),
+        rules: vec![rule; if number == 1 { 99 } else { 74 }],
+        sets: vec![vec![b"x".to_vec()]; 64],
+    };
+    books::encode(&(1..=64).map(section).collect::<Vec<_>>())
+}
+
 /// A batch file with the usual delimiters and no counts.
 pub fn batch(messages: &[u8]) -> Vec<u8> {
     [b"FHS|^~\\&|\rBHS\r", messages, b"BTS\rFTS\r"].concat()

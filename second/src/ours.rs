@@ -1,6 +1,7 @@
-//! The main code's static library, by its five C functions.
+//! The main code's static library, by its seven C functions.
 
 use second::booktext::Told;
+use second::cases::BookCall;
 use second::packing::{self, number_and_detail, start_and_length};
 
 #[link(name = "jasminedo", kind = "static")]
@@ -37,6 +38,8 @@ extern "C" {
         component: usize,
     ) -> u64;
     fn jasminedo_compile(text: *const u8, text_length: usize, output: *mut u8, output_length: usize) -> u64;
+    fn jasminedo_show(book: *const u8, book_length: usize, output: *mut u8, output_length: usize) -> u64;
+    fn jasminedo_legend(text: *const u8, text_length: usize, output: *mut u8, output_length: usize) -> u64;
 }
 
 /// `jasminedo_answer` or `jasminedo_batch`.
@@ -68,9 +71,15 @@ fn ask(call: Call, given: &[u8], book: &[u8], stamp: &[u8], control: u32, out: &
     number_and_detail(result)
 }
 
-pub fn compile(text: &[u8], out: &mut [u8]) -> Told {
+/// What is told of a text or a book.
+pub fn told(call: BookCall, given: &[u8], out: &mut [u8]) -> Told {
+    let call = match call {
+        BookCall::Compile => jasminedo_compile,
+        BookCall::Show => jasminedo_show,
+        BookCall::Legend => jasminedo_legend,
+    };
     // SAFETY: both pointers come with the length of their own slice, and only `out` is written.
-    packing::told(unsafe { jasminedo_compile(text.as_ptr(), text.len(), out.as_mut_ptr(), out.len()) })
+    packing::told(unsafe { call(given.as_ptr(), given.len(), out.as_mut_ptr(), out.len()) })
 }
 
 pub fn check(m: &[u8]) -> (u8, u64) {

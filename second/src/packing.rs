@@ -1,13 +1,15 @@
 //! Packed cases: numbers of four bytes with the high byte first, one case after the other. And the
 //! single numbers in which the library answers.
 
-use crate::booktext::Told;
-use crate::cases::{AnyCase, BatchCase, BookCase, Case};
+use crate::booktext::{Told, TOO_SHORT};
+use crate::cases::{AnyCase, BatchCase, BookCall, BookCase, Case};
 
 /// What a case begins with.
 const MESSAGE: u32 = 1;
 const BATCH: u32 = 2;
 const COMPILE: u32 = 3;
+const SHOW: u32 = 4;
+const LEGEND: u32 = 5;
 
 fn pack(case: &AnyCase, packed: &mut Vec<u8>) {
     match case {
@@ -22,9 +24,14 @@ fn pack(case: &AnyCase, packed: &mut Vec<u8>) {
             pack_bytes(&[file, book, stamp], packed);
             pack_numbers(&[*control, *output_length as u32], packed);
         }
-        AnyCase::Book(BookCase { text, output_length }) => {
-            pack_numbers(&[COMPILE], packed);
-            pack_bytes(&[text], packed);
+        AnyCase::Book(BookCase { call, given, output_length }) => {
+            let kind = match call {
+                BookCall::Compile => COMPILE,
+                BookCall::Show => SHOW,
+                BookCall::Legend => LEGEND,
+            };
+            pack_numbers(&[kind], packed);
+            pack_bytes(&[given], packed);
             pack_numbers(&[*output_length as u32], packed);
         }
     }
@@ -56,7 +63,9 @@ pub fn unpack(mut packed: &[u8]) -> Option<Vec<AnyCase>> {
         cases.push(match take_number(&mut packed)? {
             MESSAGE => AnyCase::Message(take_message(&mut packed)?),
             BATCH => AnyCase::Batch(take_batch(&mut packed)?),
-            COMPILE => AnyCase::Book(take_book(&mut packed)?),
+            COMPILE => AnyCase::Book(take_book(&mut packed, BookCall::Compile)?),
+            SHOW => AnyCase::Book(take_book(&mut packed, BookCall::Show)?),
+            LEGEND => AnyCase::Book(take_book(&mut packed, BookCall::Legend)?),
             _ => return None,
         });
     }
@@ -76,10 +85,10 @@ fn take_message(packed: &mut &[u8]) -> Option<Case> {
     Some(Case { message: file, book, stamp, control, output_length, place })
 }
 
-fn take_book(packed: &mut &[u8]) -> Option<BookCase> {
-    let text = take_bytes(packed)?;
+fn take_book(packed: &mut &[u8], call: BookCall) -> Option<BookCase> {
+    let given = take_bytes(packed)?;
     let output_length = take_number(packed)? as usize;
-    Some(BookCase { text, output_length })
+    Some(BookCase { call, given, output_length })
 }
 
 fn take_numbers<const N: usize>(packed: &mut &[u8]) -> Option<[u32; N]> {
@@ -108,9 +117,12 @@ pub fn number_and_detail(result: u64) -> (u8, u64) {
     ((result % 256) as u8, result / 256)
 }
 
-/// An answer about books as text.
+/// An answer about books as text. A length takes all of the detail; a line leaves room for a section above it.
 pub fn told(result: u64) -> Told {
-    Told { number: (result % 256) as u8, detail: result / 256 % (1 << 32), section: result >> 40 }
+    match number_and_detail(result) {
+        (number @ (0 | TOO_SHORT), length) => (number, length).into(),
+        (number, detail) => Told { number, detail: detail % (1 << 32), section: detail >> 32 },
+    }
 }
 
 /// A place.
@@ -139,11 +151,13 @@ mod tests {
             control: 1,
             output_length: 0x0102_0304,
         });
-        let book = AnyCase::Book(BookCase { text: b"book".to_vec(), output_length: 258 });
-        let packed = pack_all(&[book.clone(), book.clone()]);
+        let calls = [BookCall::Compile, BookCall::Show, BookCall::Legend];
+        let books = calls.map(|call| AnyCase::Book(BookCase { call, given: b"book".to_vec(), output_length: 258 }));
+        let packed = pack_all(&books);
         assert_eq!(packed[..16], [0, 0, 0, 3, 0, 0, 0, 4, b'b', b'o', b'o', b'k', 0, 0, 1, 2]);
-        assert_eq!(unpack(&packed), Some(vec![book.clone(), book]));
-        assert_eq!(unpack(&packed[..31]), None);
+        assert_eq!((packed[19], packed[35]), (4, 5));
+        assert_eq!(unpack(&packed), Some(books.to_vec()));
+        assert_eq!(unpack(&packed[..47]), None);
         let mut packed = pack_all(&[batch.clone(), case.clone(), case.clone()]);
         assert_eq!(packed[..12], [0, 0, 0, 2, 0, 0, 0, 4, b'F', b'H', b'S', b'\r']);
         assert_eq!(packed[26..41], [1, 1, 2, 3, 4, 0, 0, 0, 1, 0, 0, 0, 3, b'M', b'S']);
@@ -152,15 +166,16 @@ mod tests {
         packed.pop();
         assert_eq!(unpack(&packed), None);
         let mut other = pack_all(&[batch]);
-        for number in [0, 4, 5] {
-            other[3] = number;
-            assert_eq!(unpack(&other), None);
-        }
+        other[3] = 6;
+        assert_eq!(unpack(&other), None);
     }
 
     #[test]
-    fn answers_have_three_parts() {
-        let result = 56 + 256 * 0xFFEE_DDCC + (1 << 40) * 1_048_577;
-        assert_eq!(told(result), Told { number: 56, detail: 0xFFEE_DDCC, section: 1_048_577 });
+    fn answers_have_a_line_and_a_section_or_a_length() {
+        let above = 0xFFEE_DDCC + (1 << 32) * 1_048_577;
+        assert_eq!(told(56 + 256 * above), Told { number: 56, detail: 0xFFEE_DDCC, section: 1_048_577 });
+        for number in [0, TOO_SHORT] {
+            assert_eq!(told(u64::from(number) + 256 * above), Told { number, detail: above, section: 0 });
+        }
     }
 }

@@ -116,7 +116,7 @@ fn books_as_text() {
     let compiled = told("compiled 25 bytes, 1 sections, 1 rules, 1 sets\n", 0);
     assert_eq!(run(&["check", "a"]), compiled);
     assert_eq!(fs::read(folder.join("b")).unwrap(), b"old");
-    assert_eq!(run(&["show", "b"]), told("book refused 7: it is no book: malformed\n", 3));
+    assert_eq!(run(&["show", "b"]), told("book refused 7\n", 3));
     assert_eq!(run(&["compile", "a", "b"]), compiled);
     let bytes = b"VXB\0\x01\x01\x01A\0\x01\x01PID\x03\0\x06E\x01\0\0\0\x01\x01x";
     assert_eq!(fs::read(folder.join("b")).unwrap(), bytes);
@@ -128,16 +128,26 @@ fn books_as_text() {
     let refused = told("refused 45 line 4: it names a set or common that there is not\n", 2);
     assert_eq!(run(&["compile", "a", "b"]), refused);
     assert_eq!(run(&["compile", "a", "nowhere/b"]), refused);
+    assert_eq!(run(&["legend", "a"]), refused);
+    // A legend's second word is 0, which no refusal has there.
+    fs::write(folder.join("a"), "book 1\nsection refused | x\n").unwrap();
+    assert_eq!(run(&["legend", "a"]), told("refused 0 | x\n", 0));
     fs::write(folder.join("a"), [b'\n'; 1_048_577]).unwrap();
     assert_eq!(run(&["compile", "a", "b"]), told("refused 31: the text has over 1,048,576 bytes\n", 2));
     assert_eq!(fs::read(folder.join("b")).unwrap(), bytes);
-    fs::write(folder.join("b"), [b"VXB\0\x02".as_slice(), &[0; 65_532]].concat()).unwrap();
-    assert_eq!(run(&["show", "b"]), told("book refused 7: it is no book: malformed\n", 3));
-    assert_eq!(run(&["show", "c"]), told("file cannot be read: c\n", 4));
+    for (zeros, told_of) in
+        [(65_531, "book refused 8\n"), (65_532, "book refused 7\n"), (3_000_000, "book refused 7\n")]
+    {
+        fs::write(folder.join("b"), [b"VXB\0\x02".as_slice(), &vec![0; zeros]].concat()).unwrap();
+        assert_eq!(run(&["show", "b"]), told(told_of, 3));
+    }
+    for call in ["show", "legend"] {
+        assert_eq!(run(&[call, "c"]), told("file cannot be read: c\n", 4));
+    }
     fs::write(folder.join("a"), text).unwrap();
     assert_eq!(run(&["compile", "a", "nowhere/b"]), told("file cannot be written: nowhere/b\n", 4));
-    let usage = told("usage: book compile SOURCE BOOK | check SOURCE\n", 5);
-    for wrong in [["compile", "a"].as_slice(), &[], &["show"], &["check", "a", "b"], &["diff", "a", "b"]] {
+    let usage = told("usage: book compile SOURCE BOOK | check SOURCE | show BOOK | legend SOURCE\n", 5);
+    for wrong in [["compile", "a"].as_slice(), &[], &["show"], &["legend"], &["check", "a", "b"], &["diff", "a", "b"]] {
         assert_eq!(run(wrong), usage);
     }
 }

@@ -5,10 +5,11 @@
 mod ours;
 
 use second::batch::FILE_LIMIT;
-use second::book::BOOK_LIMIT;
+use second::booktext::TEXT_LIMIT;
+use second::cases::{BookCall, BookCase};
 use second::line::BATCH;
 use second::samples::{self, STAMP};
-use second::{books, booktext, cases, limits, registries};
+use second::{books, booktext, cases, hostile, limits, registries};
 use std::env;
 use std::hint::black_box;
 use std::io::Write;
@@ -21,6 +22,7 @@ const ROUNDS: usize = 25;
 const SLOW_ROUNDS: usize = 7;
 const ONE_SAMPLE: Duration = Duration::from_millis(2);
 const OUTPUT_LENGTH: usize = 65_536;
+const USAGE: &str = "usage: bench [hostile [BYTES]]";
 
 struct Input {
     name: String,
@@ -46,6 +48,16 @@ fn main() -> ExitCode {
 }
 
 fn run() -> Result<(), String> {
+    let arguments: Vec<String> = env::args().skip(1).collect();
+    match arguments.iter().map(String::as_str).collect::<Vec<_>>()[..] {
+        [] => usual(),
+        ["hostile"] => hostile(TEXT_LIMIT),
+        ["hostile", length] => hostile(length.parse().map_err(|_| USAGE)?),
+        _ => Err(USAGE.into()),
+    }
+}
+
+fn usual() -> Result<(), String> {
     println!("Medians of {ROUNDS} samples, of {SLOW_ROUNDS} where one run takes 2 ms or more. Bytes are those of message and book.");
     answers()?;
     growths()?;
@@ -134,24 +146,67 @@ fn measure_batch(file: &[u8], message: &[u8], count: u32) -> Result<[f64; 4], St
     ]))
 }
 
-/// The registries' source.
+/// The registries' source compiled, its book shown, and its legend.
 fn sources() -> Result<(), String> {
-    println!("\nCompiling a book's text: the registries' rules in 24 sections, in microseconds\n");
-    println!("{:>9} {:>9} {:>11} {:>11}", "bytes in", "bytes out", "ours", "second");
+    println!("\nBooks as text: the registries' rules in 24 sections, in microseconds\n");
+    println!("{:8} {:>9} {:>9} {:>11} {:>11}", "call", "bytes in", "bytes out", "ours", "second");
     let source = registries::source().into_bytes();
-    let (mut out_ours, mut out_second) = (vec![0; BOOK_LIMIT], vec![0; BOOK_LIMIT]);
-    let told = booktext::compile(&source, &mut out_second);
-    if told.number != 0 {
+    let Ok(compiled) = booktext::compiled(&source) else {
         return Err("the registries' source is refused".into());
+    };
+    let calls = [(BookCall::Compile, &source), (BookCall::Show, &compiled.book), (BookCall::Legend, &source)];
+    for (call, given) in calls {
+        let case = BookCase { call, given: given.clone(), output_length: 1_048_576 };
+        let (mut out_ours, mut out_second) = (vec![0; case.output_length], vec![0; case.output_length]);
+        let told = case.answer(&mut out_second);
+        if ours::told(call, given, &mut out_ours) != told || out_ours != out_second {
+            return Err(format!("{call:?}: ours and second answer differently"));
+        }
+        let [ours, second] = medians([&mut || ours::told(call, black_box(given), &mut out_ours).detail, &mut || {
+            black_box(&case).answer(&mut out_second).detail
+        }]);
+        let name = format!("{call:?}").to_lowercase();
+        let (ours, second) = (ours / 1000.0, second / 1000.0);
+        println!("{name:8} {:>9} {:>9} {ours:>11.1} {second:>11.1}", given.len(), told.detail);
     }
-    if ours::compile(&source, &mut out_ours) != told || out_ours != out_second {
-        return Err("the registries' source: ours and second answer differently".into());
-    }
-    let [ours, second] = medians([&mut || ours::compile(black_box(&source), &mut out_ours).detail, &mut || {
-        booktext::compile(black_box(&source), &mut out_second).detail
-    }]);
-    println!("{:>9} {:>9} {:>11.1} {:>11.1}", source.len(), told.detail, ours / 1000.0, second / 1000.0);
     Ok(())
+}
+
+/// Texts that are slow on purpose, each once, since some take long.
+fn hostile(length: usize) -> Result<(), String> {
+    println!(
+        "Texts of {length} bytes that are slow on purpose, in milliseconds, and what is told: 0, it is accepted\n"
+    );
+    println!(
+        "{:42} {:>9} {:>4} {:>11} {:>8} {:>11} {:>8}",
+        "text", "bytes", "told", "compile", "second", "legend", "second"
+    );
+    for (name, text) in hostile::texts(length) {
+        let (number, ours, second) = measure_once(name, BookCall::Compile, &text)?;
+        let (_, legend_ours, legend_second) = measure_once(name, BookCall::Legend, &text)?;
+        print!("{name:42} {:>9} {number:>4} {ours:>11.1} {second:>8.1}", text.len());
+        println!(" {legend_ours:>11.1} {legend_second:>8.1}");
+    }
+    Ok(())
+}
+
+/// The number told, and milliseconds of ours and second.
+fn measure_once(name: &str, call: BookCall, text: &str) -> Result<(u8, f64, f64), String> {
+    let mut case = BookCase { call, given: text.into(), output_length: 0 };
+    case.output_length = case.needed().unwrap_or_default() as usize;
+    let (mut out_ours, mut out_second) = (vec![0; case.output_length], vec![0; case.output_length]);
+    let (told, ours) = once(|| ours::told(call, text.as_bytes(), &mut out_ours));
+    let (expected, second) = once(|| case.answer(&mut out_second));
+    if told != expected || out_ours != out_second {
+        return Err(format!("{name}, {call:?}: ours {told:?}, second {expected:?}"));
+    }
+    Ok((told.number, ours, second))
+}
+
+fn once<T>(run: impl FnOnce() -> T) -> (T, f64) {
+    let start = Instant::now();
+    let made = run();
+    (made, start.elapsed().as_secs_f64() * 1000.0)
 }
 
 /// Check and locate, beside a parser that does no more than read.

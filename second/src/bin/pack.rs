@@ -1,11 +1,10 @@
 //! Writes cases for the main code's own runner, and the text that it has to print for them.
 
 use second::book::BOOK_LIMIT;
-use second::cases::{number_of, AnyCase, BatchCase, BookCase, BookGenerator, Case, Pair, BOOK_ROWS};
+use second::cases::{number_of, AnyCase, BatchCase, BookCall, BookCase, BookGenerator, Case, Pair, BOOK_ROWS};
 use second::cutting::MESSAGE_LIMIT;
 use second::samples::{self, batches, case, sources, PLACES, STAMP};
 use second::{books, limits, packing};
-use std::collections::HashMap;
 use std::process::ExitCode;
 use std::{env, fs};
 
@@ -13,7 +12,7 @@ use std::{env, fs};
 const ROOM: [usize; 4] = [MESSAGE_LIMIT + 1, BOOK_LIMIT + 1, 1_024, 131_072];
 /// The same for a batch, with the bytes of its file.
 const BATCH_ROOM: [usize; 4] = [131_072, BOOK_LIMIT + 1, 1_024, 131_072];
-/// The same for a text to be compiled.
+/// The same for a text or a book that is to become the other.
 const BOOK_ROOM: [usize; 4] = [131_072, 0, 0, 131_072];
 
 fn main() -> ExitCode {
@@ -43,7 +42,7 @@ fn run() -> Result<(), String> {
             }
             AnyCase::Book(case) => {
                 text.extend(case.printed());
-                ([case.text.len(), 0, 0, case.output_length], BOOK_ROOM)
+                ([case.given.len(), 0, 0, case.output_length], BOOK_ROOM)
             }
         };
         if lengths.iter().zip(room).any(|(length, room)| *length > room) {
@@ -146,7 +145,7 @@ fn long_cases() -> Vec<Case> {
     cases
 }
 
-/// Longer texts are few, so that the pack stays small.
+/// Longer texts and books are few, so that the pack stays small.
 const LONG: usize = 16_000;
 
 /// The samples, but not many for one refusal, then what is generated for two rows that stand side by side, and for
@@ -154,21 +153,19 @@ const LONG: usize = 16_000;
 fn book_cases() -> Result<Vec<BookCase>, String> {
     let mut chosen = Chosen::default();
     for sample in sources::samples() {
-        expect(&sample.name, sample.printed() == sample.expected)?;
-        if let Some(case) = sample.case() {
-            chosen.add(case);
-        }
+        expect(&sample.name, sample.case.printed() == sample.expected)?;
+        chosen.add(sample.case);
     }
     let generator = BookGenerator::new(1);
     let generated: Vec<_> = (0..generator.firsts()).map(|index| generator.case(index)).collect();
     for (case, pair) in &generated {
         let beside = |pair: Pair| BOOK_ROWS.windows(2).any(|rows| (rows[0], rows[1]) == pair);
-        if pair.is_some_and(beside) && case.text.len() < LONG {
-            chosen.push(case.clone(), number(case));
+        if pair.is_some_and(beside) && case.given.len() < LONG {
+            chosen.push(case.clone());
         }
     }
     for (case, _) in generated {
-        if !chosen.has(number(&case)) {
+        if !chosen.told.contains(&told(&case)) {
             chosen.add(case);
         }
     }
@@ -179,49 +176,51 @@ fn book_cases() -> Result<Vec<BookCase>, String> {
 #[derive(Default)]
 struct Chosen {
     cases: Vec<BookCase>,
-    /// How many tell a number, the short ones and the long ones.
-    counts: HashMap<u8, [usize; 2]>,
+    /// Of each case.
+    told: Vec<(BookCall, u8)>,
 }
 
 impl Chosen {
-    fn push(&mut self, case: BookCase, number: u8) {
-        self.counts.entry(number).or_default()[usize::from(is_long(&case))] += 1;
+    fn push(&mut self, case: BookCase) {
+        self.told.push(told(&case));
         self.cases.push(case);
     }
 
     fn add(&mut self, case: BookCase) {
-        let (number, is_long) = (number(&case), is_long(&case));
-        let alike = self.counts.get(&number).map_or(0, |counts| counts[usize::from(is_long)]);
-        let most = match number {
+        let told = told(&case);
+        let is_long = case.given.len() > LONG;
+        let alike = self
+            .cases
+            .iter()
+            .zip(&self.told)
+            .filter(|(other, others)| **others == told && (other.given.len() > LONG) == is_long);
+        let most = match told {
             _ if is_long => 1,
-            0 => usize::MAX,
-            _ => 5,
+            (_, 0) => usize::MAX,
+            (BookCall::Compile, _) => 5,
+            (BookCall::Show, _) => 9,
+            (BookCall::Legend, _) => 2,
         };
-        let fits = case.text.len() <= BOOK_ROOM[0] && case.output_length <= BOOK_ROOM[3];
-        if fits && alike < most {
-            self.push(case, number);
+        let fits = case.given.len() <= BOOK_ROOM[0] && case.output_length <= BOOK_ROOM[3];
+        if fits && alike.count() < most {
+            self.push(case);
         }
-    }
-
-    fn has(&self, number: u8) -> bool {
-        self.counts.contains_key(&number)
     }
 
     /// Each number but 31, for which a runner has no room.
     fn expect_each_number(&self) -> Result<(), String> {
-        let mut numbers = [0].into_iter().chain(BOOK_ROWS.map(number_of)).filter(|number| *number != 31);
-        match numbers.find(|number| !self.has(*number)) {
-            Some(number) => Err(format!("no packed case has a text's number {number}")),
-            None => Ok(()),
+        let rows: Vec<u8> = [0].into_iter().chain(BOOK_ROWS.map(number_of)).filter(|row| *row != 31).collect();
+        let shown = vec![0, 7, 8, 55];
+        for (call, numbers) in [(BookCall::Compile, &rows), (BookCall::Show, &shown), (BookCall::Legend, &rows)] {
+            if let Some(number) = numbers.iter().find(|number| !self.told.contains(&(call, **number))) {
+                return Err(format!("no packed case has {call:?} {number}"));
+            }
         }
+        Ok(())
     }
 }
 
-fn is_long(case: &BookCase) -> bool {
-    case.text.len() > LONG
-}
-
-/// The number that is told.
-fn number(case: &BookCase) -> u8 {
-    case.answer(&mut vec![0; case.output_length]).number
+/// What is asked for and the number that is told.
+fn told(case: &BookCase) -> (BookCall, u8) {
+    (case.call, case.answer(&mut vec![0; case.output_length]).number)
 }

@@ -91,18 +91,6 @@ fn understood<T>(text: &[u8], made: impl FnOnce(Meaning) -> T) -> Result<T, Told
     contents::read(&pages).map(made)
 }
 
-/// What is printed for a call by a program that runs packed cases: what is told, and what was written.
-pub fn printed(output_length: usize, call: impl FnOnce(&mut [u8]) -> Told) -> Vec<u8> {
-    let mut out = vec![0; output_length];
-    let Told { number, detail, section } = call(&mut out);
-    let mut printed = format!("{number} {detail} {section}\n").into_bytes();
-    if number == 0 {
-        printed.extend(&out[..detail as usize]);
-        printed.push(b'\n');
-    }
-    printed
-}
-
 /// Writes what was made if there is room for it; the output's other bytes stay as they are.
 fn written(made: Result<Vec<u8>, Told>, out: &mut [u8]) -> Told {
     match made {

@@ -18,7 +18,7 @@ pub use delimiters::{exchange, Five, ALLOWED};
 pub(crate) use faults::FAULTY_RULES;
 pub use places::place;
 pub use random::Random;
-pub use sources::{number_of, BookCase, BookGenerator, BOOK_ROWS, NO_SECTION};
+pub use sources::{number_of, BookCall, BookCase, BookGenerator, BOOK_ROWS, NO_SECTION};
 
 use crate::books::{self, SectionPlan};
 use crate::booktext::Told;
@@ -63,7 +63,7 @@ fn length_needed((number, detail): (u8, u64)) -> Option<u64> {
     (number == 11).then_some(detail)
 }
 
-/// What is asked of the main code: an answer to one message or to a batch, or the book of a text.
+/// What is asked of the main code: an answer to one message or to a batch, or a book or text to be made of the other.
 #[derive(Clone, Debug, PartialEq, Eq)]
 pub enum AnyCase {
     Message(Case),

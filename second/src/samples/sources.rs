@@ -4,45 +4,13 @@ mod borders;
 mod refusals;
 mod shown;
 
-use crate::booktext::{self, Told};
-use crate::cases::BookCase;
+use crate::cases::{BookCall, BookCase};
 
-/// What is asked for.
-#[derive(Clone, Copy, Debug, PartialEq, Eq)]
-pub enum BookCall {
-    Compile,
-    Show,
-    Legend,
-}
-
-/// A text, or for `Show` a book; the output is lent as so many bytes.
 pub struct BookSample {
     pub name: String,
-    pub call: BookCall,
-    pub given: Vec<u8>,
-    pub output_length: usize,
-    /// What has to be printed for it: number, detail and section, then what was written.
+    pub case: BookCase,
+    /// What has to be printed for it as a packed case.
     pub expected: Vec<u8>,
-}
-
-impl BookSample {
-    pub fn answer(&self, out: &mut [u8]) -> Told {
-        match self.call {
-            BookCall::Compile => booktext::compile(&self.given, out),
-            BookCall::Show => booktext::show(&self.given, out),
-            BookCall::Legend => booktext::legend(&self.given, out),
-        }
-    }
-
-    pub fn printed(&self) -> Vec<u8> {
-        booktext::printed(self.output_length, |out| self.answer(out))
-    }
-
-    /// A text to be compiled is a case.
-    pub fn case(&self) -> Option<BookCase> {
-        let case = || BookCase { text: self.given.clone(), output_length: self.output_length };
-        (self.call == BookCall::Compile).then(case)
-    }
 }
 
 /// More than any book takes; with it a sample's text is shorter than what a runner of packed cases has room for.
@@ -69,7 +37,8 @@ pub fn samples() -> Vec<BookSample> {
 }
 
 fn sample(name: &str, call: BookCall, given: &[u8], output_length: usize, expected: Vec<u8>) -> BookSample {
-    BookSample { name: format!("{call:?}: {name}"), call, given: given.to_vec(), output_length, expected }
+    let case = BookCase { call, given: given.to_vec(), output_length };
+    BookSample { name: format!("{call:?}: {name}"), case, expected }
 }
 
 /// Number 0, its detail and what was written.
@@ -97,8 +66,8 @@ fn refused(name: &str, text: impl AsRef<[u8]>, [number, line, section]: [usize; 
 /// Refused alike where the legend is asked for.
 fn refused_twice(name: &str, text: impl AsRef<[u8]>, told: [usize; 3]) -> [BookSample; 2] {
     let by_compile = refused(name, text, told);
-    let BookSample { given, expected, .. } = &by_compile;
-    let by_legend = sample(name, BookCall::Legend, given, ROOM, expected.clone());
+    let BookSample { case, expected, .. } = &by_compile;
+    let by_legend = sample(name, BookCall::Legend, &case.given, ROOM, expected.clone());
     [by_compile, by_legend]
 }
 
@@ -452,6 +421,7 @@ fn legends() -> Vec<BookSample> {
                  rule PID-3 LENGTH E 1 20 || \nsection B | B's | words \t\r\n";
     let meant = "A 0\nA 1 PID-1 DATE E | a\nA 2 PID-2 CODE W s | two  blanks | and a bar |\nA 3 PID-1 DATE I\n\
                  A 4 PID-3 LENGTH E 1 20 | |\nB 0 | B's | words\n";
+    let (name, long) = ("n".repeat(300), "a  |".repeat(15_000));
     vec![
         legend("the shortest text", "book 1\nsection A", "A 0\n"),
         legend("words for people", words, meant),
@@ -469,6 +439,24 @@ fn legends() -> Vec<BookSample> {
         ),
         legend("CR inside the words", "book 1\nsection A | a\rb\r\n", "A 0 | a\rb\n"),
         legend("tabs inside the words", "book 1\nsection A |\ta\t\tb\t\n", "A 0 | a\t\tb\n"),
+        legend(
+            "words of a common in several sections, with and without a severity",
+            "book 1\ncommon c\nrule PID-1 DATE E | born\nalso PID-1 DATE W |\nsection A\nuse c I | used\n\
+             section B | B\nuse c\nsection C\nrule PID-2 DATE E | own\nuse c W\n",
+            "A 0\nA 1 PID-1 DATE I | born\nA 2 PID-1 DATE I\nB 0 | B\nB 1 PID-1 DATE E | born\nB 2 PID-1 DATE W\n\
+             C 0\nC 1 PID-2 DATE E | own\nC 2 PID-1 DATE W | born\nC 3 PID-1 DATE W\n",
+        ),
+        legend(
+            "bars and blanks alone",
+            "book 1\nsection A |||\nsection B | \t\r|\t|\r \nsection C \t\r|\r\t \r\n",
+            "A 0 | ||\nB 0 | |\t|\nC 0\n",
+        ),
+        legend("keys that a program could print", "book 1\nsection refused\nsection book\n", "refused 0\nbook 0\n"),
+        legend(
+            "a long name and long words",
+            format!("book 1\nset {name} x\nsection A\nrule PID-1 CODE E {name}|{long}\n"),
+            &format!("A 0\nA 1 PID-1 CODE E {name} | {long}\n"),
+        ),
         sample(
             "a long remark of a common in 64 sections",
             BookCall::Legend,
@@ -516,13 +504,12 @@ fn outputs() -> Vec<BookSample> {
 #[cfg(test)]
 mod tests {
     use super::*;
-    use crate::books;
+    use crate::{books, booktext, limits};
 
     #[test]
     fn every_book_is_told_as_written_by_hand() {
-        for sample in samples() {
-            let printed = sample.printed();
-            let BookSample { name, expected, .. } = sample;
+        for BookSample { name, case, expected } in samples() {
+            let printed = case.printed();
             let shown = |bytes: &[u8]| bytes[..bytes.len().min(400)].escape_ascii().to_string();
             assert_eq!(shown(&printed), shown(&expected), "{name}");
             assert!(printed == expected, "{name}");
@@ -531,20 +518,20 @@ mod tests {
 
     #[test]
     fn outputs_are_left_alone_where_nothing_is_to_be_written() {
-        for sample in samples() {
-            let mut out = vec![0xA5; sample.output_length + 9];
-            let told = sample.answer(&mut out[..sample.output_length]);
+        for BookSample { name, case, .. } in samples() {
+            let mut out = vec![0xA5; case.output_length + 9];
+            let told = case.answer(&mut out[..case.output_length]);
             let written = if told.number == 0 { told.detail as usize } else { 0 };
-            assert!(out[written..].iter().all(|b| *b == 0xA5), "{}", sample.name);
+            assert!(out[written..].iter().all(|b| *b == 0xA5), "{name}");
         }
     }
 
     #[test]
     fn what_is_shown_compiles_to_the_same_book() {
-        let registries = [books::registries_book(), books::largest_book(), books::encode(&shown::long_names())];
-        let samples = samples().into_iter().filter(|sample| sample.call == BookCall::Show);
+        let registries = [books::registries_book(), books::largest_book(), limits::wordiest_book()];
+        let samples = samples().into_iter().filter(|sample| sample.case.call == BookCall::Show);
         let mut shown = 0;
-        for book in samples.map(|sample| sample.given).chain(registries) {
+        for book in samples.map(|sample| sample.case.given).chain(registries) {
             if let Ok(text) = booktext::shown(&book) {
                 let compiled = booktext::compiled(&text).unwrap_or_else(|told| panic!("{told:?}"));
                 assert!(compiled.book == book && booktext::shown(&compiled.book) == Ok(text));

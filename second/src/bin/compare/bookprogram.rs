@@ -2,22 +2,23 @@
 //! writes is compared.
 
 use crate::program::shown;
+use second::book::BOOK_LIMIT;
 use second::bookprogram::{self, Printed};
-use second::cases::{BookGenerator, Random};
+use second::cases::{BookCall, BookGenerator, Random};
 use std::path::{Path, PathBuf};
 use std::process::Command;
 use std::{env, fs, io, process};
 
 const SOURCE: &str = "source.txt";
 const BOOK: &str = "book.vxb";
-/// There is no such file.
-const MISSING: &str = "missing.txt";
-/// There is no such folder.
 const NOWHERE: &str = "nowhere/book.vxb";
+/// Longer legends are not asked for, since a program need not have room for them.
+const LONGEST_LEGEND: usize = 1_048_576;
 
-/// What stands in the folder before anything is run; `None` where there is no book.
+/// What stands in the folder before anything is run; `None` where a file is missing.
+#[derive(Clone)]
 struct Files {
-    source: Vec<u8>,
+    source: Option<Vec<u8>>,
     book: Option<Vec<u8>>,
 }
 
@@ -73,57 +74,86 @@ fn told(book: &Option<Vec<u8>>) -> String {
     book.as_ref().map_or("nothing".into(), |book| shown(book))
 }
 
-/// The source of an index. A book that is there already is longer or shorter than the one that is written, or is none.
+/// The source of an index and, where the index is for `show`, its book.
 fn files(random: &mut Random, generator: &BookGenerator, index: u64) -> Files {
+    let case = generator.case(index).0;
+    if case.call == BookCall::Show {
+        let mut book = case.given;
+        // A good book with more after its limit is no good.
+        if random.one_in(if book.len() == BOOK_LIMIT { 2 } else { 20 }) {
+            book.resize(BOOK_LIMIT + random.pick(&[0, 1, 4_096, 70_000]), 0);
+        }
+        return Files { source: None, book: Some(book) };
+    }
+    // A book that is there already is longer or shorter than the one that is written, or is none.
     let length = random.pick(&[0, 5, 300, 70_000]);
     let book = random.one_in(2).then(|| random.text(b"VXB\0\x01", length));
-    Files { source: generator.case(index).0.text, book }
+    Files { source: Some(case.given), book }
 }
 
 fn steps(random: &mut Random, files: &Files) -> Vec<Step> {
-    let mut steps = Vec::new();
+    let mut steps = vec![show(files.book.clone())];
     let same = |arguments: &[&'static str], printed: Printed| Step {
         arguments: arguments.to_vec(),
         printed: printed.text,
         book: files.book.clone(),
     };
     if random.one_in(20) {
-        let wrong: [&[&str]; 9] = [
+        let wrong: [&[&str]; 10] = [
             &[],
             &["compile"],
             &["compile", SOURCE],
             &["compile", SOURCE, BOOK, BOOK],
             &["check"],
             &["check", SOURCE, BOOK],
-            &["Check", SOURCE],
-            &["compiled", SOURCE, BOOK],
+            &["show", BOOK, BOOK],
+            &["legend"],
+            &["Show", BOOK],
             &["", SOURCE],
         ];
         steps.push(same(random.pick(&wrong), bookprogram::usage()));
     }
-    if random.one_in(20) {
-        let missing: [&[&str]; 3] = [&["check", MISSING], &["compile", MISSING, BOOK], &["compile", MISSING, NOWHERE]];
-        steps.push(same(random.pick(&missing), bookprogram::cannot_read(Path::new(MISSING))));
-    }
-    let (printed, book) = bookprogram::compiled(&files.source);
+    let Some(text) = &files.source else {
+        let missing = bookprogram::cannot_read(Path::new(SOURCE));
+        let calls: [&[&str]; 4] =
+            [&["compile", SOURCE, BOOK], &["compile", SOURCE, NOWHERE], &["check", SOURCE], &["legend", SOURCE]];
+        steps.push(same(random.pick(&calls), missing));
+        return steps;
+    };
+    let (printed, book) = bookprogram::compiled(text);
     steps.push(same(&["check", SOURCE], printed.clone()));
+    let legend = bookprogram::legend(text);
+    if legend.text.len() <= LONGEST_LEGEND {
+        steps.push(same(&["legend", SOURCE], legend));
+    }
     if random.one_in(20) {
         let there = bookprogram::cannot_write(Path::new(NOWHERE));
         steps.push(same(&["compile", SOURCE, NOWHERE], if book.is_some() { there } else { printed.clone() }));
     }
     let written = book.or_else(|| files.book.clone());
-    steps.push(Step { arguments: vec!["compile", SOURCE, BOOK], printed: printed.text, book: written });
+    steps.push(Step { arguments: vec!["compile", SOURCE, BOOK], printed: printed.text, book: written.clone() });
+    steps.push(show(written));
     steps
 }
 
+fn show(book: Option<Vec<u8>>) -> Step {
+    let printed = match &book {
+        Some(book) => bookprogram::shown(book),
+        None => bookprogram::cannot_read(Path::new(BOOK)),
+    };
+    Step { arguments: vec!["show", BOOK], printed: printed.text, book }
+}
+
 fn lay(folder: &Path, files: &Files) -> io::Result<()> {
-    fs::write(folder.join(SOURCE), &files.source)?;
-    let book = folder.join(BOOK);
-    match &files.book {
-        Some(bytes) => fs::write(book, bytes),
-        None if book.exists() => fs::remove_file(book),
-        None => Ok(()),
+    for (name, contents) in [(SOURCE, &files.source), (BOOK, &files.book)] {
+        let file = folder.join(name);
+        match contents {
+            Some(bytes) => fs::write(file, bytes)?,
+            None if file.exists() => fs::remove_file(file)?,
+            None => {}
+        }
     }
+    Ok(())
 }
 
 /// Keeps the files as they were before anything was run, beside this program.

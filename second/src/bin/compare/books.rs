@@ -1,9 +1,10 @@
-//! What the texts among the cases hit.
+//! What the books and texts among the cases hit.
 
 use crate::coverage::Row;
+use crate::traits::{self, Trait};
 use second::booktext::{self, Told};
-use second::cases::{number_of, BookCase, BookGenerator, Pair, BOOK_ROWS, NO_SECTION};
-use std::collections::HashMap;
+use second::cases::{number_of, BookCall, BookCase, BookGenerator, Pair, BOOK_ROWS, NO_SECTION};
+use std::collections::{BTreeMap, HashMap};
 
 /// How much room an answered case had beyond what it needed.
 const ROOMS: [&str; 2] = ["just enough room", "more room"];
@@ -14,41 +15,62 @@ const TRAITS: [&str; 6] =
     ["CR LF", "a tab", "a remark", "no line end at the end", "a severity for a common", "1,048,576 bytes"];
 
 pub struct Books {
-    numbers: HashMap<u8, u64>,
-    without_sections: u64,
+    /// By call and number.
+    numbers: HashMap<(&'static str, u8), u64>,
+    /// A source without sections, by call.
+    without_sections: HashMap<&'static str, u64>,
     pairs: Vec<(Pair, u64)>,
-    rooms: [u64; ROOMS.len()],
-    one_short: u64,
+    rooms: [[u64; ROOMS.len()]; 3],
+    one_short: [u64; 3],
     verbs: [u64; VERBS.len()],
     traits: [u64; TRAITS.len()],
     /// Refusals told with the line of a common's statement or of a set, not of the section.
     elsewhere: u64,
     /// Refusals of a later section than the first.
     later_section: u64,
+    /// Shown texts that compile to the same book.
+    shown_again: u64,
+    /// What shown books and what legends have.
+    shown: BTreeMap<&'static str, u64>,
+    meant: BTreeMap<&'static str, u64>,
+}
+
+const CALLS: [&str; 3] = ["compile", "show", "legend"];
+
+fn index(call: BookCall) -> usize {
+    match call {
+        BookCall::Compile => 0,
+        BookCall::Show => 1,
+        BookCall::Legend => 2,
+    }
 }
 
 impl Default for Books {
     fn default() -> Self {
         Books {
             numbers: HashMap::new(),
-            without_sections: 0,
+            without_sections: HashMap::new(),
             pairs: BookGenerator::new(0).pairs().iter().map(|pair| (*pair, 0)).collect(),
             rooms: Default::default(),
-            one_short: 0,
+            one_short: Default::default(),
             verbs: Default::default(),
             traits: Default::default(),
             elsewhere: 0,
             later_section: 0,
+            shown_again: 0,
+            shown: BTreeMap::new(),
+            meant: BTreeMap::new(),
         }
     }
 }
 
 impl Books {
     pub fn count(&mut self, case: &BookCase, pair: Option<Pair>, told: Told) {
+        let call = index(case.call);
         if told.number == 44 && told.detail == 0 {
-            self.without_sections += 1;
+            *self.without_sections.entry(CALLS[call]).or_default() += 1;
         } else {
-            *self.numbers.entry(told.number).or_default() += 1;
+            *self.numbers.entry((CALLS[call], told.number)).or_default() += 1;
         }
         if let Some(aimed) = pair {
             let hit = |(pair, _): &&mut (Pair, u64)| *pair == aimed && told.number == number_of(aimed.0);
@@ -56,14 +78,24 @@ impl Books {
         }
         match told.number {
             0 => self.count_made(case, told.detail as usize),
-            booktext::TOO_SHORT => self.one_short += u64::from(told.detail == case.output_length as u64 + 1),
+            booktext::TOO_SHORT => self.one_short[call] += u64::from(told.detail == case.output_length as u64 + 1),
             _ => self.count_refused(case, told),
         }
     }
 
     fn count_made(&mut self, case: &BookCase, length: usize) {
-        self.rooms[usize::from(case.output_length > length)] += 1;
-        let text = &case.text;
+        let call = index(case.call);
+        self.rooms[call][usize::from(case.output_length > length)] += 1;
+        let text = &case.given;
+        if case.call == BookCall::Show {
+            let again = booktext::shown(text).and_then(|shown| booktext::compiled(&shown));
+            self.shown_again += u64::from(again.is_ok_and(|again| again.book == *text));
+            add(&mut self.shown, traits::of_book(text));
+            return;
+        }
+        if case.call == BookCall::Legend {
+            add(&mut self.meant, traits::of_legend(text));
+        }
         let said: Vec<Vec<&[u8]>> = says(text).collect();
         for (verb, count) in VERBS.iter().zip(&mut self.verbs) {
             *count += u64::from(said.iter().any(|words| words.first() == Some(&verb.as_bytes())));
@@ -83,7 +115,7 @@ impl Books {
 
     fn count_refused(&mut self, case: &BookCase, told: Told) {
         let before = told.section.saturating_sub(1) as usize;
-        let lines = case.text.split(|b| *b == b'\n').take(before);
+        let lines = case.given.split(|b| *b == b'\n').take(before);
         self.later_section += u64::from(lines.into_iter().any(|line| line.starts_with(b"section ")));
         self.elsewhere += u64::from(told.detail != 0 && told.detail < told.section);
     }
@@ -91,15 +123,26 @@ impl Books {
     pub fn rows(&self) -> Vec<Row> {
         let mut rows = Vec::new();
         let mut add = |label: String, count: u64| rows.push((format!("book: {label}"), count));
-        for number in [0].into_iter().chain(BOOK_ROWS).filter(|row| *row != NO_SECTION) {
-            let count = self.numbers.get(&number).copied().unwrap_or_default();
-            add(if number == 0 { "answered".into() } else { format!("refusal {number}") }, count);
+        for call in CALLS {
+            let numbers: Vec<u8> = match call {
+                "show" => vec![0, 7, 8, 55],
+                _ => [0].into_iter().chain(BOOK_ROWS).filter(|row| *row != NO_SECTION).collect(),
+            };
+            for number in numbers {
+                let count = self.numbers.get(&(call, number)).copied().unwrap_or_default();
+                add(if number == 0 { format!("{call} answered") } else { format!("{call} refusal {number}") }, count);
+            }
         }
-        add("refusal 44 without sections".into(), self.without_sections);
-        for (room, count) in ROOMS.iter().zip(self.rooms) {
-            add(format!("answered with {room}"), count);
+        for call in ["compile", "legend"] {
+            let count = self.without_sections.get(call).copied().unwrap_or_default();
+            add(format!("{call} refusal 44 without sections"), count);
         }
-        add("refusal 55 with one byte too few".into(), self.one_short);
+        for (call, (rooms, one_short)) in CALLS.iter().zip(self.rooms.iter().zip(self.one_short)) {
+            for (room, count) in ROOMS.iter().zip(rooms) {
+                add(format!("{call} with {room}"), *count);
+            }
+            add(format!("{call} with one byte too few"), one_short);
+        }
         for (verb, count) in VERBS.iter().zip(self.verbs) {
             add(format!("answered with {verb}"), count);
         }
@@ -108,10 +151,20 @@ impl Books {
         }
         add("refused with a line before its section".into(), self.elsewhere);
         add("refused in a later section".into(), self.later_section);
+        add("shown and compiled to the same bytes".into(), self.shown_again);
+        for (call, counts) in [("shown", &self.shown), ("legend", &self.meant)] {
+            counts.iter().for_each(|(label, count)| add(format!("{call} with {label}"), *count));
+        }
         for ((earlier, later), count) in &self.pairs {
             add(format!("refusal {} before {}", label(*earlier), label(*later)), *count);
         }
         rows
+    }
+}
+
+fn add(counts: &mut BTreeMap<&'static str, u64>, traits: Vec<Trait>) {
+    for (label, has) in traits {
+        *counts.entry(label).or_default() += u64::from(has);
     }
 }
 

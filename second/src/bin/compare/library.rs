@@ -137,7 +137,7 @@ fn same_output(ours: &[u8], second: &[u8]) -> Result<(), String> {
     }
 }
 
-/// An output before the answer: bytes that no ACK has, each unlike the next. `tests/library.c` fills alike.
+/// An output before the answer: bytes that no ACK and no text has, each unlike the next. `tests/library.c` fills alike.
 pub fn filled(length: usize) -> Vec<u8> {
     (0..length).map(|at| 128 + (at % 127) as u8).collect()
 }

@@ -30,8 +30,8 @@ fn make(case: &AnyCase) -> Made {
             let answer = ours::batch(file, book, stamp, *control, lent).into();
             Made { answer, check: None, places: Vec::new(), output }
         }
-        AnyCase::Book(BookCase { text, .. }) => {
-            let answer = ours::compile(text, lent);
+        AnyCase::Book(BookCase { call, given, .. }) => {
+            let answer = ours::told(*call, given, lent);
             Made { answer, check: None, places: Vec::new(), output }
         }
     }

@@ -12,6 +12,7 @@ mod linked;
 #[path = "../../ours.rs"]
 mod ours;
 mod program;
+mod traits;
 
 use library::Library;
 use program::Source;

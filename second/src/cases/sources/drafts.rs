@@ -282,7 +282,7 @@ pub fn rule(random: &mut Random, sets: &[Word]) -> Statement {
 
 /// Words for people, with blanks and bars where they matter.
 fn people(random: &mut Random) -> Vec<u8> {
-    let length = random.pick(&[0, 0, 1, 2, 5, 12, 40]);
+    let length = random.pick(&[0, 0, 1, 2, 5, 12, 40, 40, 300]);
     random.text(b"abcxyz019:; ,.-' \t\r|", length)
 }
 

@@ -5,52 +5,76 @@ mod faults;
 
 pub use faults::{number_of, NO_SECTION, ROWS as BOOK_ROWS};
 
-use super::{large, lent, mutate_bytes, plans, Pair, Random};
-use crate::books;
+use super::{faults as message_faults, large, lent, mutate_bytes, plans, Case, Pair, Random};
+use crate::books::{self, SectionPlan};
 use crate::booktext::{self, Told, TEXT_LIMIT, TOO_SHORT};
-use crate::samples;
+use crate::{limits, samples};
 use drafts::Draft;
 
-/// A text to be compiled; the output is lent as so many bytes.
+/// What is asked for.
+#[derive(Clone, Copy, Debug, PartialEq, Eq)]
+pub enum BookCall {
+    Compile,
+    Show,
+    Legend,
+}
+
+/// A text, or for `Show` a book; the output is lent as so many bytes.
 #[derive(Clone, Debug, PartialEq, Eq)]
 pub struct BookCase {
-    pub text: Vec<u8>,
+    pub call: BookCall,
+    pub given: Vec<u8>,
     pub output_length: usize,
 }
 
 impl BookCase {
     pub fn answer(&self, out: &mut [u8]) -> Told {
-        booktext::compile(&self.text, out)
+        match self.call {
+            BookCall::Compile => booktext::compile(&self.given, out),
+            BookCall::Show => booktext::show(&self.given, out),
+            BookCall::Legend => booktext::legend(&self.given, out),
+        }
     }
 
     /// What a program that runs packed cases prints for it.
     pub fn printed(&self) -> Vec<u8> {
-        booktext::printed(self.output_length, |out| self.answer(out))
+        let mut out = vec![0; self.output_length];
+        let Told { number, detail, section } = self.answer(&mut out);
+        let mut printed = format!("{number} {detail} {section}\n").into_bytes();
+        if number == 0 {
+            printed.extend(&out[..detail as usize]);
+            printed.push(b'\n');
+        }
+        printed
     }
 
-    /// The length of the book, if nothing else is refused.
+    /// The length of what would be written, if nothing else is refused.
     pub fn needed(&self) -> Option<u64> {
         let told = self.answer(&mut []);
         (told.number == TOO_SHORT).then_some(told.detail)
     }
 }
 
-/// Cases by their index: the samples first, then each row and each pair of rows once, then random ones without end.
+/// Cases by their index: the samples and the longest books first, then each row by `compile` and by `legend`, each pair of
+/// rows and each refusal of a book once, then random ones without end.
 pub struct BookGenerator {
     seed: u64,
     samples: Vec<BookCase>,
     pairs: Vec<Pair>,
 }
 
+/// What `show` refuses.
+const BAD_BOOKS: [u8; 2] = [7, 8];
+
 impl BookGenerator {
     pub fn new(seed: u64) -> Self {
-        let samples = samples::sources::samples().into_iter().filter_map(|sample| sample.case()).collect();
-        BookGenerator { seed, samples, pairs: faults::pairs() }
+        let samples = samples::sources::samples().into_iter().map(|sample| sample.case);
+        BookGenerator { seed, samples: samples.chain(longest_books()).collect(), pairs: faults::pairs() }
     }
 
     /// How many come before the random ones.
     pub fn firsts(&self) -> u64 {
-        (self.samples.len() + BOOK_ROWS.len() + self.pairs.len()) as u64
+        (self.samples.len() + 2 * BOOK_ROWS.len() + self.pairs.len() + BAD_BOOKS.len()) as u64
     }
 
     /// The pairs that are aimed at.
@@ -67,28 +91,35 @@ impl BookGenerator {
             None => self.make(random, at - self.samples.len()),
         };
         // No room after the last byte, so that a reader that goes past it can be noticed.
-        case.text.shrink_to_fit();
+        case.given.shrink_to_fit();
         (case, pair)
     }
 
     /// What comes after the samples.
-    fn make(&self, random: &mut Random, at: usize) -> (BookCase, Option<Pair>) {
-        if let Some(row) = BOOK_ROWS.get(at) {
-            return (spoilt(random, *row), None);
+    fn make(&self, random: &mut Random, mut at: usize) -> (BookCase, Option<Pair>) {
+        if at < 2 * BOOK_ROWS.len() {
+            let call = [BookCall::Compile, BookCall::Legend][at % 2];
+            return (spoilt(random, call, BOOK_ROWS[at / 2]), None);
         }
-        match self.pairs.get(at - BOOK_ROWS.len()) {
-            Some(pair) => (paired(random, *pair, true), Some(*pair)),
+        at -= 2 * BOOK_ROWS.len();
+        if let Some(pair) = self.pairs.get(at) {
+            return (paired(random, *pair, true), Some(*pair));
+        }
+        at -= self.pairs.len();
+        match BAD_BOOKS.get(at) {
+            Some(number) => (bad_book(random, *number), None),
             None => self.random_case(random),
         }
     }
 
     fn random_case(&self, random: &mut Random) -> (BookCase, Option<Pair>) {
-        let text = match random.below(1024) {
-            0..3 => longest(random),
+        let call = text_call(random);
+        let case = match random.below(1024) {
+            0..3 => case(call, longest(random)),
             3..200 => {
                 // Without 31, since such texts are long.
                 let row = random.pick(&BOOK_ROWS[1..]);
-                return (spoilt(random, row), None);
+                return (spoilt(random, call, row), None);
             }
             200..480 => {
                 let pair = random.pick(&self.pairs);
@@ -101,17 +132,29 @@ impl BookGenerator {
                 for _ in 0..random.pick(&[1, 1, 2, 4]) {
                     mutate_text(random, &mut text);
                 }
-                text
+                case(call, text)
             }
-            600..680 => booktext::shown(&any_book(random)).unwrap_or_default(),
-            _ => Draft::sound(random).text(random),
+            600..640 => {
+                let number = random.pick(&BAD_BOOKS);
+                return (bad_book(random, number), None);
+            }
+            640..760 => case(BookCall::Show, any_book(random)),
+            760..800 => {
+                let book = any_book(random);
+                case(call, booktext::shown(&book).unwrap_or_default())
+            }
+            _ => case(call, Draft::sound(random).text(random)),
         };
-        (lend(random, case(text)), None)
+        (lend(random, case), None)
     }
 }
 
-fn case(text: Vec<u8>) -> BookCase {
-    BookCase { text, output_length: 0 }
+fn case(call: BookCall, given: Vec<u8>) -> BookCase {
+    BookCase { call, given, output_length: 0 }
+}
+
+fn text_call(random: &mut Random) -> BookCall {
+    random.pick(&[BookCall::Compile, BookCall::Legend])
 }
 
 fn lend(random: &mut Random, mut case: BookCase) -> BookCase {
@@ -120,10 +163,10 @@ fn lend(random: &mut Random, mut case: BookCase) -> BookCase {
 }
 
 /// A source for which one row holds.
-fn spoilt(random: &mut Random, row: u8) -> BookCase {
+fn spoilt(random: &mut Random, call: BookCall, row: u8) -> BookCase {
     let mut draft = Draft::sound(random);
     let text = written(random, &mut draft, &[row]);
-    lend_for(random, case(text), row == 55)
+    lend_for(random, case(call, text), row == 55)
 }
 
 /// A source for which both rows hold and the earlier one is told; together means in one statement or one section, where
@@ -141,7 +184,8 @@ fn paired(random: &mut Random, (earlier, later): Pair, together: bool) -> BookCa
             vec![later, earlier]
         };
         let text = written(random, &mut draft, &rows);
-        let case = lend_for(random, case(text), later == 55);
+        let case = case(text_call(random), text);
+        let case = lend_for(random, case, later == 55);
         if case.answer(&mut vec![0; case.output_length]).number == number_of(earlier) {
             return case;
         }
@@ -185,6 +229,15 @@ fn longest(random: &mut Random) -> Vec<u8> {
     text
 }
 
+/// Books of 65,536 bytes to be shown, with a byte too few, just enough room and a byte more.
+fn longest_books() -> impl Iterator<Item = BookCase> {
+    [books::largest_book(), limits::wordiest_book()].into_iter().flat_map(|book| {
+        let case = case(BookCall::Show, book);
+        let needed = case.needed().unwrap_or_default() as usize;
+        [needed - 1, needed, needed + 1].map(|output_length| BookCase { output_length, ..case.clone() })
+    })
+}
+
 /// A book that 01 does not refuse, or hardly.
 fn any_book(random: &mut Random) -> Vec<u8> {
     match random.below(40) {
@@ -200,8 +253,35 @@ fn any_book(random: &mut Random) -> Vec<u8> {
             book
         }
         8..20 => booktext::compiled(&Draft::sound(random).text(random)).map_or(Vec::new(), |compiled| compiled.book),
-        _ => books::encode(&plans::sections(random).0),
+        _ => {
+            let sections = plans::sections(random).0;
+            books::encode(&doubled(random, sections))
+        }
     }
+}
+
+/// Sections with a set or a rule once more here and there.
+fn doubled(random: &mut Random, mut sections: Vec<SectionPlan>) -> Vec<SectionPlan> {
+    for SectionPlan { rules, sets, .. } in &mut sections {
+        double(random, rules);
+        double(random, sets);
+    }
+    sections
+}
+
+fn double<T: Clone>(random: &mut Random, items: &mut Vec<T>) {
+    if !items.is_empty() && random.one_in(3) {
+        let (item, at) = (items[random.below(items.len())].clone(), random.below(items.len() + 1));
+        items.insert(at, item);
+    }
+}
+
+fn bad_book(random: &mut Random, number: u8) -> BookCase {
+    let book = books::encode(&plans::sections(random).0);
+    let mut message = Case { message: vec![], book, stamp: vec![], control: 0, output_length: 0, place: [0; 4] };
+    message_faults::put(random, &mut message, number);
+    let output_length = random.pick(&[0, 300]);
+    BookCase { output_length, ..case(BookCall::Show, message.book) }
 }
 
 /// Changes a text in a byte, a line, a word or what a line says.
@@ -220,7 +300,6 @@ fn mutate_text(random: &mut Random, text: &mut Vec<u8>) {
 
 #[cfg(test)]
 mod tests {
-    use super::super::{faults as message_faults, Case};
     use super::*;
 
     fn number(case: &BookCase) -> u8 {
@@ -246,8 +325,10 @@ mod tests {
     fn each_fault_gives_its_row() {
         for row in BOOK_ROWS {
             for index in 0..40 {
-                let case = spoilt(&mut Random::new(8, index), row);
-                assert_eq!(number(&case), number_of(row), "{row} {}", case.text.escape_ascii());
+                let random = &mut Random::new(8, index);
+                let call = text_call(random);
+                let case = spoilt(random, call, row);
+                assert_eq!(number(&case), number_of(row), "{row} {}", case.given.escape_ascii());
             }
         }
     }
@@ -261,29 +342,8 @@ mod tests {
                 assert_eq!(number(&case), number_of(pair.0));
             }
         }
-    }
-
-    #[test]
-    fn what_is_shown_of_any_book_compiles_to_it() {
-        let mut shown = 0;
-        for index in 0..600 {
-            let book = any_book(&mut Random::new(10, index));
-            if let Ok(text) = booktext::shown(&book) {
-                assert!(booktext::compiled(&text).is_ok_and(|again| again.book == book));
-                shown += 1;
-            }
-        }
-        assert!(shown > 400, "{shown}");
-    }
-
-    #[test]
-    fn a_bad_book_is_not_shown() {
-        for (number, index) in [7, 8].into_iter().flat_map(|number| (0..100).map(move |index| (number, index))) {
-            let random = &mut Random::new(11, index);
-            let book = books::encode(&plans::sections(random).0);
-            let mut case = Case { message: vec![], book, stamp: vec![], control: 0, output_length: 0, place: [0; 4] };
-            message_faults::put(random, &mut case, number);
-            assert_eq!(booktext::shown(&case.book), Err((number, 0).into()));
+        for number in BAD_BOOKS {
+            assert_eq!(super::tests::number(&bad_book(&mut Random::new(9, 0), number)), number);
         }
     }
 
@@ -292,8 +352,8 @@ mod tests {
         let generator = BookGenerator::new(5);
         let mut accepted = 0;
         for index in 0..generator.firsts() + 1_500 {
-            let text = generator.case(index).0.text;
-            let (compiled, legend) = (booktext::compiled(&text), booktext::legend_of(&text));
+            let given = generator.case(index).0.given;
+            let (compiled, legend) = (booktext::compiled(&given), booktext::legend_of(&given));
             assert_eq!(compiled.as_ref().err(), legend.as_ref().err());
             if let Ok(compiled) = compiled {
                 let shown = booktext::shown(&compiled.book).unwrap_or_else(|told| panic!("{told:?}"));

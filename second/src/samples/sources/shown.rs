@@ -1,7 +1,8 @@
 //! Books that are shown, and those that are none.
 
-use super::{numbered, sample, show, BookCall, BookSample, EMPTY_BOOK, ROOM};
+use super::{numbered, repeated, sample, show, BookSample, EMPTY_BOOK, ROOM};
 use crate::books::{self, SectionPlan};
+use crate::cases::BookCall;
 
 pub fn samples() -> Vec<BookSample> {
     let mut all = shown_books();
@@ -12,6 +13,11 @@ pub fn samples() -> Vec<BookSample> {
 fn shown_books() -> Vec<BookSample> {
     let names: String = (1..=64).map(|number| format!(" A/{number}")).collect();
     let many: String = numbered("rule PID-9 DATE E", 256).replacen("rule", "also", 256).replacen("also", "rule", 1);
+    let sections = (1..=64).map(|number| {
+        let key = format!("1{number}");
+        [&[key.len() as u8], key.as_bytes(), &[0, 0, 0]].concat()
+    });
+    let sections: Vec<Vec<u8>> = sections.collect();
     vec![
         show("no rule and no set", EMPTY_BOOK, "book 1\nsection A\n"),
         show("two sections", b"VXB\0\x01\x02\x01A\0\0\0\x01a\0\0\0", "book 1\nsection A\nsection a\n"),
@@ -36,6 +42,31 @@ fn shown_books() -> Vec<BookSample> {
               \0\x01\x01x\0\x02\x01y\x01y\0\x01\x01x",
             "book 1\nset /1/1\ncode x\nset /1/2\ncode y\ncode y\nset /1/3\ncode x\nsection /1\nsets /1/1 /1/2 /1/3\n\
              rule PID-1 CODE E /1/3\nrule PID-2 CODE E /1/1\n",
+        ),
+        show(
+            "each segment",
+            b"VXB\0\x01\x01\x01A\0\x0A\0MSH\x03\0\x01E\0\0\0PID\x03\0\x01E\0\0\0PD1\x03\0\x01E\0\0\0NK1\x03\0\x01E\0\0\0\
+              PV1\x03\0\x01E\0\0\0ORC\x03\0\x01E\0\0\0RXA\x03\0\x01E\0\0\0RXR\x03\0\x01E\0\0\0OBX\x03\0\x01E\0\0\0\
+              NTE\x03\0\x01E\0\0\0",
+            "book 1\nsection A\nrule MSH-3 REQUIRED E\nrule PID-3 REQUIRED E\nrule PD1-3 REQUIRED E\n\
+             rule NK1-3 REQUIRED E\nrule PV1-3 REQUIRED E\nrule ORC-3 REQUIRED E\nrule RXA-3 REQUIRED E\n\
+             rule RXR-3 REQUIRED E\nrule OBX-3 REQUIRED E\nrule NTE-3 REQUIRED E\n",
+        ),
+        show(
+            "sets of two sections",
+            b"VXB\0\x01\x03\x01B\0\0\x01\0\x01\x01x\x01A\0\0\0\x01C\0\0\x02\0\x01\x01y\0\x01\x01z",
+            "book 1\nset B/1\ncode x\nsection B\nsets B/1\nsection A\nset C/1\ncode y\nset C/2\ncode z\nsection C\n\
+             sets C/1 C/2\n",
+        ),
+        show(
+            "64 sections",
+            [b"VXB\0\x01\x40".as_slice(), &sections.concat()].concat(),
+            &format!("book 1\n{}", numbered("section 1#", 64)),
+        ),
+        show(
+            "a set of 1,024 codes",
+            [b"VXB\0\x01\x01\x01A\0\0\x01\x04\0".as_slice(), &b"\x01x".repeat(1_024)].concat(),
+            &format!("book 1\nset A/1\n{}section A\nsets A/1\n", repeated("code x", 1_024)),
         ),
         show(
             "the same rule 256 times",
