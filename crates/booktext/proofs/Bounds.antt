@@ -1,12 +1,12 @@
--- What is told is small, so that one number of 64 bits holds it. Assumes nothing.
-use mathlib.Core.Path.{_≡_, refl}
-use mathlib.Core.Bool.{Bool, true, false, cond, not, _&&_}
+-- What is told fits one number of 64 bits, and can be had back from it. Assumes nothing.
+use mathlib.Core.Path.{_≡_, refl, sym, _∙_}
+use mathlib.Core.Bool.{Bool, true, false, cond, not, _&&_, _||_, true≢false}
 use mathlib.Core.List.{List, [], _∷_, _++_}
-use Prim.Native.Nat.{ℕ, suc, _+_, _≤_}
+use Prim.Native.Nat.{ℕ, suc, _+_, _^_, _≤_}
 use native.Mathlib.Omega.{arith}
 use lib.Dec.{eqb, leb, ltb}
 use lib.ListN.{length, take, drop, length-take}
-use borrow.Author.Tests.{ltb-false, leb-true, eqb-true}
+use borrow.Author.Tests.{ltb-false, leb-true, eqb-true, eq-eqb, ne-eqb, not-true}
 use Rattle.hl7.specs.Bytes.{within}
 use Rattle.hl7.specs.Spans.{occurrences}
 use Rattle.hl7.proofs.Comparing.{and-both}
@@ -17,13 +17,17 @@ use Rattle.booktext.specs.Lines.{Statement, word, says, verb, lineFeed, 
 use Rattle.booktext.specs.Meaning.{body, from, expand}
 use Rattle.booktext.specs.Contents.{namesOf, codesOf, sectionOf, meaning}
 use Rattle.booktext.specs.Faults.{tell, nothing, firstly, mayStand, inside, countRight, versionRight, keyRight, codesRight, placeRight, kindRight, severityRight, boundRight, faultOf, firstFault}
-use Rattle.booktext.specs.Refusals.{wrongAt, bytesTold, atOf, isFirst, lacks, nameFault, firstNameFault, usedTwice, statementLimit, stands, ruleFault, firstRuleFault, firstBadSet, over, sectionTold, sectionsTold, namedTold, refusal, beginning, outcome, written, compiled, compileOf}
+use Rattle.booktext.specs.Refusals.{wrongAt, bytesTold, atOf, isFirst, lacks, nameFault, firstNameFault, usedTwice, statementLimit, stands, ruleFault, firstRuleFault, firstBadSet, over, sectionTold, sectionsTold, namedTold, refusal, beginning, outcome, written, unlessRefused, compiled, compileOf}
 use Rattle.booktext.specs.declared.told.Told.{Told}
 use Rattle.booktext.proofs.Promises.{never-7}
 
--- numbers up to 56, lines up to one more than a text has bytes
-pub record Small (told : Told) : Type 0 where
-  pub number : told .number ≤ 56
+-- nothing, or a refusal by a row of its own: 55 is none, its detail is a length
+abbrev pub rowNumber : ℕ → Bool
+rowNumber n = leb n 56 && not (eqb n 55)
+
+-- lines go up to one more than a text has bytes
+pub record Row (told : Told) : Type 0 where
+  pub number : rowNumber (told .number) ≡ true
   pub detail : told .detail ≤ 1048577
   pub section : told .section ≤ 1048577
 
@@ -40,121 +44,121 @@ line-small : (t : List ℕ) (at : ℕ) → length t ≤ textLimit → lineOf t a
 unfolding lineOf
 line-small t at h = omega (arith, occurs-few lineFeed (take at t), length-take at t)
 
-small-nothing : Small nothing
-small-nothing = record { number = omega arith; detail = omega arith; section = omega arith }
+pub small-nothing : Row nothing
+small-nothing = record { number = refl; detail = omega arith; section = omega arith }
 
 -- the first that refuses is one of the two
-small-firstly : {a b : Told} → Small a → Small b → Small (firstly a b)
+small-firstly : {a b : Told} → Row a → Row b → Row (firstly a b)
 small-firstly {a} {b} x y = by (eqb (a .number) 0)
   where
-    by : (e : Bool) → Small (cond e b a)
+    by : (e : Bool) → Row (cond e b a)
     by true = y
     by false = x
 
-small-cond : (b : Bool) {x y : Told} → Small x → Small y → Small (cond b x y)
+pub small-cond : (b : Bool) {x y : Told} → Row x → Row y → Row (cond b x y)
 small-cond true p q = p
 small-cond false p q = q
 
-row-small : (b : Bool) {x y : ℕ} → x ≤ 56 → y ≤ 56 → cond b x y ≤ 56
+row-small : (b : Bool) {x y : ℕ} → rowNumber x ≡ true → rowNumber y ≡ true → rowNumber (cond b x y) ≡ true
 row-small true p q = p
 row-small false p q = q
 
-fault-small : (here : ℕ) (s : Statement) → faultOf here s ≤ 56
+fault-small : (here : ℕ) (s : Statement) → rowNumber (faultOf here s) ≡ true
 unfolding faultOf
 fault-small here s =
-    row-small (eqb (verb s) 0) (omega arith)
-    (row-small (not (mayStand here (verb s))) (omega arith)
-    (row-small (not (countRight (verb s) (length (s .words)))) (omega arith)
-    (row-small (not (versionRight (verb s) (word s 1))) (omega arith)
-    (row-small (not (keyRight (verb s) (word s 1))) (omega arith)
-    (row-small (not (codesRight (verb s) (s .words))) (omega arith)
-    (row-small (not (placeRight (verb s) (word s 1))) (omega arith)
-    (row-small (not (kindRight (verb s) (word s 2))) (omega arith)
-    (row-small (not (severityRight (verb s) (length (s .words)) (word s 2) (word s 3))) (omega arith)
-    (row-small (not (boundRight (verb s) (length (s .words)) (word s 2) (word s 4) (word s 5))) (omega arith) (omega arith))))))))))
+    row-small (eqb (verb s) 0) refl
+    (row-small (not (mayStand here (verb s))) refl
+    (row-small (not (countRight (verb s) (length (s .words)))) refl
+    (row-small (not (versionRight (verb s) (word s 1))) refl
+    (row-small (not (keyRight (verb s) (word s 1))) refl
+    (row-small (not (codesRight (verb s) (s .words))) refl
+    (row-small (not (placeRight (verb s) (word s 1))) refl
+    (row-small (not (kindRight (verb s) (word s 2))) refl
+    (row-small (not (severityRight (verb s) (length (s .words)) (word s 2) (word s 3))) refl
+    (row-small (not (boundRight (verb s) (length (s .words)) (word s 2) (word s 4) (word s 5))) refl refl)))))))))
 
-name-fault-small : (all : List Statement) (count : ℕ) (s : Statement) → nameFault all count s ≤ 56
+name-fault-small : (all : List Statement) (count : ℕ) (s : Statement) → rowNumber (nameFault all count s) ≡ true
 unfolding nameFault
 name-fault-small all count s =
-    row-small (within aSet aSection (verb s) && not (isFirst all s)) (omega arith)
-    (row-small (says aSection s && leb sectionLimit count) (omega arith)
-    (row-small (lacks all s) (omega arith) (omega arith)))
+    row-small (within aSet aSection (verb s) && not (isFirst all s)) refl
+    (row-small (says aSection s && leb sectionLimit count) refl
+    (row-small (lacks all s) refl refl))
 
-rule-fault-small : (v : ℕ) (before : Bool) → ruleFault v before ≤ 56
-rule-fault-small v before = row-small (eqb v aRule && before) (omega arith) (row-small (eqb v anAlso && not before) (omega arith) (omega arith))
+rule-fault-small : (v : ℕ) (before : Bool) → rowNumber (ruleFault v before) ≡ true
+rule-fault-small v before = row-small (eqb v aRule && before) refl (row-small (eqb v anAlso && not before) refl refl)
 
 module _ (t : List ℕ) (short : length t ≤ textLimit) where
-  told-small : (number at other : ℕ) → number ≤ 56 → other ≤ 1048577 → Small (tell number (lineOf t at) other)
+  told-small : (number at other : ℕ) → rowNumber number ≡ true → other ≤ 1048577 → Row (tell number (lineOf t at) other)
   told-small number at other n o = record { number = n; detail = line-small t at short; section = o }
 
-  faults-small : (here : ℕ) (ss : List Statement) → Small (firstFault t here ss)
+  faults-small : (here : ℕ) (ss : List Statement) → Row (firstFault t here ss)
   unfolding firstFault
   faults-small here [] = small-nothing
   faults-small here (s ∷ ss) = small-cond (eqb (faultOf here s) 0) (faults-small (inside here (verb s)) ss) (told-small (faultOf here s) (s .at) 0 (fault-small here s) (omega arith))
 
-  names-small : (all : List Statement) (count : ℕ) (ss : List Statement) → Small (firstNameFault t all count ss)
+  names-small : (all : List Statement) (count : ℕ) (ss : List Statement) → Row (firstNameFault t all count ss)
   unfolding firstNameFault
-  names-small all count [] = small-cond (eqb count 0) (record { number = omega arith; detail = omega arith; section = omega arith }) small-nothing
+  names-small all count [] = small-cond (eqb count 0) (record { number = refl; detail = omega arith; section = omega arith }) small-nothing
   names-small all count (s ∷ ss) =
       small-cond (eqb (nameFault all count s) 0) (names-small all (cond (says aSection s) (suc count) count) ss) (told-small (nameFault all count s) (s .at) 0 (name-fault-small all count s) (omega arith))
 
-  twice-small : (at : ℕ) (after ss : List Statement) → Small (usedTwice t (lineOf t at) after ss)
+  twice-small : (at : ℕ) (after ss : List Statement) → Row (usedTwice t (lineOf t at) after ss)
   unfolding usedTwice
   twice-small at after [] = small-nothing
-  twice-small at after (s ∷ ss) = small-cond (says aUse s && not (isFirst after s)) (told-small 46 (s .at) (lineOf t at) (omega arith) (line-small t at short)) (twice-small at after ss)
+  twice-small at after (s ∷ ss) = small-cond (says aUse s && not (isFirst after s)) (told-small 46 (s .at) (lineOf t at) refl (line-small t at short)) (twice-small at after ss)
 
-  rules-small : (at : ℕ) (before ss : List Statement) → Small (firstRuleFault t (lineOf t at) before ss)
+  rules-small : (at : ℕ) (before ss : List Statement) → Row (firstRuleFault t (lineOf t at) before ss)
   unfolding firstRuleFault
   rules-small at before [] = small-nothing
   rules-small at before (s ∷ ss) =
       small-cond (eqb (ruleFault (verb s) (stands before s)) 0) (rules-small at (before ++ (s ∷ [])) ss)
       (told-small (ruleFault (verb s) (stands before s)) (s .at) (lineOf t at) (rule-fault-small (verb s) (stands before s)) (line-small t at short))
 
-  sets-small : (at : ℕ) (all : List Statement) (names : List (List ℕ)) → Small (firstBadSet t (lineOf t at) all names)
+  sets-small : (at : ℕ) (all : List Statement) (names : List (List ℕ)) → Row (firstBadSet t (lineOf t at) all names)
   unfolding firstBadSet
   sets-small at all [] = small-nothing
   sets-small at all (name ∷ names) =
       small-cond (within 1 codeCountLimit (length (codesOf all name))) (sets-small at all names)
-      (told-small 53 (atOf (from aSet name all)) (lineOf t at) (omega arith) (line-small t at short))
+      (told-small 53 (atOf (from aSet name all)) (lineOf t at) refl (line-small t at short))
 
-  over-small : (number at : ℕ) (holds : Bool) → number ≤ 56 → Small (over number (lineOf t at) holds)
+  over-small : (number at : ℕ) (holds : Bool) → rowNumber number ≡ true → Row (over number (lineOf t at) holds)
   over-small number at holds n = small-cond holds (told-small number at (lineOf t at) n (line-small t at short)) small-nothing
 
-  section-small : (all : List Statement) (size : ℕ) (s : Statement) (after : List Statement) → Small (sectionTold t all size s after)
+  section-small : (all : List Statement) (size : ℕ) (s : Statement) (after : List Statement) → Row (sectionTold t all size s after)
   unfolding sectionTold
   section-small all size s after =
       let ss = expand all (body after) in
       let c = sectionOf all s after in
       small-firstly (twice-small (s .at) after (body after))
-      (small-firstly (over-small 56 (s .at) (ltb statementLimit (length ss)) (omega arith))
+      (small-firstly (over-small 56 (s .at) (ltb statementLimit (length ss)) refl)
       (small-firstly (rules-small (s .at) [] ss)
-      (small-firstly (over-small 50 (s .at) (ltb ruleLimit (length (c .rules))) (omega arith))
-      (small-firstly (over-small 51 (s .at) (ltb setLimit (length (c .sets))) (omega arith))
-      (small-firstly (sets-small (s .at) all (namesOf ss)) (over-small 54 (s .at) (ltb bookLimit (size + length (sectionBytes c))) (omega arith)))))))
+      (small-firstly (over-small 50 (s .at) (ltb ruleLimit (length (c .rules))) refl)
+      (small-firstly (over-small 51 (s .at) (ltb setLimit (length (c .sets))) refl)
+      (small-firstly (sets-small (s .at) all (namesOf ss)) (over-small 54 (s .at) (ltb bookLimit (size + length (sectionBytes c))) refl))))))
 
-  sections-small : (all : List Statement) (size : ℕ) (ss : List Statement) → Small (sectionsTold t all size ss)
+  sections-small : (all : List Statement) (size : ℕ) (ss : List Statement) → Row (sectionsTold t all size ss)
   unfolding sectionsTold
   sections-small all size [] = small-nothing
   sections-small all size (s ∷ ss) =
       small-cond (says aSection s) (small-firstly (section-small all size s ss) (sections-small all (size + length (sectionBytes (sectionOf all s ss))) ss)) (sections-small all size ss)
 
 -- rows 31 and 32 first: a longer text has no line that is told
-bytes-small : (t : List ℕ) → Small (bytesTold t) × (bytesTold t .number ≡ 0 → length t ≤ textLimit)
+bytes-small : (t : List ℕ) → Row (bytesTold t) × (bytesTold t .number ≡ 0 → length t ≤ textLimit)
 bytes-small t = by (ltb textLimit (length t)) refl
   where
     by : (b : Bool) → ltb textLimit (length t) ≡ b
-        → Small (cond b (tell 31 0 0) (cond (ltb (wrongAt t) (length t)) (tell 32 (lineOf t (wrongAt t)) 0) nothing))
+        → Row (cond b (tell 31 0 0) (cond (ltb (wrongAt t) (length t)) (tell 32 (lineOf t (wrongAt t)) 0) nothing))
         × (cond b (tell 31 0 0) (cond (ltb (wrongAt t) (length t)) (tell 32 (lineOf t (wrongAt t)) 0) nothing) .number ≡ 0 → length t ≤ textLimit)
-    by true e = (record { number = omega arith; detail = omega arith; section = omega arith }, λ h. absurd (omega (arith, h)))
+    by true e = (record { number = refl; detail = omega arith; section = omega arith }, λ h. absurd (omega (arith, h)))
     by false e =
         let short = ltb-false textLimit (length t) e in
-        (small-cond (ltb (wrongAt t) (length t)) (told-small t short 32 (wrongAt t) 0 (omega arith) (omega arith)) small-nothing, λ h. short)
+        (small-cond (ltb (wrongAt t) (length t)) (told-small t short 32 (wrongAt t) 0 refl (omega arith)) small-nothing, λ h. short)
 
-refusal-small : (t : List ℕ) → Small (refusal t)
+pub refusal-row : (t : List ℕ) → Row (refusal t)
 unfolding refusal
-refusal-small t = by (eqb (bytesTold t .number) 0) refl
+refusal-row t = by (eqb (bytesTold t .number) 0) refl
   where
-    by : (b : Bool) → eqb (bytesTold t .number) 0 ≡ b → Small (cond b (firstly (firstFault t 0 (statements t)) (namedTold t)) (bytesTold t))
+    by : (b : Bool) → eqb (bytesTold t .number) 0 ≡ b → Row (cond b (firstly (firstFault t 0 (statements t)) (namedTold t)) (bytesTold t))
     by true e =
         let short = bytes-small t .1 (eqb-true (bytesTold t .number) 0 e) in
         small-firstly (faults-small t short 0 (statements t)) (small-firstly (names-small t short (statements t) 0 (statements t)) (sections-small t short (statements t) beginning (statements t)))
@@ -168,18 +172,47 @@ compiled-short : (t : List ℕ) → refusal t .number ≡ 0 → length (compiled
 unfolding compiled
 compiled-short t h = short-book (meaning t) (never-7 t h)
 
--- what compiling answers
-pub compile-small : (t out : List ℕ) → Small (compileOf t out .told)
-unfolding compileOf written
-compile-small t out = by (eqb (refusal t .number) 0) refl
+-- ---- whatever is written of a text or a book
+
+-- with these numbers the detail is a length
+abbrev pub isLength : ℕ → Bool
+isLength n = eqb n 0 || eqb n 55
+
+-- a length stands alone; a line is short, so that a section's line can stand above it
+pub record Packs (told : Told) : Type 0 where
+  pub number : told .number ≤ 56
+  pub detail : told .detail ≤ 2 ^ 40
+  pub section : told .section ≤ 1048577
+  pub lengths : isLength (told .number) ≡ true → told .section ≡ 0
+  pub lines : isLength (told .number) ≡ false → told .detail ≤ 1048577
+
+packs-row : {told : Told} → Row told → (told .number ≡ 0 → ⊥) → Packs told
+packs-row {told} r n =
+    let both = and-both (leb (told .number) 56) (not (eqb (told .number) 55)) (r .number) in
+    let other : isLength (told .number) ≡ false = rw (ne-eqb (told .number) 0 n) (not-true (eqb (told .number) 55) (both .1)) in
+    record {
+      number = leb-true (told .number) 56 (both .0);
+      detail = omega (arith, r .detail);
+      section = r .section;
+      lengths = λ e. absurd (true≢false (sym e ∙ other));
+      lines = λ e. r .detail;
+    }
+
+packs-written : (result out : List ℕ) → length result ≤ 2 ^ 40 → Packs (written result out .told)
+unfolding written
+packs-written result out h = by (ltb (length out) (length result))
   where
-    within-book : refusal t .number ≡ 0 → length (compiled t) ≤ 65536
-    within-book h = compiled-short t h
+    by : (b : Bool) → Packs (cond b (outcome (tell 55 (length result) 0) out) (outcome (tell 0 (length result) 0) (result ++ drop (length result) out)) .told)
+    by true = record { number = omega arith; detail = h; section = omega arith; lengths = λ e. refl; lines = λ e. absurd (true≢false e) }
+    by false = record { number = omega arith; detail = h; section = omega arith; lengths = λ e. refl; lines = λ e. absurd (true≢false e) }
 
-    fits : (b : Bool) → length (compiled t) ≤ 65536 → Small (cond b (outcome (tell 55 (length (compiled t)) 0) out) (outcome (tell 0 (length (compiled t)) 0) (compiled t ++ drop (length (compiled t)) out)) .told)
-    fits true h = record { number = omega arith; detail = omega (arith, h); section = omega arith }
-    fits false h = record { number = omega arith; detail = omega (arith, h); section = omega arith }
+pub packs : {told : Told} (result out : List ℕ) → Row told → (told .number ≡ 0 → length result ≤ 2 ^ 40) → Packs (unlessRefused told result out .told)
+packs {told} result out r short = by (eqb (told .number) 0) refl
+  where
+    by : (b : Bool) → eqb (told .number) 0 ≡ b → Packs (cond b (written result out) (outcome told out) .told)
+    by true e = packs-written result out (short (eqb-true (told .number) 0 e))
+    by false e = packs-row r (λ z. absurd (true≢false (sym (eq-eqb (told .number) 0 z) ∙ e)))
 
-    by : (b : Bool) → eqb (refusal t .number) 0 ≡ b → Small (cond b (written (compiled t) out) (outcome (refusal t) out) .told)
-    by true e = fits (ltb (length out) (length (compiled t))) (within-book (eqb-true (refusal t .number) 0 e))
-    by false e = refusal-small t
+pub compile-packs : (t out : List ℕ) → Packs (compileOf t out .told)
+unfolding compileOf
+compile-packs t out = packs (compiled t) out (refusal-row t) (λ z. omega (arith, compiled-short t z))

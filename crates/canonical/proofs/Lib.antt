@@ -14,3 +14,4 @@ pub mod PutSets
 pub mod PutRules
 pub mod PutBook
 pub mod Bounds
+pub mod Samples

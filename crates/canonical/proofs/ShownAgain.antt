@@ -117,3 +117,7 @@ module _ (b : List ℕ) (is : Bytes b) (formed : malformed b ≡ false) (version
 
   pub show-again : (out place : List ℕ) → length (shown (decoded b)) ≤ length out → compileOf (take (showOf b out .told .detail) (showOf b out .output)) place ≡ written b place
   show-again out place fits = ap (λ (t : List ℕ). compileOf t place) (shown-there out fits) ∙ shown-again place
+
+  -- a canonical text that was compiled is shown as itself
+  pub show-stays : (out : List ℕ) → showOf (compiled (shown (decoded b))) out ≡ showOf b out
+  show-stays out = ap (λ (x : List ℕ). showOf x out) again-compiled

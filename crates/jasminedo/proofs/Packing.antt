@@ -15,9 +15,14 @@ use Rattle.ack.specs.declared.refusal.Answer.{Answer}
 use Rattle.ack.proofs.Promises.{answer-bounded}
 use Rattle.batchfile.specs.Batch.{batchOf}
 use Rattle.batchfile.proofs.Bounds.{batch-bounded}
-use Rattle.booktext.specs.Refusals.{compileOf}
+use Rattle.booktext.specs.Refusals.{Outcome as BookOutcome, compileOf}
 use Rattle.booktext.specs.declared.told.Told.{Told as BookTold}
-use Rattle.booktext.proofs.Bounds.{compile-small}
+use Rattle.booktext.proofs.Bounds.{Packs, isLength, compile-packs}
+use Rattle.canonical.specs.Shown.{showOf}
+use Rattle.canonical.proofs.Bounds.{show-packs}
+use Rattle.legend.specs.Legend.{legendOf}
+use Rattle.legend.proofs.Answering.{legend-packs}
+use Rattle.grade.proofs.Encoded.{Bytes}
 use Rattle.jasminedo.specs.Packed.{packed, packedPlace, packedSpan, packedTold}
 
 -- ---- answers
@@ -87,18 +92,36 @@ place-unpacked m n f r c w =
     let small = place-small m n f r c w in
     (omega arith, omega arith)
 
--- ---- texts
-pub compile-unpacked : (t out : List ℕ) → let told = compileOf t out .told in
-    (packedTold told % 256 ≡ told .number) × (packedTold told / 256 % 4294967296 ≡ told .detail) × (packedTold told / 1099511627776 ≡ told .section)
-compile-unpacked t out =
-    let small = compile-small t out in
-    let n = small .number in
-    let d = small .detail in
-    (omega (arith, n, d), omega (arith, n, d), omega (arith, n, d))
+-- ---- texts and books
+-- the number is the code modulo 256; a length is the code over 256; with any other number a line is the four bytes of that, and the section's line what stands above them
+abbrev pub Unpacks : BookTold → Type 0
+Unpacks told =
+    (packedTold told % 256 ≡ told .number)
+    × (isLength (told .number) ≡ true → packedTold told / 256 ≡ told .detail)
+    × (isLength (told .number) ≡ false → (packedTold told / 256 % 4294967296 ≡ told .detail) × (packedTold told / 1099511627776 ≡ told .section))
 
-module _ (t out : List ℕ) {r : BookTold} {after : List ℕ} (w : (r ≡ compileOf t out .told) × (after ≡ compileOf t out .output)) where
-  pub compiled-small : (r .number ≤ 56) × (r .detail ≤ 1048577) × (r .section ≤ 1048577)
-  compiled-small = let small = compile-small t out in subst (λ (x : BookTold). (x .number ≤ 56) × (x .detail ≤ 1048577) × (x .section ≤ 1048577)) (sym (w .0)) (small .number, small .detail, small .section)
+unpacks : {told : BookTold} → Packs told → Unpacks told
+unpacks p =
+    let n = p .number in (
+      omega arith,
+      λ e. let alone = p .lengths e in omega arith,
+      λ e. let short = p .lines e in (omega arith, omega arith),
+    )
 
-  pub compiled-packed : {code : ℕ} → code ≡ packedTold r → (code ≡ packedTold (compileOf t out .told)) × (after ≡ compileOf t out .output)
-  compiled-packed e = (e ∙ ap packedTold (w .0), w .1)
+pub compile-unpacked : (t out : List ℕ) → Unpacks (compileOf t out .told)
+compile-unpacked t out = unpacks (compile-packs t out)
+
+pub legend-unpacked : (t out : List ℕ) → Unpacks (legendOf t out .told)
+legend-unpacked t out = unpacks (legend-packs t out)
+
+-- of a book neither line nor section is told
+pub show-unpacked : (b : List ℕ) → Bytes b → (out : List ℕ) → Unpacks (showOf b out .told)
+show-unpacked b is out = unpacks (show-packs b is out)
+
+-- in the words of the code
+module _ (o : BookOutcome) (p : Packs (o .told)) {r : BookTold} {after : List ℕ} (w : (r ≡ o .told) × (after ≡ o .output)) where
+  pub told-small : (r .number ≤ 56) × (r .detail ≤ 2 ^ 40) × (r .section ≤ 1048577)
+  told-small = subst (λ (x : BookTold). (x .number ≤ 56) × (x .detail ≤ 2 ^ 40) × (x .section ≤ 1048577)) (sym (w .0)) (p .number, p .detail, p .section)
+
+  pub told-packed : {code : ℕ} → code ≡ packedTold r → (code ≡ packedTold (o .told)) × (after ≡ o .output)
+  told-packed e = (e ∙ ap packedTold (w .0), w .1)

@@ -18,6 +18,6 @@ packedPlace p = p .start * 65536 + length (p .bytes)
 abbrev pub packedSpan : Span → ℕ
 packedSpan s = s .start * 65536 + (s .end - s .start)
 
--- of a text: the number in the low byte, the detail in the next four, the section's line above
+-- of a text or a book: the number in the low byte, the detail above, and above four bytes of it the section's line
 abbrev pub packedTold : BookTold → ℕ
 packedTold t = t .section * 1099511627776 + t .detail * 256 + t .number

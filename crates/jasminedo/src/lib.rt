@@ -5,15 +5,19 @@ use ack::refusal::of_reading;
 use batchfile::batch::answer_batch;
 use booktext::compile::compile;
 use booktext::told::Told;
+use canonical::show::show;
 use hl7::cut::Span;
 use hl7::locate::locate_span;
 use hl7::refusal::check;
+use legend::legend::legend;
 ghost use mathlib.Core.Path.{_≡_};
 ghost use Prim.Native.Nat.{_≤_, _^_};
 ghost use Rattle.hl7.specs.Refusals.{firstRow, messageRows, located};
 ghost use Rattle.ack.specs.Answers.{answerOf, paper};
 ghost use Rattle.batchfile.specs.Batch.{batchOf};
 ghost use Rattle.booktext.specs.Refusals.{compileOf};
+ghost use Rattle.canonical.specs.Shown.{showOf};
+ghost use Rattle.legend.specs.Legend.{legendOf};
 ghost use Rattle.jasminedo.specs.Packed.{packed, packedSpan, packedPlace, packedTold};
 
 // The number in the low byte, the detail above.
@@ -24,9 +28,9 @@ fn pack(answer: Answer) -> u64
     (answer.detail as u64) * 256 + (answer.number as u64)
 }
 
-// The number in the low byte, the detail in the next four, the section's line above.
+// The number in the low byte, the detail above, and above four bytes of it the section's line, which a length never has.
 fn pack_told(told: Told) -> u64
-    requires { ⌜ (told .number ≤ 56) × (told .detail ≤ 1048577) × (told .section ≤ 1048577) ⌝ }
+    requires { ⌜ (told .number ≤ 56) × (told .detail ≤ 2 ^ 40) × (told .section ≤ 1048577) ⌝ }
     ensures { λ r. ⌜ r ≡ packedTold told ⌝ }
 {
     (told.section as u64) * 1099511627776 + (told.detail as u64) * 256 + (told.number as u64)
@@ -91,4 +95,18 @@ pub extern "C" fn jasminedo_compile(text: &[u8], output: &mut [u8]) -> u64
     ensures { λ r. ⌜ (r ≡ packedTold (compileOf (now (text .entry)) (now (output .entry)) .told)) × (now (output .exit) ≡ compileOf (now (text .entry)) (now (output .entry)) .output) ⌝ }
 {
     pack_told(compile(text, output))
+}
+
+#[no_mangle]
+pub extern "C" fn jasminedo_show(book: &[u8], output: &mut [u8]) -> u64
+    ensures { λ r. ⌜ (r ≡ packedTold (showOf (now (book .entry)) (now (output .entry)) .told)) × (now (output .exit) ≡ showOf (now (book .entry)) (now (output .entry)) .output) ⌝ }
+{
+    pack_told(show(book, output))
+}
+
+#[no_mangle]
+pub extern "C" fn jasminedo_legend(text: &[u8], output: &mut [u8]) -> u64
+    ensures { λ r. ⌜ (r ≡ packedTold (legendOf (now (text .entry)) (now (output .entry)) .told)) × (now (output .exit) ≡ legendOf (now (text .entry)) (now (output .entry)) .output) ⌝ }
+{
+    pack_told(legend(text, output))
 }
