@@ -20,8 +20,7 @@ use Rattle.grade.specs.Admission.{indexedTold}
 use Rattle.grade.specs.Standing.{standsAt, contentsAt, siteAt, Indexes}
 use Rattle.grade.proofs.Readings.{row-length}
 use Rattle.grade.proofs.Parts.{stands-parts}
-use Rattle.grade.proofs.Opening.{sections-started}
-use Rattle.grade.proofs.Indexing.{sections-read, index-fits, index-stand}
+use Rattle.grade.proofs.Indexing.{index-says, index-fits, index-stand}
 use Rattle.book.specs.Counts.{sectionsIn, ruleTotal, setTotal}
 use Rattle.book.specs.Standing.{countsOf}
 
@@ -118,7 +117,7 @@ module _ (b starts : List ℕ) {r : Indexed} (is : Indexes b starts r) where
   unfolding sectionsIn firstRow
   sections-listed {count} of =
       by (malformed b) (otherVersion b) (sym (ap (λ (x : Indexed). indexedTold x .number) of) ∙ ap (λ (t : Told). t .number) (is .toldIs))
-      ∙ (sections-started b (sections-read b starts is of) .say ∙ ap (map (contentsAt b)) (sym (is .listed count of .are)))
+      ∙ index-says b starts is of
     where
       by : (m v : Bool) → 0 ≡ cond m (told 7 0) (cond v (told 8 0) (told 0 0)) .number → cond (m || v) [] (decoded b) ≡ decoded b
       by true v e = absurd (omega arith)

@@ -22,12 +22,15 @@ use Rattle.booktext.specs.declared.told.Told.{Told}
 use Rattle.booktext.proofs.Promises.{never-7}
 
 -- nothing, or a refusal by a row of its own: 55 is none, its detail is a length
-abbrev pub rowNumber : ℕ → Bool
-rowNumber n = leb n 56 && not (eqb n 55)
+pub record RowNumber (n : ℕ) : Type 0 where
+  pub holds : (leb n 56 && not (eqb n 55)) ≡ true
+
+pub a-row : {n : ℕ} → (leb n 56 && not (eqb n 55)) ≡ true → RowNumber n
+a-row e = record { holds = e }
 
 -- lines go up to one more than a text has bytes
-pub record Row (told : Told) : Type 0 where
-  pub number : rowNumber (told .number) ≡ true
+pub record SmallRow (told : Told) : Type 0 where
+  pub number : RowNumber (told .number)
   pub detail : told .detail ≤ 1048577
   pub section : told .section ≤ 1048577
 
@@ -44,121 +47,121 @@ line-small : (t : List ℕ) (at : ℕ) → length t ≤ textLimit → lineOf t a
 unfolding lineOf
 line-small t at h = omega (arith, occurs-few lineFeed (take at t), length-take at t)
 
-pub small-nothing : Row nothing
-small-nothing = record { number = refl; detail = omega arith; section = omega arith }
+pub small-nothing : SmallRow nothing
+small-nothing = record { number = a-row refl; detail = omega arith; section = omega arith }
 
 -- the first that refuses is one of the two
-small-firstly : {a b : Told} → Row a → Row b → Row (firstly a b)
+small-firstly : {a b : Told} → SmallRow a → SmallRow b → SmallRow (firstly a b)
 small-firstly {a} {b} x y = by (eqb (a .number) 0)
   where
-    by : (e : Bool) → Row (cond e b a)
+    by : (e : Bool) → SmallRow (cond e b a)
     by true = y
     by false = x
 
-pub small-cond : (b : Bool) {x y : Told} → Row x → Row y → Row (cond b x y)
+pub small-cond : (b : Bool) {x y : Told} → SmallRow x → SmallRow y → SmallRow (cond b x y)
 small-cond true p q = p
 small-cond false p q = q
 
-row-small : (b : Bool) {x y : ℕ} → rowNumber x ≡ true → rowNumber y ≡ true → rowNumber (cond b x y) ≡ true
+row-small : (b : Bool) {x y : ℕ} → RowNumber x → RowNumber y → RowNumber (cond b x y)
 row-small true p q = p
 row-small false p q = q
 
-fault-small : (here : ℕ) (s : Statement) → rowNumber (faultOf here s) ≡ true
+fault-small : (here : ℕ) (s : Statement) → RowNumber (faultOf here s)
 unfolding faultOf
 fault-small here s =
-    row-small (eqb (verb s) 0) refl
-    (row-small (not (mayStand here (verb s))) refl
-    (row-small (not (countRight (verb s) (length (s .words)))) refl
-    (row-small (not (versionRight (verb s) (word s 1))) refl
-    (row-small (not (keyRight (verb s) (word s 1))) refl
-    (row-small (not (codesRight (verb s) (s .words))) refl
-    (row-small (not (placeRight (verb s) (word s 1))) refl
-    (row-small (not (kindRight (verb s) (word s 2))) refl
-    (row-small (not (severityRight (verb s) (length (s .words)) (word s 2) (word s 3))) refl
-    (row-small (not (boundRight (verb s) (length (s .words)) (word s 2) (word s 4) (word s 5))) refl refl)))))))))
+    row-small (eqb (verb s) 0) (a-row refl)
+    (row-small (not (mayStand here (verb s))) (a-row refl)
+    (row-small (not (countRight (verb s) (length (s .words)))) (a-row refl)
+    (row-small (not (versionRight (verb s) (word s 1))) (a-row refl)
+    (row-small (not (keyRight (verb s) (word s 1))) (a-row refl)
+    (row-small (not (codesRight (verb s) (s .words))) (a-row refl)
+    (row-small (not (placeRight (verb s) (word s 1))) (a-row refl)
+    (row-small (not (kindRight (verb s) (word s 2))) (a-row refl)
+    (row-small (not (severityRight (verb s) (length (s .words)) (word s 2) (word s 3))) (a-row refl)
+    (row-small (not (boundRight (verb s) (length (s .words)) (word s 2) (word s 4) (word s 5))) (a-row refl) (a-row refl))))))))))
 
-name-fault-small : (all : List Statement) (count : ℕ) (s : Statement) → rowNumber (nameFault all count s) ≡ true
+name-fault-small : (all : List Statement) (count : ℕ) (s : Statement) → RowNumber (nameFault all count s)
 unfolding nameFault
 name-fault-small all count s =
-    row-small (within aSet aSection (verb s) && not (isFirst all s)) refl
-    (row-small (says aSection s && leb sectionLimit count) refl
-    (row-small (lacks all s) refl refl))
+    row-small (within aSet aSection (verb s) && not (isFirst all s)) (a-row refl)
+    (row-small (says aSection s && leb sectionLimit count) (a-row refl)
+    (row-small (lacks all s) (a-row refl) (a-row refl)))
 
-rule-fault-small : (v : ℕ) (before : Bool) → rowNumber (ruleFault v before) ≡ true
-rule-fault-small v before = row-small (eqb v aRule && before) refl (row-small (eqb v anAlso && not before) refl refl)
+rule-fault-small : (v : ℕ) (before : Bool) → RowNumber (ruleFault v before)
+rule-fault-small v before = row-small (eqb v aRule && before) (a-row refl) (row-small (eqb v anAlso && not before) (a-row refl) (a-row refl))
 
 module _ (t : List ℕ) (short : length t ≤ textLimit) where
-  told-small : (number at other : ℕ) → rowNumber number ≡ true → other ≤ 1048577 → Row (tell number (lineOf t at) other)
+  told-small : (number at other : ℕ) → RowNumber number → other ≤ 1048577 → SmallRow (tell number (lineOf t at) other)
   told-small number at other n o = record { number = n; detail = line-small t at short; section = o }
 
-  faults-small : (here : ℕ) (ss : List Statement) → Row (firstFault t here ss)
+  faults-small : (here : ℕ) (ss : List Statement) → SmallRow (firstFault t here ss)
   unfolding firstFault
   faults-small here [] = small-nothing
   faults-small here (s ∷ ss) = small-cond (eqb (faultOf here s) 0) (faults-small (inside here (verb s)) ss) (told-small (faultOf here s) (s .at) 0 (fault-small here s) (omega arith))
 
-  names-small : (all : List Statement) (count : ℕ) (ss : List Statement) → Row (firstNameFault t all count ss)
+  names-small : (all : List Statement) (count : ℕ) (ss : List Statement) → SmallRow (firstNameFault t all count ss)
   unfolding firstNameFault
-  names-small all count [] = small-cond (eqb count 0) (record { number = refl; detail = omega arith; section = omega arith }) small-nothing
+  names-small all count [] = small-cond (eqb count 0) (record { number = a-row refl; detail = omega arith; section = omega arith }) small-nothing
   names-small all count (s ∷ ss) =
       small-cond (eqb (nameFault all count s) 0) (names-small all (cond (says aSection s) (suc count) count) ss) (told-small (nameFault all count s) (s .at) 0 (name-fault-small all count s) (omega arith))
 
-  twice-small : (at : ℕ) (after ss : List Statement) → Row (usedTwice t (lineOf t at) after ss)
+  twice-small : (at : ℕ) (after ss : List Statement) → SmallRow (usedTwice t (lineOf t at) after ss)
   unfolding usedTwice
   twice-small at after [] = small-nothing
-  twice-small at after (s ∷ ss) = small-cond (says aUse s && not (isFirst after s)) (told-small 46 (s .at) (lineOf t at) refl (line-small t at short)) (twice-small at after ss)
+  twice-small at after (s ∷ ss) = small-cond (says aUse s && not (isFirst after s)) (told-small 46 (s .at) (lineOf t at) (a-row refl) (line-small t at short)) (twice-small at after ss)
 
-  rules-small : (at : ℕ) (before ss : List Statement) → Row (firstRuleFault t (lineOf t at) before ss)
+  rules-small : (at : ℕ) (before ss : List Statement) → SmallRow (firstRuleFault t (lineOf t at) before ss)
   unfolding firstRuleFault
   rules-small at before [] = small-nothing
   rules-small at before (s ∷ ss) =
       small-cond (eqb (ruleFault (verb s) (stands before s)) 0) (rules-small at (before ++ (s ∷ [])) ss)
       (told-small (ruleFault (verb s) (stands before s)) (s .at) (lineOf t at) (rule-fault-small (verb s) (stands before s)) (line-small t at short))
 
-  sets-small : (at : ℕ) (all : List Statement) (names : List (List ℕ)) → Row (firstBadSet t (lineOf t at) all names)
+  sets-small : (at : ℕ) (all : List Statement) (names : List (List ℕ)) → SmallRow (firstBadSet t (lineOf t at) all names)
   unfolding firstBadSet
   sets-small at all [] = small-nothing
   sets-small at all (name ∷ names) =
       small-cond (within 1 codeCountLimit (length (codesOf all name))) (sets-small at all names)
-      (told-small 53 (atOf (from aSet name all)) (lineOf t at) refl (line-small t at short))
+      (told-small 53 (atOf (from aSet name all)) (lineOf t at) (a-row refl) (line-small t at short))
 
-  over-small : (number at : ℕ) (holds : Bool) → rowNumber number ≡ true → Row (over number (lineOf t at) holds)
+  over-small : (number at : ℕ) (holds : Bool) → RowNumber number → SmallRow (over number (lineOf t at) holds)
   over-small number at holds n = small-cond holds (told-small number at (lineOf t at) n (line-small t at short)) small-nothing
 
-  section-small : (all : List Statement) (size : ℕ) (s : Statement) (after : List Statement) → Row (sectionTold t all size s after)
+  section-small : (all : List Statement) (size : ℕ) (s : Statement) (after : List Statement) → SmallRow (sectionTold t all size s after)
   unfolding sectionTold
   section-small all size s after =
       let ss = expand all (body after) in
       let c = sectionOf all s after in
       small-firstly (twice-small (s .at) after (body after))
-      (small-firstly (over-small 56 (s .at) (ltb statementLimit (length ss)) refl)
+      (small-firstly (over-small 56 (s .at) (ltb statementLimit (length ss)) (a-row refl))
       (small-firstly (rules-small (s .at) [] ss)
-      (small-firstly (over-small 50 (s .at) (ltb ruleLimit (length (c .rules))) refl)
-      (small-firstly (over-small 51 (s .at) (ltb setLimit (length (c .sets))) refl)
-      (small-firstly (sets-small (s .at) all (namesOf ss)) (over-small 54 (s .at) (ltb bookLimit (size + length (sectionBytes c))) refl))))))
+      (small-firstly (over-small 50 (s .at) (ltb ruleLimit (length (c .rules))) (a-row refl))
+      (small-firstly (over-small 51 (s .at) (ltb setLimit (length (c .sets))) (a-row refl))
+      (small-firstly (sets-small (s .at) all (namesOf ss)) (over-small 54 (s .at) (ltb bookLimit (size + length (sectionBytes c))) (a-row refl)))))))
 
-  sections-small : (all : List Statement) (size : ℕ) (ss : List Statement) → Row (sectionsTold t all size ss)
+  sections-small : (all : List Statement) (size : ℕ) (ss : List Statement) → SmallRow (sectionsTold t all size ss)
   unfolding sectionsTold
   sections-small all size [] = small-nothing
   sections-small all size (s ∷ ss) =
       small-cond (says aSection s) (small-firstly (section-small all size s ss) (sections-small all (size + length (sectionBytes (sectionOf all s ss))) ss)) (sections-small all size ss)
 
 -- rows 31 and 32 first: a longer text has no line that is told
-bytes-small : (t : List ℕ) → Row (bytesTold t) × (bytesTold t .number ≡ 0 → length t ≤ textLimit)
+bytes-small : (t : List ℕ) → SmallRow (bytesTold t) × (bytesTold t .number ≡ 0 → length t ≤ textLimit)
 bytes-small t = by (ltb textLimit (length t)) refl
   where
     by : (b : Bool) → ltb textLimit (length t) ≡ b
-        → Row (cond b (tell 31 0 0) (cond (ltb (wrongAt t) (length t)) (tell 32 (lineOf t (wrongAt t)) 0) nothing))
+        → SmallRow (cond b (tell 31 0 0) (cond (ltb (wrongAt t) (length t)) (tell 32 (lineOf t (wrongAt t)) 0) nothing))
         × (cond b (tell 31 0 0) (cond (ltb (wrongAt t) (length t)) (tell 32 (lineOf t (wrongAt t)) 0) nothing) .number ≡ 0 → length t ≤ textLimit)
-    by true e = (record { number = refl; detail = omega arith; section = omega arith }, λ h. absurd (omega (arith, h)))
+    by true e = (record { number = a-row refl; detail = omega arith; section = omega arith }, λ h. absurd (omega (arith, h)))
     by false e =
         let short = ltb-false textLimit (length t) e in
-        (small-cond (ltb (wrongAt t) (length t)) (told-small t short 32 (wrongAt t) 0 refl (omega arith)) small-nothing, λ h. short)
+        (small-cond (ltb (wrongAt t) (length t)) (told-small t short 32 (wrongAt t) 0 (a-row refl) (omega arith)) small-nothing, λ h. short)
 
-pub refusal-row : (t : List ℕ) → Row (refusal t)
+pub refusal-row : (t : List ℕ) → SmallRow (refusal t)
 unfolding refusal
 refusal-row t = by (eqb (bytesTold t .number) 0) refl
   where
-    by : (b : Bool) → eqb (bytesTold t .number) 0 ≡ b → Row (cond b (firstly (firstFault t 0 (statements t)) (namedTold t)) (bytesTold t))
+    by : (b : Bool) → eqb (bytesTold t .number) 0 ≡ b → SmallRow (cond b (firstly (firstFault t 0 (statements t)) (namedTold t)) (bytesTold t))
     by true e =
         let short = bytes-small t .1 (eqb-true (bytesTold t .number) 0 e) in
         small-firstly (faults-small t short 0 (statements t)) (small-firstly (names-small t short (statements t) 0 (statements t)) (sections-small t short (statements t) beginning (statements t)))
@@ -186,9 +189,9 @@ pub record Packs (told : Told) : Type 0 where
   pub lengths : isLength (told .number) ≡ true → told .section ≡ 0
   pub lines : isLength (told .number) ≡ false → told .detail ≤ 1048577
 
-packs-row : {told : Told} → Row told → (told .number ≡ 0 → ⊥) → Packs told
+packs-row : {told : Told} → SmallRow told → (told .number ≡ 0 → ⊥) → Packs told
 packs-row {told} r n =
-    let both = and-both (leb (told .number) 56) (not (eqb (told .number) 55)) (r .number) in
+    let both = and-both (leb (told .number) 56) (not (eqb (told .number) 55)) (r .number .holds) in
     let other : isLength (told .number) ≡ false = rw (ne-eqb (told .number) 0 n) (not-true (eqb (told .number) 55) (both .1)) in
     record {
       number = leb-true (told .number) 56 (both .0);
@@ -206,7 +209,7 @@ packs-written result out h = by (ltb (length out) (length result))
     by true = record { number = omega arith; detail = h; section = omega arith; lengths = λ e. refl; lines = λ e. absurd (true≢false e) }
     by false = record { number = omega arith; detail = h; section = omega arith; lengths = λ e. refl; lines = λ e. absurd (true≢false e) }
 
-pub packs : {told : Told} (result out : List ℕ) → Row told → (told .number ≡ 0 → length result ≤ 2 ^ 40) → Packs (unlessRefused told result out .told)
+pub packs : {told : Told} (result out : List ℕ) → SmallRow told → (told .number ≡ 0 → length result ≤ 2 ^ 40) → Packs (unlessRefused told result out .told)
 packs {told} result out r short = by (eqb (told .number) 0) refl
   where
     by : (b : Bool) → eqb (told .number) 0 ≡ b → Packs (cond b (written result out) (outcome told out) .told)

@@ -4,14 +4,14 @@ use mathlib.Core.Bool.{Bool, true, false, cond}
 use mathlib.Core.List.{List, [], _∷_, _++_, map, append-assoc}
 use Prim.Native.Nat.{ℕ, _+_, _≤_, _<_}
 use native.Mathlib.Omega.{arith}
-use lib.Dec.{leb, ltb}
+use lib.Dec.{ltb}
 use lib.ListN.{length, getD, take, length-map, length-take}
-use borrow.Author.Tests.{leb-true, eqb-true, lt-ltb, le-ltb, eq-eqb, ne-eqb}
-use Rattle.hl7.specs.Bytes.{within, all}
+use borrow.Author.Tests.{eqb-true, lt-ltb, le-ltb, eq-eqb, ne-eqb}
+use Rattle.hl7.specs.Bytes.{within}
 use Rattle.hl7.proofs.Comparing.{and-both}
-use Rattle.grade.specs.Book.{Contents, plain}
-use Rattle.grade.specs.Encoding.{each, spellAll, textFits, textBytes, twoBytesOf, ruleBytes, setBytes, sectionBytes}
-use Rattle.grade.specs.Limits.{bookLimit, keyLimit, ruleLimit, setLimit, codeCountLimit}
+use Rattle.grade.specs.Book.{Contents}
+use Rattle.grade.specs.Encoding.{each, spellAll, textBytes, twoBytesOf, ruleBytes, setBytes, sectionBytes}
+use Rattle.grade.specs.Limits.{bookLimit, ruleLimit, setLimit, codeCountLimit}
 use Rattle.ack.specs.Splice.{Wrote}
 use Rattle.ack.proofs.Writing.{wrote-as, wrote-length, _then_}
 use Rattle.booktext.specs.Lines.{Statement, statements, word, verb, says, lineOf, aSet, aSection}
@@ -25,13 +25,10 @@ use Rattle.booktext.specs.declared.names.Names.{Names}
 use Rattle.booktext.specs.declared.sets.Put.{Put}
 use Rattle.booktext.proofs.Each.{each-body}
 use Rattle.booktext.proofs.Sounding.{sounds}
+use Rattle.booktext.proofs.Setting.{fits-short, puts-refused}
 use Rattle.booktext.proofs.Including.{plainly, statements-plain, expand-ready}
 
 -- ---- rows, one after the other
-
--- one refuses, whatever was written
-pub puts-refused : {want : Told} {bytes o after : List ℕ} {at : ℕ} {r : Put} → r .told ≡ want → (want .number ≡ 0 → ⊥) → length after ≡ length o → Puts want bytes o at after r
-puts-refused e h same = record { tells = e; wrote = λ z. absurd (h (ap (λ (x : Told). x .number) (sym e) ∙ z)); length = same }
 
 module _ {a told : Told} (e : told ≡ a) where
   -- the first of two
@@ -226,6 +223,4 @@ module _ (t : List ℕ) (head : ℕ) {start : ℕ} (e : start ≡ nextLine t hea
 -- the key of a section fits a byte with its length
 pub key-short : (s : Statement) → says aSection s ≡ true → sound s ≡ true → length (word s 1) ≤ 255
 key-short s v h =
-    let fits : textFits keyLimit (word s 1) ≡ true = subst (λ (k : ℕ). keyRight k (word s 1) ≡ true) (eqb-true (verb s) aSection v) (sounds s h .key) in
-    let size = and-both (within 1 keyLimit (length (word s 1))) (all plain (word s 1)) fits .0 in
-    omega (arith, leb-true (length (word s 1)) keyLimit (and-both (leb 1 (length (word s 1))) (leb (length (word s 1)) keyLimit) size .1))
+    fits-short (word s 1) (subst (λ (k : ℕ). keyRight k (word s 1) ≡ true) (eqb-true (verb s) aSection v) (sounds s h .key))

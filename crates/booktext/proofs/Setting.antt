@@ -232,16 +232,20 @@ pub codes-fit : (all : List Statement) (name : List ℕ) → each sound all ≡ 
 unfolding codesOf
 codes-fit all name e = codes-from-fit name all e
 
-fits-short : (w : List ℕ) → textFits codeLimit w ≡ true → isShort w ≡ true
+-- a key or a code has a length that fits a byte
+pub fits-short : (w : List ℕ) → textFits 20 w ≡ true → length w ≤ 255
 fits-short w e =
-    let size = and-both (within 1 codeLimit (length w)) (all plain w) e .0 in
-    let few : length w ≤ codeLimit = leb-true (length w) codeLimit (and-both (leb 1 (length w)) (leb (length w) codeLimit) size .1) in
-    le-leb (length w) 255 (omega (arith, few))
+    let size = and-both (within 1 20 (length w)) (all plain w) e .0 in
+    omega (arith, leb-true (length w) 20 (and-both (leb 1 (length w)) (leb (length w) 20) size .1))
 
 -- ---- the set with a name
--- one that is refused, with nothing written
-puts-refused : {want told : Told} {a b : ℕ} (bytes out : List ℕ) (at : ℕ) → told ≡ tell 53 a b → tell 53 a b ≡ want → Puts want bytes out at out (record { told = told; at = at })
-puts-refused bytes out at e f = record { tells = e ∙ f; wrote = λ z. absurd (omega (arith, z, ap (λ (x : Told). x .number) e)); length = refl }
+-- a row refuses, whatever was written
+pub puts-refused : {want : Told} {bytes o after : List ℕ} {at : ℕ} {r : Put} → r .told ≡ want → (want .number ≡ 0 → ⊥) → length after ≡ length o → Puts want bytes o at after r
+puts-refused e h same = record { tells = e; wrote = λ z. absurd (h (ap (λ (x : Told). x .number) (sym e) ∙ z)); length = same }
+
+-- row 53, with nothing written
+puts-bad : {want told : Told} {a b : ℕ} (bytes out : List ℕ) (at : ℕ) → told ≡ tell 53 a b → tell 53 a b ≡ want → Puts want bytes out at out (record { told = told; at = at })
+puts-bad bytes out at e f = puts-refused (e ∙ f) (λ z. absurd (omega (arith, ap (λ (x : Told). x .number) f ∙ z))) refl
 
 module _ (t name : List ℕ) {line : ℕ} (f : Finds t (from aSet name (statements t)) (left t (nextLine t line)) line) where
   -- there is none
@@ -250,7 +254,7 @@ module _ (t name : List ℕ) {line : ℕ} (f : Finds t (from aSet name (statemen
   unfolding codesOf
   set-absent head h out at e g k =
       let none = f .none h in
-      puts-refused (setBytes (codesOf (statements t) name)) out at k
+      puts-bad (setBytes (codesOf (statements t) name)) out at k
       (ap₂ (tell 53) (e ∙ ap (λ (ss : List Statement). lineOf t (atOf ss)) (sym none)) g
       ∙ sym (bad-is t (lineOf t head) (statements t) name [] false (ap (λ (ss : List Statement). within 1 codeCountLimit (length (codesAt ss))) none)))
 
@@ -260,7 +264,7 @@ module _ (t name : List ℕ) {line : ℕ} (f : Finds t (from aSet name (statemen
     set-codes = ap codesAt (f .some h)
 
     pub set-short : each sound (statements t) ≡ true → each isShort (codesFrom t line) ≡ true
-    set-short e = each-as (textFits codeLimit) isShort fits-short (codesFrom t line) (ap (each (textFits codeLimit)) (sym set-codes) ∙ codes-fit (statements t) name e)
+    set-short e = each-as (textFits codeLimit) isShort (λ w k. le-leb (length w) 255 (fits-short w k)) (codesFrom t line) (ap (each (textFits codeLimit)) (sym set-codes) ∙ codes-fit (statements t) name e)
 
     module _ {count : ℕ} (e : count ≡ min (length (codesFrom t line)) 1025) where
       sized : count ≡ min (length (codesOf (statements t) name)) 1025
@@ -270,7 +274,7 @@ module _ (t name : List ℕ) {line : ℕ} (f : Finds t (from aSet name (statemen
       pub set-wrong : (head : ℕ) → (ltb count 1 || ltb codeCountLimit count) ≡ true → {told : Told} {a b : ℕ} (out : List ℕ) (at : ℕ) → a ≡ lineOf t line → b ≡ lineOf t head → told ≡ tell 53 a b
           → Puts (firstBadSet t (lineOf t head) (statements t) (name ∷ [])) (setBytes (codesOf (statements t) name)) out at out (record { told = told; at = at })
       set-wrong head w out at g k l =
-          puts-refused (setBytes (codesOf (statements t) name)) out at l
+          puts-bad (setBytes (codesOf (statements t) name)) out at l
           (ap₂ (tell 53) (g ∙ ap (λ (ss : List Statement). lineOf t (atOf ss)) (sym (f .some h))) k
           ∙ sym (bad-is t (lineOf t head) (statements t) name [] false (size-wrong _ sized w)))
 

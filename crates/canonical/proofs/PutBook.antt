@@ -16,8 +16,8 @@ use Rattle.grade.specs.Admission.{indexedTold}
 use Rattle.grade.specs.Book.{Contents, decoded, malformed, otherVersion}
 use Rattle.grade.specs.Standing.{textAt, TextFits, standsAt, contentsAt, siteAt, rulesIn, setsIn, Holds, Indexes}
 use Rattle.grade.proofs.Encoded.{Bytes}
-use Rattle.grade.proofs.Indexing.{sections-read, index-stand}
-use Rattle.grade.proofs.Opening.{held, sections-started}
+use Rattle.grade.proofs.Indexing.{index-says, index-stand}
+use Rattle.grade.proofs.Opening.{held}
 use Rattle.grade.proofs.Parts.{stands-parts, stands-key}
 use Rattle.ack.specs.Layout.{joined, marked}
 use Rattle.ack.specs.Splice.{Wrote, limit}
@@ -139,7 +139,7 @@ module _ (b starts : List ℕ) {r : Indexed} (is : Indexes b starts r) where
     pub book-listed : (all (standsAt b) (take count starts) ≡ true) × (decoded b ≡ map (contentsAt b) (take count starts)) × (malformed b ≡ false) × (otherVersion b ≡ false)
     book-listed = (
       index-stand b starts is of,
-      sections-started b (sections-read b starts is of) .say ∙ ap (map (contentsAt b)) (sym (is .listed count of .are)),
+      index-says b starts is of,
       accepted .0,
       accepted .1,
     )

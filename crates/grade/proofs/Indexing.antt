@@ -20,7 +20,7 @@ use Rattle.grade.specs.Limits.{headSize, bookLimit, bookVersion, section
 use Rattle.grade.specs.Reader.{fault, found, isFound, itemsOf, times}
 use Rattle.grade.specs.Book.{section, distinct, keys, sections, headRight, version, decoded, malformed, otherVersion, noSection}
 use Rattle.grade.specs.Admission.{bookRows, indexedTold, openedTold}
-use Rattle.grade.specs.Standing.{upTo, textAt, TextFits, standsAt, starting, startsIn, siteOf, siteIn, Listed, IndexesBy, Indexes, OpensBook}
+use Rattle.grade.specs.Standing.{upTo, textAt, TextFits, standsAt, contentsAt, starting, startsIn, siteOf, siteIn, Listed, IndexesBy, Indexes, OpensBook}
 use Rattle.grade.proofs.Readings.{starts-stand}
 use Rattle.grade.proofs.Parts.{stands-key, sections-say, keys-texts}
 use Rattle.grade.proofs.Opening.{opens-refused, opens-as, sections-started}
@@ -149,6 +149,9 @@ module _ (b starts : List ℕ) {r : Indexed} (is : Indexes b starts r) where
 
     pub index-fits : count ≤ length starts
     index-fits = is .listed count of .fits
+
+    pub index-says : decoded b ≡ map (contentsAt b) (take count starts)
+    index-says = sections-started b sections-read .say ∙ ap (map (contentsAt b)) (sym (is .listed count of .are))
 
     pub index-stand : all (standsAt b) (take count starts) ≡ true
     index-stand = ap (all (standsAt b)) (is .listed count of .are) ∙ sections-started b sections-read .stand

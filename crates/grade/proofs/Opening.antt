@@ -84,7 +84,7 @@ pub record Under (b key : List ℕ) (s : Section) : Type 0 where
   pub only : under key (decoded b) ≡ record { key = key; rules = rulesIn b s; sets = setsIn b s } ∷ []
   pub holds : Holds b s
 
--- what stands where it does
+-- the rules and sets that a section says are those that stand at its place, where they can be read
 pub held : (b : List ℕ) (at : ℕ) (s : Section) (c : Contents) (end : ℕ) → SectionParts b at s c end → (c .rules ≡ rulesIn b s) × (c .sets ≡ setsIn b s) × Holds b s
 unfolding rulesIn setsIn
 held b at s c end p =

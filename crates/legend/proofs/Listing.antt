@@ -1,11 +1,11 @@
 -- Laws of the legend's lines: how they are written, one after the other. Assumes nothing.
 use mathlib.Core.Path.{_≡_, refl, sym, ap, ap₂, _∙_}
-use mathlib.Core.Bool.{Bool, true, false, cond, not, _&&_, _||_}
+use mathlib.Core.Bool.{Bool, true, false, cond, not, _||_}
 use mathlib.Core.List.{List, [], _∷_, _++_, map, append-assoc, append-nil}
-use Prim.Native.Nat.{ℕ, suc, _+_, _/_, _≤_, _<_}
+use Prim.Native.Nat.{ℕ, suc, _+_, _≤_, _<_}
 use native.Mathlib.Omega.{arith}
 use native.Mathlib.Numerals.{add-one}
-use lib.Dec.{eqb, leb}
+use lib.Dec.{leb}
 use lib.ListN.{length, getD, take, drop}
 use borrow.Author.Tests.{eq-eqb, ne-eqb, leb-true, leb-false}
 use Rattle.hl7.specs.Text.{bytes}
@@ -21,10 +21,9 @@ use Rattle.booktext.specs.Contents.{letterOf}
 use Rattle.booktext.specs.Refusals.{statementLimit}
 use Rattle.booktext.specs.Standing.{wordsFrom, spanBytes, NextWord, statementAt, nextLine, left, bodyFrom, noted, Finds, Holds}
 use Rattle.booktext.proofs.Completing.{Completes, completes-more, completes-over}
-use Rattle.booktext.proofs.Stating.{onward, onward-none, onward-some, onward-step, found-onward, left-start}
-use Rattle.booktext.proofs.Ruling.{asked-rule}
+use Rattle.booktext.proofs.Stating.{onward, onward-none, onward-some, found-onward, left-start}
 use Rattle.legend.specs.People.{lineAt, people}
-use Rattle.legend.specs.Legend.{ending, legendLine, ruleLegend, rulesLegend, sectionLegend, legendIn, legend}
+use Rattle.legend.specs.Legend.{ending, ruleLegend, rulesLegend, sectionLegend, legendIn, legend}
 use Rattle.legend.specs.Roomy.{roomy}
 
 -- ---- how a line ends

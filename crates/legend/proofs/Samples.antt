@@ -32,8 +32,8 @@ samples =
     ∷ tells "book 1\nsection A|  New  Jersey | x \t\r\nrule PID-7.1 TIME E 8\nalso PID-7.1 TIME W 4 |a\tb" "A 0 | New  Jersey | x\nA 1 PID-7.1 TIME E 8\nA 2 PID-7.1 TIME W 4 | a\tb\n"
     -- numbers go on through a common; the severity is the section's; a set has its name; words of a use or a common are no rule's
     ∷ tells
-      "book 1\ncommon c | words of a common\nrule PID-8 CODE E s | sex\nrule RXA-15 LENGTH W 1 16\nset s F M\nsection A | one\nuse c I | words of a use\nsection BB\nrule PID-3.1 REQUIRED E | id\nsets s\nuse c\n"
-      "A 0 | one\nA 1 PID-8 CODE I s | sex\nA 2 RXA-15 LENGTH I 1 16\nBB 0\nBB 1 PID-3.1 REQUIRED E | id\nBB 2 PID-8 CODE E s | sex\nBB 3 RXA-15 LENGTH W 1 16\n"
+    "book 1\ncommon c | words of a common\nrule PID-8 CODE E s | sex\nrule RXA-15 LENGTH W 1 16\nset s F M\nsection A | one\nuse c I | words of a use\nsection BB\nrule PID-3.1 REQUIRED E | id\nsets s\nuse c\n"
+    "A 0 | one\nA 1 PID-8 CODE I s | sex\nA 2 RXA-15 LENGTH I 1 16\nBB 0\nBB 1 PID-3.1 REQUIRED E | id\nBB 2 PID-8 CODE E s | sex\nBB 3 RXA-15 LENGTH W 1 16\n"
     ∷ []
 
 samples-right : allRight samples ≡ true

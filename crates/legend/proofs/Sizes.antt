@@ -1,21 +1,20 @@
 -- What a text that is not refused leaves of its legend: the statements of each section can be noted, and its length is within a limit. Assumes nothing.
-use mathlib.Core.Path.{_≡_, refl, sym, ap, _∙_}
+use mathlib.Core.Path.{_≡_, refl, ap}
 use mathlib.Core.Bool.{Bool, true, false, cond, not, _&&_, _||_}
 use mathlib.Core.List.{List, [], _∷_, _++_, map}
-use Prim.Native.Nat.{ℕ, zero, suc, _+_, _*_, _≤_, _<_}
+use Prim.Native.Nat.{ℕ, zero, suc, _+_, _*_, _≤_}
 use native.Mathlib.Omega.{arith}
 use lib.Dec.{eqb, leb}
 use lib.ListN.{length, getD, drop, length-append, length-drop}
 use borrow.Author.Tests.{le-leb, leb-true}
 use Rattle.hl7.specs.Bytes.{all, within}
-use Rattle.hl7.specs.Cut.{ahead, cut, partAt}
+use Rattle.hl7.specs.Cut.{ahead, cut}
 use Rattle.hl7.proofs.Comparing.{and-both}
 use Rattle.hl7.proofs.Cutting.{part-short}
-use Rattle.grade.specs.Book.{Contents, distinct, keys}
+use Rattle.grade.specs.Book.{distinct, keys}
 use Rattle.grade.specs.Encoding.{each, textFits, setFits, sectionFits, sectionBytes, bookBytes, wellFormed}
 use Rattle.grade.specs.Rule.{ruleFits}
 use Rattle.grade.specs.Limits.{keyLimit, ruleLimit, setLimit, sectionLimit, bookLimit}
-use Rattle.ack.specs.Decimal.{decimal}
 use Rattle.ack.specs.Layout.{joined, marked}
 use Rattle.ack.proofs.Decimals.{decimal-short}
 use Rattle.booktext.specs.Lines.{Statement, word, says, makesRule, lineFeed, bar, blank, said, cutAt, filled, wordsIn, unlessSilent, statementsFrom, statements, textLimit, aCommon, aSection, aUse}

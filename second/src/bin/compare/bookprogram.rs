@@ -1,7 +1,7 @@
 //! A program for books as text, run in a folder of its own on one source after the other: what it prints and what it
 //! writes is compared.
 
-use crate::program::shown;
+use crate::program::{lay_files, shown};
 use second::book::BOOK_LIMIT;
 use second::bookprogram::{self, Printed};
 use second::cases::{BookCall, BookGenerator, Random};
@@ -145,15 +145,7 @@ fn show(book: Option<Vec<u8>>) -> Step {
 }
 
 fn lay(folder: &Path, files: &Files) -> io::Result<()> {
-    for (name, contents) in [(SOURCE, &files.source), (BOOK, &files.book)] {
-        let file = folder.join(name);
-        match contents {
-            Some(bytes) => fs::write(file, bytes)?,
-            None if file.exists() => fs::remove_file(file)?,
-            None => {}
-        }
-    }
-    Ok(())
+    lay_files(folder, &[(SOURCE, files.source.as_deref()), (BOOK, files.book.as_deref())])
 }
 
 /// Keeps the files as they were before anything was run, beside this program.

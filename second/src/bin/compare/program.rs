@@ -170,8 +170,9 @@ fn input(random: &mut Random, case: &Given) -> Vec<u8> {
     input
 }
 
-fn lay(folder: &Path, program: &Program, run: &Run) -> io::Result<()> {
-    for (name, contents) in [(program.file, &run.file), (BOOK_FILE, &run.book), ("line", &Some(run.input.clone()))] {
+/// Writes the files that there are, and removes the others.
+pub fn lay_files(folder: &Path, files: &[(&str, Option<&[u8]>)]) -> io::Result<()> {
+    for (name, contents) in files {
         let file = folder.join(name);
         match contents {
             Some(bytes) => fs::write(file, bytes)?,
@@ -180,6 +181,13 @@ fn lay(folder: &Path, program: &Program, run: &Run) -> io::Result<()> {
         }
     }
     Ok(())
+}
+
+fn lay(folder: &Path, program: &Program, run: &Run) -> io::Result<()> {
+    lay_files(
+        folder,
+        &[(program.file, run.file.as_deref()), (BOOK_FILE, run.book.as_deref()), ("line", Some(&run.input))],
+    )
 }
 
 /// Standard output of the program; its input is a pipe or a file.

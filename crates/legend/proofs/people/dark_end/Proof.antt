@@ -1,5 +1,5 @@
 -- `legend::people::dark_end` meets its contract. The invariant of its loop: all from the end on are blanks. Assumes nothing.
-use mathlib.Core.Path.{_≡_, refl, ap, _∙_}
+use mathlib.Core.Path.{_≡_, refl}
 use mathlib.Core.Bool.{true}
 use Prim.Native.Nat.{_≤_}
 use native.Mathlib.Omega.{arith}
