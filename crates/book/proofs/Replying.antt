@@ -1,20 +1,26 @@
 -- Laws of `specs/Command.antt`, `specs/Words.antt` and `specs/Reply.antt`, in the words of the code. Assumes nothing.
-use mathlib.Core.Path.{_≡_}
-use mathlib.Core.Bool.{Bool, true, false, _&&_}
+use mathlib.Core.Path.{_≡_, sym, ap, _∙_, subst}
+use mathlib.Core.Bool.{Bool, true, false, cond, _&&_}
 use mathlib.Core.List.{List, [], _∷_, _++_}
-use Prim.Native.Nat.{ℕ}
+use mathlib.Core.Logic.{⊎-elim}
+use Prim.Native.Nat.{ℕ, _<_, _≤_}
+use native.Mathlib.Omega.{arith}
 use lib.Dec.{eqb}
+use lib.ListN.{length, take, drop, take-append-drop}
+use lib.Seq.{take-all, length-take-le}
 use borrow.Author.Tests.{eq-eqb, ne-eqb}
 use Rattle.hl7.specs.Text.{bytes}
 use Rattle.hl7.specs.Bytes.{same}
 use Rattle.ack.specs.Decimal.{decimal}
+use Rattle.ack.specs.Splice.{limit, Wrote}
+use Rattle.ack.proofs.Writing.{lt-or-ge, splice-at-start}
 use Rattle.booktext.specs.declared.told.Told.{Told}
 use Rattle.book.specs.declared.command.Command.{Command}
 use Rattle.book.specs.declared.counts.Counts.{Counts}
 use Rattle.book.specs.Command.{commandOf}
 use Rattle.book.specs.Counts.{sectionsIn}
 use Rattle.book.specs.Words.{laterWords, wordsFor}
-use Rattle.book.specs.Reply.{lineText, refusedText, compiledText, toldText}
+use Rattle.book.specs.Reply.{lineText, refusedText, sourceRefusedText, compiledText, made, toldText, bookRefusedText, shownText, legendText}
 use Rattle.book.specs.Standing.{countsOf}
 
 -- ---- the command line, by the tests of the code
@@ -28,9 +34,19 @@ module _ (count : ℕ) (verb : List ℕ) {first : Bool} (e : first ≡ same verb
     unfolding commandOf
     command-check t = rw (← e, f, ← g, t)
 
-    pub command-unknown : (eqb count 3 && second) ≡ false → Command.Unknown ≡ commandOf count verb
-    unfolding commandOf
-    command-unknown t = rw (← e, f, ← g, t)
+    module _ (h : (eqb count 3 && second) ≡ false) {third : Bool} (i : third ≡ same verb (bytes "show")) where
+      pub command-show : (eqb count 3 && third) ≡ true → Command.Show ≡ commandOf count verb
+      unfolding commandOf
+      command-show t = rw (← e, f, ← g, h, ← i, t)
+
+      module _ (j : (eqb count 3 && third) ≡ false) {fourth : Bool} (k : fourth ≡ same verb (bytes "legend")) where
+        pub command-legend : (eqb count 3 && fourth) ≡ true → Command.Legend ≡ commandOf count verb
+        unfolding commandOf
+        command-legend t = rw (← e, f, ← g, h, ← i, j, ← k, t)
+
+        pub command-unknown : (eqb count 3 && fourth) ≡ false → Command.Unknown ≡ commandOf count verb
+        unfolding commandOf
+        command-unknown t = rw (← e, f, ← g, h, ← i, j, ← k, t)
 
 -- ---- a refusal
 pub words-none : (n : ℕ) →
@@ -58,12 +74,51 @@ module _ (word : List ℕ) (line : ℕ) where
   unfolding lineText
   line-some e = rw (ne-eqb line 0 e)
 
--- ---- what compiling told
-module _ (t : Told) (book : List ℕ) where
-  pub told-compiled : t .number ≡ 0 → {c : Counts} → c ≡ countsOf (sectionsIn book) → compiledText (t .detail) (c .sections) (c .rules) (c .sets) ≡ toldText t book
-  unfolding toldText
-  told-compiled e is = rw (eq-eqb (t .number) 0 e, is)
+-- ---- what was told, over an output
+-- the output's first bytes stand there: writing them changes nothing
+front-stands : (out : List ℕ) (n : ℕ) → length out < limit → n ≤ length out → Wrote out 0 (take n out) out (length (take n out))
+front-stands out n room h =
+    let taken : length (take n out) ≡ n = length-take-le n out h in
+    record {
+      room = room;
+      holds = sym (splice-at-start out (take n out) (omega (arith, taken)) ∙ ap (λ (k : ℕ). take n out ++ drop k out) taken ∙ take-append-drop n out);
+      ends = omega (arith, taken);
+    }
 
-  pub told-refused : (t .number ≡ 0 → ⊥) → refusedText (t .number) (t .detail) (t .section) ≡ toldText t book
+pub made-stands : (t : Told) (out : List ℕ) {front : List ℕ} → front ≡ made t out → length out < limit → Wrote out 0 (made t out) out (length front)
+made-stands t out is room =
+    subst (λ (l : List ℕ). Wrote out 0 (made t out) out (length l)) (sym is)
+    (⊎-elim
+    (λ near. front-stands out (t .detail) room (omega arith))
+    (λ far.
+    subst (λ (l : List ℕ). Wrote out 0 l out (length l)) (take-all (length out) out (omega arith) ∙ sym (take-all (t .detail) out far)) (front-stands out (length out) room (omega arith)))
+    (lt-or-ge (t .detail) (length out)))
+
+pub source-refused : (t : Told) {line : ℕ} → line ≡ cond (eqb (t .number) 55) 0 (t .detail) → refusedText (t .number) line (t .section) ≡ sourceRefusedText t
+unfolding sourceRefusedText
+source-refused t e = rw e
+
+module _ (t : Told) (output : List ℕ) where
+  pub told-compiled : t .number ≡ 0 → {book : List ℕ} → book ≡ made t output → {c : Counts} → c ≡ countsOf (sectionsIn book) → compiledText (t .detail) (c .sections) (c .rules) (c .sets) ≡ toldText t output
+  unfolding toldText
+  told-compiled e made is = rw (eq-eqb (t .number) 0 e, is, made)
+
+  pub told-refused : (t .number ≡ 0 → ⊥) → sourceRefusedText t ≡ toldText t output
   unfolding toldText
   told-refused e = rw (ne-eqb (t .number) 0 e)
+
+  pub shown-made : t .number ≡ 0 → made t output ≡ shownText t output
+  unfolding shownText
+  shown-made e = rw (eq-eqb (t .number) 0 e)
+
+  pub shown-refused : (t .number ≡ 0 → ⊥) → bookRefusedText (t .number) ≡ shownText t output
+  unfolding shownText
+  shown-refused e = rw (ne-eqb (t .number) 0 e)
+
+  pub legend-made : t .number ≡ 0 → made t output ≡ legendText t output
+  unfolding legendText
+  legend-made e = rw (eq-eqb (t .number) 0 e)
+
+  pub legend-refused : (t .number ≡ 0 → ⊥) → sourceRefusedText t ≡ legendText t output
+  unfolding legendText
+  legend-refused e = rw (ne-eqb (t .number) 0 e)

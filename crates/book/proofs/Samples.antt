@@ -1,4 +1,4 @@
--- What is printed, for some answers of the compiler: computed from the definitions. Assumes nothing.
+-- What is printed, for some answers of the calls: computed from the definitions. Assumes nothing.
 use Prim.Native.Nat.{ℕ}
 use Prim.Native.String.{String}
 use mathlib.Core.Path.{_≡_, refl}
@@ -12,7 +12,7 @@ use Rattle.ack.specs.Decimal.{lastDigits, decimal}
 use Rattle.booktext.specs.declared.told.Told.{Told}
 use Rattle.book.specs.Counts.{sectionsIn, ruleTotal, setTotal}
 use Rattle.book.specs.Words.{laterWords, wordsFor}
-use Rattle.book.specs.Reply.{lineText, refusedText, compiledText, toldText}
+use Rattle.book.specs.Reply.{lineText, refusedText, sourceRefusedText, compiledText, toldText, bookRefusedText, shownText, legendText}
 
 -- a section AX with a set of one code and two rules, of which the second names the set
 example : List ℕ
@@ -41,5 +41,27 @@ samples =
     ∷ []
 
 samples-hold : map (λ (s : Sample). toldText (s .told) example) samples ≡ map (λ (s : Sample). bytes (s .prints)) samples
-unfolding samples row example toldText compiledText refusedText lineText laterWords wordsFor sectionsIn ruleTotal setTotal lastDigits decimal all same among begins segmentNames numberFrom nameOfLetters placeFits severityOf kindOf ruleSaid ruleOf times text codeSet ruleIn section distinct sections headRight decoded malformed otherVersion
+unfolding samples row example toldText compiledText sourceRefusedText refusedText lineText laterWords wordsFor sectionsIn ruleTotal setTotal lastDigits decimal all same among begins segmentNames numberFrom nameOfLetters placeFits severityOf kindOf ruleSaid ruleOf times text codeSet ruleIn section distinct sections headRight decoded malformed otherVersion
 samples-hold = refl
+
+-- ---- a text that was asked for, which stands in a longer output
+output : List ℕ
+output = bytes "book 1\nsection AX\n----"
+
+shownSamples : List Sample
+shownSamples = row 0 18 0 "book 1\nsection AX\n" ∷ row 7 0 0 "book refused 7\n" ∷ row 8 0 0 "book refused 8\n" ∷ []
+
+shown-hold : map (λ (s : Sample). shownText (s .told) output) shownSamples ≡ map (λ (s : Sample). bytes (s .prints)) shownSamples
+unfolding shownSamples row output shownText bookRefusedText lastDigits decimal
+shown-hold = refl
+
+legendSamples : List Sample
+legendSamples =
+    row 0 7 0 "book 1\n"
+    ∷ row 46 10 17 "refused 46 line 10 section 17: the section has used this common before\n"
+    ∷ row 55 4194305 0 "refused 55: the output is too short\n"
+    ∷ []
+
+legends-hold : map (λ (s : Sample). legendText (s .told) output) legendSamples ≡ map (λ (s : Sample). bytes (s .prints)) legendSamples
+unfolding legendSamples row output legendText sourceRefusedText refusedText lineText laterWords wordsFor lastDigits decimal
+legends-hold = refl

@@ -11,4 +11,6 @@ use Rattle.book.specs.declared.command.Command.{Command}
 unfoldable pub commandOf : ℕ → List ℕ → Command
 commandOf count verb =
     cond (eqb count 4 && same verb (bytes "compile")) Command.Compile
-    (cond (eqb count 3 && same verb (bytes "check")) Command.Check Command.Unknown)
+    (cond (eqb count 3 && same verb (bytes "check")) Command.Check
+    (cond (eqb count 3 && same verb (bytes "show")) Command.Show
+    (cond (eqb count 3 && same verb (bytes "legend")) Command.Legend Command.Unknown)))

@@ -1,9 +1,9 @@
--- To be believed. The line that the program prints. Assumes nothing.
+-- To be believed. What the program prints. Assumes nothing.
 use Prim.Native.Nat.{ℕ}
 use mathlib.Core.Bool.{cond}
 use mathlib.Core.List.{List, [], _++_}
 use lib.Dec.{eqb}
-use lib.ListN.{length}
+use lib.ListN.{length, take}
 use Rattle.hl7.specs.Text.{bytes}
 use Rattle.ack.specs.Decimal.{decimal}
 use Rattle.booktext.specs.declared.told.Told.{Told}
@@ -20,17 +20,36 @@ unfoldable pub refusedText : (number line section : ℕ) → List ℕ
 refusedText number line section =
     bytes "refused " ++ (decimal number ++ (lineText (bytes " line") line ++ (lineText (bytes " section") section ++ (bytes ": " ++ (wordsFor number ++ bytes "\n")))))
 
--- ---- a book
+-- why a source is refused; the detail of 55 is a length and no line
+unfoldable pub sourceRefusedText : Told → List ℕ
+sourceRefusedText t = refusedText (t .number) (cond (eqb (t .number) 55) 0 (t .detail)) (t .section)
+
+-- ---- what was made
+-- with number 0 it is the output's first bytes, as many as the detail says
+abbrev pub made : Told → (output : List ℕ) → List ℕ
+made t output = take (t .detail) output
+
 unfoldable pub compiledText : (size sections rules sets : ℕ) → List ℕ
 compiledText size sections rules sets =
     bytes "compiled " ++ (decimal size ++ (bytes " bytes, " ++ (decimal sections ++ (bytes " sections, " ++ (decimal rules ++ (bytes " rules, " ++ (decimal sets ++ bytes " sets\n")))))))
 
--- what compiling told, and with number 0 the book that it made, whose length is the detail
-unfoldable pub toldText : Told → (book : List ℕ) → List ℕ
-toldText t book =
+-- by what compiling told, and the output afterwards: what the book holds
+unfoldable pub toldText : Told → (output : List ℕ) → List ℕ
+toldText t output =
     cond (eqb (t .number) 0)
-    (compiledText (t .detail) (length (sectionsIn book)) (ruleTotal (sectionsIn book)) (setTotal (sectionsIn book)))
-    (refusedText (t .number) (t .detail) (t .section))
+    (compiledText (t .detail) (length (sectionsIn (made t output))) (ruleTotal (sectionsIn (made t output))) (setTotal (sectionsIn (made t output))))
+    (sourceRefusedText t)
+
+unfoldable pub bookRefusedText : ℕ → List ℕ
+bookRefusedText number = bytes "book refused " ++ (decimal number ++ bytes "\n")
+
+-- by what showing a book told, and the output afterwards: the text itself
+unfoldable pub shownText : Told → (output : List ℕ) → List ℕ
+shownText t output = cond (eqb (t .number) 0) (made t output) (bookRefusedText (t .number))
+
+-- by what asking for a legend told, and the output afterwards: the legend itself
+unfoldable pub legendText : Told → (output : List ℕ) → List ℕ
+legendText t output = cond (eqb (t .number) 0) (made t output) (sourceRefusedText t)
 
 -- ---- files, and the command line
 -- a file that cannot be read, or written
@@ -38,4 +57,4 @@ unfoldable pub fileText : (what path : List ℕ) → List ℕ
 fileText what path = bytes "file cannot be " ++ (what ++ (bytes ": " ++ (path ++ bytes "\n")))
 
 abbrev pub usageText : List ℕ
-usageText = bytes "usage: book compile SOURCE BOOK | check SOURCE\n"
+usageText = bytes "usage: book compile SOURCE BOOK | check SOURCE | show BOOK | legend SOURCE\n"

@@ -6,6 +6,8 @@ ghost use Rattle.book.specs.Command.{commandOf};
 pub enum Command {
     Compile,
     Check,
+    Show,
+    Legend,
     Unknown,
 }
 
@@ -18,6 +20,12 @@ pub(crate) fn command_of(count: usize, verb: &[u8]) -> Command
     }
     if (count == 3) & same_bytes(verb, b"check") {
         return Command::Check;
+    }
+    if (count == 3) & same_bytes(verb, b"show") {
+        return Command::Show;
+    }
+    if (count == 3) & same_bytes(verb, b"legend") {
+        return Command::Legend;
     }
     Command::Unknown
 }

@@ -1,4 +1,5 @@
-// Makes a rule book of a text, or only checks the text, and prints one line: what the book holds, a refusal, a file that cannot be used, or how to call it.
+// Makes a rule book of a text, or only checks the text, and prints what the book holds; prints a book as a text, or the legend of a text. Else it prints
+// one line: a refusal, a file that cannot be used, or how to call it.
 mod command;
 mod counts;
 mod reply;
@@ -6,11 +7,15 @@ mod words;
 
 use booktext::compile::compile;
 use booktext::told::Told;
+use canonical::show::show;
 use command::Command;
 use command::command_of;
 use hl7::bytes::front;
+use legend::legend::legend;
 use reply::put_file;
+use reply::put_legend;
 use reply::put_new_name;
+use reply::put_shown;
 use reply::put_told;
 use reply::put_usage;
 
@@ -62,7 +67,7 @@ fn write_by(name: &mut [u8], path: &[u8], book: &[u8]) -> bool {
 
 // Writes a book, whole or not at all: the new file stands beside it, its name with a suffix.
 fn write_whole(path: &[u8], book: &[u8]) -> bool {
-    let mut name = [0u8; 131080];
+    let mut name = [0u8; 4104];
     let length = put_new_name(&mut name, path);
     if name.len() < length {
         return false;
@@ -71,51 +76,86 @@ fn write_whole(path: &[u8], book: &[u8]) -> bool {
 }
 
 // The book is written only where nothing is refused.
-fn keep(told: Told, book: &[u8], line: &mut [u8]) -> usize {
+fn keep(told: Told, output: &mut [u8]) -> usize {
     if told.number == 0 {
-        let mut path = [0u8; 131072];
+        let mut path = [0u8; 4096];
         let length = os::arg(3, &mut path);
-        if !write_whole(front(&path, length), book) {
-            return put_file(line, b"written", front(&path, length));
+        if !write_whole(front(&path, length), front(output, told.detail)) {
+            return put_file(output, b"written", front(&path, length));
         }
     }
-    put_told(line, told, book)
+    put_told(output, told)
 }
 
-// Reads the source, compiles it, and puts the line that is to be printed; with `kept` the book is written.
-fn make(source: &mut [u8], output: &mut [u8], kept: bool, line: &mut [u8]) -> usize {
-    let mut path = [0u8; 131072];
+// Reads the file that the command line names first; or puts the line which tells that it cannot be read, and answers the length of that. A path has room
+// for the longest that can be opened: a longer one is taken for an empty one, which cannot.
+fn read_first(input: &mut [u8], output: &mut [u8]) -> Read {
+    let mut path = [0u8; 4096];
     let length = os::arg(2, &mut path);
-    let read = read_whole(front(&path, length), source);
-    if !read.good {
-        return put_file(line, b"read", front(&path, length));
+    let read = read_whole(front(&path, length), input);
+    if read.good {
+        return read;
     }
-    let told = compile(front(source, read.length), output);
-    let book = front(output, told.detail);
-    if kept {
-        return keep(told, book, line);
+    Read {
+        good: false,
+        length: put_file(output, b"read", front(&path, length)),
     }
-    put_told(line, told, book)
 }
 
-// What the command line asks for. Further commands have their arms here, and their words in command.rt.
-fn answer(source: &mut [u8], output: &mut [u8], line: &mut [u8]) -> usize {
+// Compiles the source, and puts what is to be printed; with `kept` the book is written.
+fn make(input: &mut [u8], output: &mut [u8], kept: bool) -> usize {
+    let read = read_first(input, output);
+    if !read.good {
+        return read.length;
+    }
+    let told = compile(front(input, read.length), output);
+    if kept {
+        return keep(told, output);
+    }
+    put_told(output, told)
+}
+
+// The same for the book that is shown.
+fn show_first(input: &mut [u8], output: &mut [u8]) -> usize {
+    let read = read_first(input, output);
+    if !read.good {
+        return read.length;
+    }
+    let told = show(front(input, read.length), output);
+    put_shown(output, told)
+}
+
+// The same for the source whose legend is asked for.
+fn explain_first(input: &mut [u8], output: &mut [u8]) -> usize {
+    let read = read_first(input, output);
+    if !read.good {
+        return read.length;
+    }
+    let told = legend(front(input, read.length), output);
+    put_legend(output, told)
+}
+
+// What the command line asks for: what is to be printed stands at the output's front. Further commands have their arms here, and their words in command.rt.
+fn answer(input: &mut [u8], output: &mut [u8]) -> usize {
     let mut verb = [0u8; 8];
     let length = os::arg(1, &mut verb);
     match command_of(os::arg_count(), front(&verb, length)) {
-        Command::Compile => make(source, output, true, line),
-        Command::Check => make(source, output, false, line),
-        Command::Unknown => put_usage(line),
+        Command::Compile => make(input, output, true),
+        Command::Check => make(input, output, false),
+        Command::Show => show_first(input, output),
+        Command::Legend => explain_first(input, output),
+        Command::Unknown => put_usage(output),
     }
 }
 
 // The rooms come as arrays, whose lengths stand in their types: no proof has to count so many bytes.
-fn run(source: &mut [u8; 1048577], output: &mut [u8; 65536], line: &mut [u8; 131136]) {
-    let length = answer(source, output, line);
-    io::write_all(libc::STDOUT_FILENO, front(line, length));
+fn run(input: &mut [u8; 1048577], output: &mut [u8; 4194304]) {
+    let length = answer(input, output);
+    io::write_all(libc::STDOUT_FILENO, front(output, length));
 }
 
-// The source has room for one byte more than it may have, so that a longer one is seen to be longer; a path, and the line with it, for the longest argument that there is.
+// A source has room for one byte more than it may have, so that a longer one is seen to be longer; so has a book, which may have fewer. Of all that is
+// printed only a legend may have no room.
 fn main() {
-    run(&mut [0u8; 1048577], &mut [0u8; 65536], &mut [0u8; 131136]);
+    run(&mut [0u8; 1048577], &mut [0u8; 4194304]);
 }

@@ -1,4 +1,4 @@
-// The line that the program prints.
+// What the program prints.
 use crate::counts::Counts;
 use crate::counts::counts_of;
 use crate::words::put_words;
@@ -6,8 +6,10 @@ use ack::output::put;
 use ack::output::put_byte;
 use ack::output::put_number;
 use booktext::told::Told;
+use hl7::bytes::front;
+use hl7::bytes::pick;
 ghost use Rattle.ack.specs.Splice.{Wrote};
-ghost use Rattle.book.specs.Reply.{lineText, refusedText, compiledText, toldText, fileText, usageText};
+ghost use Rattle.book.specs.Reply.{lineText, refusedText, sourceRefusedText, compiledText, made, toldText, bookRefusedText, shownText, legendText, fileText, usageText};
 ghost use Rattle.book.specs.Standing.{newName};
 
 // A word, and the number of a line after it, where there is one.
@@ -33,6 +35,14 @@ fn put_refused(out: &mut [u8], number: usize, line: usize, section: usize) -> us
     put_byte(out, f, b'\n')
 }
 
+// A source that is refused; the detail of 55 is a length.
+fn put_source_refused(out: &mut [u8], told: Told) -> usize
+    ensures { λ r. ⌜ Wrote (now (out .entry)) 0 (sourceRefusedText told) (now (out .exit)) r ⌝ }
+{
+    let line = pick(told.number == 55, 0, told.detail);
+    put_refused(out, told.number, line, told.section)
+}
+
 fn put_counts(out: &mut [u8], size: usize, counts: Counts) -> usize
     ensures { λ r. ⌜ Wrote (now (out .entry)) 0 (compiledText size (counts .sections) (counts .rules) (counts .sets)) (now (out .exit)) r ⌝ }
 {
@@ -47,14 +57,50 @@ fn put_counts(out: &mut [u8], size: usize, counts: Counts) -> usize
     put(out, h, b" sets\n")
 }
 
-// What compiling told; with number 0 this is the book that it made.
-pub(crate) fn put_told(out: &mut [u8], told: Told, book: &[u8]) -> usize
-    ensures { λ r. ⌜ Wrote (now (out .entry)) 0 (toldText told (now (book .entry))) (now (out .exit)) r ⌝ }
+// What compiling told, over the output that it had.
+pub(crate) fn put_told(out: &mut [u8], told: Told) -> usize
+    ensures { λ r. ⌜ Wrote (now (out .entry)) 0 (toldText told (now (out .entry))) (now (out .exit)) r ⌝ }
 {
     if told.number == 0 {
-        return put_counts(out, told.detail, counts_of(book));
+        let counts = counts_of(front(out, told.detail));
+        return put_counts(out, told.detail, counts);
     }
-    put_refused(out, told.number, told.detail, told.section)
+    put_source_refused(out, told)
+}
+
+fn put_book_refused(out: &mut [u8], number: usize) -> usize
+    ensures { λ r. ⌜ Wrote (now (out .entry)) 0 (bookRefusedText number) (now (out .exit)) r ⌝ }
+{
+    let a = put(out, 0, b"book refused");
+    let b = put_number(out, a, b' ', number);
+    put_byte(out, b, b'\n')
+}
+
+// The text that stands in the output already.
+fn put_made(out: &mut [u8], told: Told) -> usize
+    ensures { λ r. ⌜ Wrote (now (out .entry)) 0 (made told (now (out .entry))) (now (out .exit)) r ⌝ }
+{
+    front(out, told.detail).len()
+}
+
+// What showing a book told, over the output that it had.
+pub(crate) fn put_shown(out: &mut [u8], told: Told) -> usize
+    ensures { λ r. ⌜ Wrote (now (out .entry)) 0 (shownText told (now (out .entry))) (now (out .exit)) r ⌝ }
+{
+    if told.number == 0 {
+        return put_made(out, told);
+    }
+    put_book_refused(out, told.number)
+}
+
+// What asking for a legend told, over the output that it had.
+pub(crate) fn put_legend(out: &mut [u8], told: Told) -> usize
+    ensures { λ r. ⌜ Wrote (now (out .entry)) 0 (legendText told (now (out .entry))) (now (out .exit)) r ⌝ }
+{
+    if told.number == 0 {
+        return put_made(out, told);
+    }
+    put_source_refused(out, told)
 }
 
 // A file by its path, and what cannot be done with it.
@@ -71,7 +117,11 @@ pub(crate) fn put_file(out: &mut [u8], what: &[u8], path: &[u8]) -> usize
 pub(crate) fn put_usage(out: &mut [u8]) -> usize
     ensures { λ r. ⌜ Wrote (now (out .entry)) 0 usageText (now (out .exit)) r ⌝ }
 {
-    put(out, 0, b"usage: book compile SOURCE BOOK | check SOURCE\n")
+    put(
+        out,
+        0,
+        b"usage: book compile SOURCE BOOK | check SOURCE | show BOOK | legend SOURCE\n",
+    )
 }
 
 // The name of a new file beside a path; the six letters are replaced when it is made.

@@ -2,16 +2,19 @@
 //
 // A number has four bytes, the high byte first. A case is its kind (1 a message, 2 a batch file), the length of the message or file, its
 // bytes, book length, book, stamp length, stamp, control number, output length. A message's case goes on with a place: segment, field,
-// repetition, component. A case of kind 3 is a text that is compiled: its length, its bytes, output length.
+// repetition, component. A case of kind 3 is a text that is compiled, of kind 4 a book that is shown, of kind 5 a text whose legend is asked for: its
+// length, its bytes, output length.
 use ack::answer::answer;
 use ack::refusal::Answer;
 use batchfile::batch::answer_batch;
 use booktext::compile::compile;
 use booktext::told::Told;
+use canonical::show::show;
 use hl7::bytes::front;
 use hl7::bytes::pick;
 use hl7::bytes::wide;
 use hl7::locate::locate;
+use legend::legend::legend;
 use libc::STDOUT_FILENO;
 use show::text::put_answer;
 ghost use mathlib.Core.Path.{_≡_};
@@ -22,6 +25,10 @@ const MESSAGE: u32 = 1;
 const BATCH: u32 = 2;
 
 const TEXT: u32 = 3;
+
+const BOOK: u32 = 4;
+
+const LEGEND: u32 = 5;
 
 // A number of the pack: how many of its bytes there were, and its value.
 struct Number {
@@ -193,12 +200,23 @@ fn print_told(told: Told) {
     io::write_all(STDOUT_FILENO, b"\n");
 }
 
-// Compiles a text with the first so many bytes of out lent, and prints the answer and the book. Answers whether there are so many.
-fn print_compiled(text: &[u8], out: &mut [u8], length: usize) -> bool {
+// What the call for a text or a book tells.
+fn told_of(kind: u32, input: &[u8], out: &mut [u8]) -> Told {
+    if kind == BOOK {
+        return show(input, out);
+    }
+    if kind == LEGEND {
+        return legend(input, out);
+    }
+    compile(input, out)
+}
+
+// Makes what is asked for with the first so many bytes of out lent, and prints the answer and what was made. Answers whether there are so many.
+fn print_made(kind: u32, input: &[u8], out: &mut [u8], length: usize) -> bool {
     if out.len() < length {
         return false;
     }
-    let told = compile(text, &mut out[0..length]);
+    let told = told_of(kind, input, &mut out[0..length]);
     print_told(told);
     if told.number == 0 {
         io::write_all(STDOUT_FILENO, front(out, told.detail));
@@ -207,14 +225,15 @@ fn print_compiled(text: &[u8], out: &mut [u8], length: usize) -> bool {
     true
 }
 
-// A text's case. Answers whether it is whole.
-fn run_text(fd: i32) -> bool {
-    let mut text = [0u8; 131072];
-    let part = read_part(fd, &mut text);
+// The case of a text, or of a book to be shown. Answers whether it is whole.
+fn run_text(fd: i32, kind: u32) -> bool {
+    let mut input = [0u8; 131072];
+    let part = read_part(fd, &mut input);
     let length = read_number(fd);
     if part.whole & (length.count == 4) {
-        return print_compiled(
-            front(&text, part.length),
+        return print_made(
+            kind,
+            front(&input, part.length),
             &mut [0u8; 131072],
             length.value as usize,
         );
@@ -224,8 +243,8 @@ fn run_text(fd: i32) -> bool {
 
 // A case of any kind. Answers whether it is whole, and of a kind that there is.
 fn run_kind(fd: i32, kind: u32) -> bool {
-    if kind == TEXT {
-        return run_text(fd);
+    if (kind == TEXT) | (kind == BOOK) | (kind == LEGEND) {
+        return run_text(fd, kind);
     }
     ((kind == MESSAGE) | (kind == BATCH)) && run_case(fd, kind)
 }

@@ -8,18 +8,21 @@ use Rattle.book.proofs.reply.put_told.Tie as tie
 returns : tie.Need-returns
 returns c =
     let at-put-counts = c .before .before in
+    let at-counts-of = at-put-counts .before .before in
+    let at-front = at-counts-of .before in
     wrote-as (at-put-counts .put-counts .ensures)
-    (told-compiled _ _ (at-put-counts .before .before .before .if1 .taken) (at-put-counts .before .counts-of .ensures))
+    (told-compiled _ _ (at-front .before .before .if1 .taken) (at-front .front .ensures) (at-counts-of .counts-of .ensures))
 
 returns-2 : tie.Need-returns-2
 returns-2 c =
-    let at-put-refused = c .before .before in
-    wrote-as (at-put-refused .put-refused .ensures) (told-refused _ _ (at-put-refused .before .before .if1 .left))
+    let at-refused = c .before .before in
+    wrote-as (at-refused .put-source-refused .ensures) (told-refused _ _ (at-refused .before .before .if1 .left))
 
 pub put-told-spec : {M : Type 1} → statement M
 put-told-spec =
     tie.close
     (tie.spec
+    (λ c κs. tt)
     (λ c κs. tt)
     (λ c κs. tt)
     (λ c. search needs)
