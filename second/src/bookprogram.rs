@@ -28,7 +28,9 @@ pub fn run(arguments: &[OsString]) -> Printed {
     let words: Vec<&[u8]> = arguments.iter().map(|word| word.as_bytes()).collect();
     let path = |at: usize| Path::new(&arguments[at]);
     let result = match words[..] {
-        [b"compile", _, _] => read(path(1), TEXT_LIMIT).and_then(|text| written(&text, path(2))),
+        [b"compile", source, book] => {
+            read(path(1), TEXT_LIMIT).and_then(|text| written(&text, path(2), source == book))
+        }
         [b"check", _] => read(path(1), TEXT_LIMIT).map(|text| compiled(&text).0),
         [b"show", _] => read(path(1), BOOK_LIMIT).map(|book| shown(&book)),
         [b"legend", _] => read(path(1), TEXT_LIMIT).map(|text| legend(&text)),
@@ -63,11 +65,11 @@ fn read(path: &Path, limit: usize) -> Result<Vec<u8>, Printed> {
     read(path).map_err(|_| cannot_read(path))
 }
 
-/// The book is written only if nothing was refused.
-fn written(text: &[u8], path: &Path) -> Result<Printed, Printed> {
+/// The book is written only if nothing was refused, and not over its source.
+fn written(text: &[u8], path: &Path, is_source: bool) -> Result<Printed, Printed> {
     let (printed, book) = compiled(text);
-    match book.map(|book| fs::write(path, book)) {
-        Some(Err(_)) => Err(cannot_write(path)),
+    match book {
+        Some(book) if is_source || fs::write(path, &book).is_err() => Err(cannot_write(path)),
         _ => Ok(printed),
     }
 }

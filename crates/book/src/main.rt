@@ -11,6 +11,7 @@ use canonical::show::show;
 use command::Command;
 use command::command_of;
 use hl7::bytes::front;
+use hl7::bytes::same_bytes;
 use legend::legend::legend;
 use reply::put_file;
 use reply::put_legend;
@@ -75,12 +76,21 @@ fn write_whole(path: &[u8], book: &[u8]) -> bool {
     write_by(&mut name[0..length], path, book)
 }
 
-// The book is written only where nothing is refused.
+// Whether a path is the one that the command line has for the source.
+fn is_source(path: &[u8]) -> bool {
+    let mut source = [0u8; 4096];
+    let length = os::arg(2, &mut source);
+    same_bytes(front(&source, length), path)
+}
+
+// The book is written only where nothing is refused, and not over its source.
 fn keep(told: Told, output: &mut [u8]) -> usize {
     if told.number == 0 {
         let mut path = [0u8; 4096];
         let length = os::arg(3, &mut path);
-        if !write_whole(front(&path, length), front(output, told.detail)) {
+        if is_source(front(&path, length))
+            || !write_whole(front(&path, length), front(output, told.detail))
+        {
             return put_file(output, b"written", front(&path, length));
         }
     }

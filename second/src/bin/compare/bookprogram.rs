@@ -11,6 +11,7 @@ use std::{env, fs, io, process};
 
 const SOURCE: &str = "source.txt";
 const BOOK: &str = "book.vxb";
+/// There is no such folder.
 const NOWHERE: &str = "nowhere/book.vxb";
 /// Longer legends are not asked for, since a program need not have room for them.
 const LONGEST_LEGEND: usize = 1_048_576;
@@ -127,8 +128,10 @@ fn steps(random: &mut Random, files: &Files) -> Vec<Step> {
         steps.push(same(&["legend", SOURCE], legend));
     }
     if random.one_in(20) {
-        let there = bookprogram::cannot_write(Path::new(NOWHERE));
-        steps.push(same(&["compile", SOURCE, NOWHERE], if book.is_some() { there } else { printed.clone() }));
+        // What comes after it is read from the source as it was.
+        let to = random.pick(&[NOWHERE, SOURCE]);
+        let there = bookprogram::cannot_write(Path::new(to));
+        steps.push(same(&["compile", SOURCE, to], if book.is_some() { there } else { printed.clone() }));
     }
     let written = book.or_else(|| files.book.clone());
     steps.push(Step { arguments: vec!["compile", SOURCE, BOOK], printed: printed.text, book: written.clone() });
