@@ -26,7 +26,7 @@ use hl7::bytes::pick;
 ghost use mathlib.Core.Path.{_≡_};
 ghost use mathlib.Core.Bool.{true, cond};
 ghost use mathlib.Core.List.{[], _∷_, map};
-ghost use Prim.Native.Nat.{_+_, _≤_, _<_};
+ghost use Prim.Native.Nat.{_+_, _≤_};
 ghost use lib.ListN.{length};
 ghost use Rattle.ack.specs.Splice.{Wrote};
 ghost use Rattle.ack.specs.Layout.{marked};
@@ -34,7 +34,7 @@ ghost use Rattle.booktext.specs.Lines.{statements, makesRule, says, textLimit, 
 ghost use Rattle.booktext.specs.Meaning.{expand};
 ghost use Rattle.booktext.specs.Refusals.{statementLimit, refusal, written};
 ghost use Rattle.booktext.specs.Standing.{wordsFrom, statementAt, nextLine, left, bodyFrom, noted, Heads};
-ghost use Rattle.legend.specs.Legend.{ending, ruleLegend, rulesLegend, sectionLegend, legendIn, legend, legendOf};
+ghost use Rattle.legend.specs.Legend.{ending, ruleLegend, rulesLegend, sectionLegend, legend, legendOf};
 ghost use Rattle.legend.specs.Roomy.{roomy};
 
 const LINE_FEED: u8 = 10;
