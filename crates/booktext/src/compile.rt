@@ -29,6 +29,8 @@ use crate::told::tell;
 use crate::word::SECTION;
 use ack::output::put;
 use ack::output::put_byte;
+use grade::limits::BOOK_LIMIT;
+use grade::limits::RULE_LIMIT;
 ghost use mathlib.Core.Path.{_≡_};
 ghost use mathlib.Core.Bool.{true, cond};
 ghost use mathlib.Core.List.{[], _∷_, _++_, map};
@@ -42,11 +44,6 @@ ghost use Rattle.booktext.specs.Contents.{rulesOf, contentsOf, sectionOf
 ghost use Rattle.booktext.specs.Faults.{tell, nothing, firstly};
 ghost use Rattle.booktext.specs.Refusals.{statementLimit, firstRuleFault, sizesTold, sectionTold, sectionsTold, namedTold, refusal, compileOf};
 ghost use Rattle.booktext.specs.Standing.{wordsFrom, statementAt, nextLine, left, sound, ready, noted, namesIn, Puts, Heads, MakesBy};
-
-const RULE_LIMIT: usize = 256;
-
-// The longest book, in bytes.
-pub const BOOK_LIMIT: usize = 65536;
 
 // A refusal, with nothing more written.
 fn refused(told: Told, at: usize) -> Put

@@ -18,6 +18,7 @@ use crate::word::SET;
 use crate::word::minus;
 use ack::output::put;
 use ack::output::put_byte;
+use grade::limits::CODE_COUNT_LIMIT;
 ghost use mathlib.Core.Path.{_≡_};
 ghost use mathlib.Core.Bool.{true};
 ghost use mathlib.Core.List.{[], _∷_, map};
@@ -29,9 +30,6 @@ ghost use Rattle.booktext.specs.Lines.{statements, lineOf};
 ghost use Rattle.booktext.specs.Contents.{listed, codesAt, codesOf};
 ghost use Rattle.booktext.specs.Refusals.{firstBadSet};
 ghost use Rattle.booktext.specs.Standing.{wordsFrom, statementAt, nextLine, left, bodyFrom, Heads, namesIn, isShort, sound, Puts};
-
-// The most codes of a set.
-const CODE_COUNT_LIMIT: usize = 1024;
 
 // What is told, and where the next byte goes.
 pub struct Put {

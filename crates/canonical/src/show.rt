@@ -10,6 +10,8 @@ use booktext::told::tell;
 use grade::book::Indexed;
 use grade::book::index_book;
 use grade::book::site_at;
+use grade::limits::RULE_LIMIT;
+use grade::limits::SECTION_LIMIT;
 use grade::lookup::rule_at;
 use grade::lookup::sets_of;
 use grade::rule::Kind;
@@ -41,10 +43,6 @@ ghost use Rattle.canonical.specs.Shown.{lineBytes, printed, setName, cod
 ghost use Rattle.canonical.specs.Showing.{namesFrom, pinBytes, lineOfRule};
 
 const LINE_FEED: u8 = 10;
-
-const RULE_LIMIT: usize = 256;
-
-const SECTION_LIMIT: usize = 64;
 
 // ---- sets
 // A set's name: key, slash, number.

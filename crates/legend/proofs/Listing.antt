@@ -2,12 +2,12 @@
 use mathlib.Core.Path.{_≡_, refl, sym, ap, ap₂, _∙_}
 use mathlib.Core.Bool.{Bool, true, false, cond, not, _||_}
 use mathlib.Core.List.{List, [], _∷_, _++_, map, append-assoc, append-nil}
-use Prim.Native.Nat.{ℕ, suc, _+_, _≤_, _<_}
+use Prim.Native.Nat.{ℕ, suc, _+_, _/_, _≤_, _<_}
 use native.Mathlib.Omega.{arith}
 use native.Mathlib.Numerals.{add-one}
 use lib.Dec.{leb}
 use lib.ListN.{length, getD, take, drop}
-use borrow.Author.Tests.{eq-eqb, ne-eqb, leb-true, leb-false}
+use borrow.Author.Tests.{ne-eqb, leb-true, leb-false}
 use Rattle.hl7.specs.Text.{bytes}
 use Rattle.hl7.specs.declared.cut.Span.{Span}
 use Rattle.hl7.proofs.Comparing.{and-both, from-step, from-done}
@@ -21,6 +21,7 @@ use Rattle.booktext.specs.Contents.{letterOf}
 use Rattle.booktext.specs.Refusals.{statementLimit}
 use Rattle.booktext.specs.Standing.{wordsFrom, spanBytes, NextWord, statementAt, nextLine, left, bodyFrom, noted, Finds, Holds}
 use Rattle.booktext.proofs.Completing.{Completes, completes-more, completes-over}
+use Rattle.booktext.proofs.Ruling.{asked-rule}
 use Rattle.booktext.proofs.Stating.{onward, onward-none, onward-some, found-onward, left-start}
 use Rattle.legend.specs.People.{lineAt, people}
 use Rattle.legend.specs.Legend.{ending, ruleLegend, rulesLegend, sectionLegend, legendIn, legend}
@@ -83,14 +84,11 @@ module _ (t key : List ℕ) (n : ℕ) (s : Statement) where
       by false = refl
 
 module _ (t key : List ℕ) (cell n : ℕ) {v : ℕ} {b : Bool} (f : v ≡ verb (noted t cell)) (g : b ≡ ofRule v) where
-  makes : {x : Bool} → b ≡ x → makesRule (noted t cell) ≡ x
-  makes e = sym (g ∙ ap ofRule f) ∙ e
-
   pub made-listed : {o p : List ℕ} {a c : ℕ} → b ≡ true → Wrote o a (ruleLegend t key n (noted t cell)) p c → Wrote o a (rulesLegend t key n (noted t cell ∷ [])) p c
-  made-listed e w = wrote-as w (sym (rules-of-one t key n (noted t cell) true (makes e)))
+  made-listed e w = wrote-as w (sym (rules-of-one t key n (noted t cell) true (asked-rule t (cell / 256) f g e)))
 
   pub none-listed : {o p : List ℕ} {a c : ℕ} → b ≡ false → Wrote o a [] p c → Wrote o a (rulesLegend t key n (noted t cell ∷ [])) p c
-  none-listed e w = wrote-as w (sym (rules-of-one t key n (noted t cell) false (makes e)))
+  none-listed e w = wrote-as w (sym (rules-of-one t key n (noted t cell) false (asked-rule t (cell / 256) f g e)))
 
 pub number-next : (t : List ℕ) (cell n : ℕ) {v r : ℕ} {b : Bool} → v ≡ verb (noted t cell) → b ≡ ofRule v → r ≡ cond b (n + 1) n → r ≡ cond (makesRule (noted t cell)) (n + 1) n
 number-next t cell n f g e = e ∙ ap (λ (x : Bool). cond x (n + 1) n) (g ∙ ap ofRule f)
@@ -176,12 +174,8 @@ module _ (t : List ℕ) (all : List Statement) (s : Statement) (ss : List Statem
   unfolding roomy
   roomy-later h = and-both (not (says aSection s) || leb (length (expand all (body ss))) statementLimit) (roomy all ss) h .1
 
-module _ (s : Statement) {v : ℕ} (e : v ≡ verb s) where
-  pub is-section : v ≡ aSection → says aSection s ≡ true
-  is-section f = eq-eqb (verb s) aSection (sym e ∙ f)
-
-  pub no-section : (v ≡ aSection → ⊥) → says aSection s ≡ false
-  no-section n = ne-eqb (verb s) aSection (λ z. n (e ∙ z))
+pub no-section : (s : Statement) {v : ℕ} → v ≡ verb s → (v ≡ aSection → ⊥) → says aSection s ≡ false
+no-section s e n = ne-eqb (verb s) aSection (λ z. n (e ∙ z))
 
 -- whoever lists the sections left has listed all
 pub record Sections (t o : List ℕ) (ss : List Statement) (out : List ℕ) (to : ℕ) : Type 0 where

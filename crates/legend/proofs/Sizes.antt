@@ -172,7 +172,7 @@ line-ends t at =
     let behind = drop (suc (length (said line))) line in
     omega (arith, ending-size (trimmed behind), untrailed-size (unled behind), unled-size behind, length-drop (suc (length (said line))) line, part-short lineFeed (drop at t) 0, length-drop at t)
 
--- ---- lines, rules, sections
+-- ---- lines, rules, sections: a line has at most five times the longest text and 40 bytes, a section 257 lines, a text 64 sections
 module _ (t : List ℕ) (short : length t ≤ textLimit) where
   rule-size : (key : List ℕ) (n : ℕ) (s : Statement) → length key ≤ 1048577 → brief s ≡ true → length (ruleLegend t key n s) ≤ 5242920
   unfolding ruleLegend joined marked

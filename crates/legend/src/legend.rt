@@ -1,10 +1,10 @@
 // A line for each section of a text and each of its rules.
+use crate::people::LINE_FEED;
 use crate::people::people_at;
 use ack::output::put;
 use ack::output::put_byte;
 use ack::output::put_field;
 use ack::output::put_number;
-use booktext::compile::BOOK_LIMIT;
 use booktext::compile::make;
 use booktext::heads::HEAD_LIMIT;
 use booktext::heads::note_heads;
@@ -22,6 +22,7 @@ use booktext::told::Told;
 use booktext::told::tell;
 use booktext::word::SECTION;
 use booktext::word::is_rule;
+use grade::limits::BOOK_LIMIT;
 use hl7::bytes::pick;
 ghost use mathlib.Core.Path.{_≡_};
 ghost use mathlib.Core.Bool.{true, cond};
@@ -36,8 +37,6 @@ ghost use Rattle.booktext.specs.Refusals.{statementLimit, refusal, written};
 ghost use Rattle.booktext.specs.Standing.{wordsFrom, statementAt, nextLine, left, bodyFrom, noted, Heads};
 ghost use Rattle.legend.specs.Legend.{ending, ruleLegend, rulesLegend, sectionLegend, legend, legendOf};
 ghost use Rattle.legend.specs.Roomy.{roomy};
-
-const LINE_FEED: u8 = 10;
 
 // ---- lines
 // How a line ends: with the words for people behind a bar, if there are any.
@@ -159,16 +158,7 @@ fn put_any(
     put(out, at, b"")
 }
 
-// The whole legend.
-fn put_legend(out: &mut [u8], t: &[u8], heads: &[usize], rest: usize) -> usize
-    requires { ⌜ Heads (now t) (now heads) rest × (length (now t) ≤ textLimit) × (roomy (statements (now t)) (statements (now t)) ≡ true) ⌝ }
-    ensures { λ r. ⌜ Wrote (now (out .entry)) 0 (legend (now (t .entry))) (now (out .exit)) r ⌝ }
-{
-    let mut cells = [0usize; STATEMENT_LIMIT];
-    put_sections(out, t, heads, rest, &mut cells)
-}
-
-// That of the sections, from the first line on.
+// The sections of a text, from its first line on.
 fn put_sections(
     out: &mut [u8],
     t: &[u8],
@@ -186,6 +176,15 @@ fn put_sections(
         line = next_statement(t, next_line(t, line));
     }
     put(out, to, b"")
+}
+
+// The whole legend.
+fn put_legend(out: &mut [u8], t: &[u8], heads: &[usize], rest: usize) -> usize
+    requires { ⌜ Heads (now t) (now heads) rest × (length (now t) ≤ textLimit) × (roomy (statements (now t)) (statements (now t)) ≡ true) ⌝ }
+    ensures { λ r. ⌜ Wrote (now (out .entry)) 0 (legend (now (t .entry))) (now (out .exit)) r ⌝ }
+{
+    let mut cells = [0usize; STATEMENT_LIMIT];
+    put_sections(out, t, heads, rest, &mut cells)
 }
 
 // It is written onto no byte first, which tells its length.

@@ -8,7 +8,7 @@ ghost use mathlib.Core.Path.{_≡_};
 ghost use lib.ListN.{length};
 ghost use Rattle.legend.specs.People.{untrailed, trimmed, lineAt, people};
 
-const LINE_FEED: u8 = 10;
+pub(crate) const LINE_FEED: u8 = 10;
 
 const BAR: u8 = 124;
 

@@ -2,7 +2,8 @@
 use borrow.Author.Needs.{needs}
 use Rattle.booktext.specs.Lines.{statements}
 use Rattle.booktext.specs.Standing.{statementAt, nextLine, left}
-use Rattle.legend.proofs.Listing.{roomy-here, is-section, no-section, section-here, section-none}
+use Rattle.booktext.proofs.Compiling.{says-section}
+use Rattle.legend.proofs.Listing.{roomy-here, no-section, section-here, section-none}
 use Rattle.legend.proofs.legend.put_any.Statement.{statement}
 use Rattle.legend.proofs.legend.put_any.Tie as tie
 
@@ -13,7 +14,7 @@ put-section-requires c κs =
     let start = at-verb-at .before .before .before .before .before in
     let t = start .args .t .now in
     let s = statementAt t (start .args .line) 0 in
-    (start .pre .0, start .pre .1, start .pre .2, start .pre .3, roomy-here t (statements t) s (left t (nextLine t (start .args .line))) (start .pre .4) (is-section s (at-verb-at .verb-at .ensures .0) (at-if1 .if1 .taken)))
+    (start .pre .0, start .pre .1, start .pre .2, start .pre .3, roomy-here t (statements t) s (left t (nextLine t (start .args .line))) (start .pre .4) (says-section s (at-verb-at .verb-at .ensures .0) (at-if1 .if1 .taken)))
 
 returns : tie.Need-returns
 returns c =
@@ -23,7 +24,7 @@ returns c =
     let start = at-verb-at .before .before .before .before .before in
     let t = start .args .t .now in
     let s = statementAt t (start .args .line) 0 in
-    section-here t (statements t) s (left t (nextLine t (start .args .line))) (is-section s (at-verb-at .verb-at .ensures .0) (at-if1 .if1 .taken)) (at-put-section .put-section .ensures)
+    section-here t (statements t) s (left t (nextLine t (start .args .line))) (says-section s (at-verb-at .verb-at .ensures .0) (at-if1 .if1 .taken)) (at-put-section .put-section .ensures)
 
 returns-2 : tie.Need-returns-2
 returns-2 c =
