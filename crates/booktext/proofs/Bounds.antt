@@ -7,17 +7,18 @@ use native.Mathlib.Omega.{arith}
 use lib.Dec.{eqb, leb, ltb}
 use lib.ListN.{length, take, drop, length-take}
 use borrow.Author.Tests.{ltb-false, leb-true, eqb-true, eq-eqb, ne-eqb, not-true}
-use Rattle.hl7.specs.Bytes.{within}
+use Rattle.hl7.specs.Bytes.{within, among}
 use Rattle.hl7.specs.Spans.{occurrences}
 use Rattle.hl7.proofs.Comparing.{and-both}
 use Rattle.grade.specs.Book.{Contents, distinct, keys}
 use Rattle.grade.specs.Encoding.{each, sectionFits, sectionBytes, bookBytes, wellFormed}
 use Rattle.grade.specs.Limits.{sectionLimit, ruleLimit, setLimit, codeCountLimit, bookLimit}
-use Rattle.booktext.specs.Lines.{Statement, word, says, verb, lineFeed, lineOf, textLimit, statements, aSet, aSection, aUse, aRule, anAlso}
+use Rattle.booktext.specs.Lines.{Statement, word, says, verb, lineFeed, lineOf, textLimit, statements, ofPlace, ofCodes, aSet, aSection, aUse, aRule}
 use Rattle.booktext.specs.Meaning.{body, from, expand}
-use Rattle.booktext.specs.Contents.{namesOf, codesOf, sectionOf, meaning}
-use Rattle.booktext.specs.Faults.{tell, nothing, firstly, mayStand, inside, countRight, versionRight, keyRight, codesRight, placeRight, kindRight, severityRight, boundRight, faultOf, firstFault}
-use Rattle.booktext.specs.Refusals.{wrongAt, bytesTold, atOf, isFirst, lacks, nameFault, firstNameFault, usedTwice, statementLimit, stands, ruleFault, firstRuleFault, firstBadSet, over, sectionTold, sectionsTold, namedTold, refusal, beginning, outcome, written, unlessRefused, compiled, compileOf}
+use Rattle.booktext.specs.Changes.{spotOf, settled}
+use Rattle.booktext.specs.Contents.{namesOf, held, sectionOf, meaning}
+use Rattle.booktext.specs.Faults.{tell, nothing, firstly, mayStand, inside, countRight, versionRight, keyRight, codesRight, placeRight, kindRight, severityRight, beforeBound, boundRight, faultOf, firstFault}
+use Rattle.booktext.specs.Refusals.{wrongAt, bytesTold, atOf, isFirst, lacks, nameFault, firstNameFault, usedTwice, statementLimit, stands, codeAsked, ruleFault, firstRuleFault, firstStray, firstBadSet, over, sectionTold, sectionsTold, namedTold, refusal, beginning, outcome, written, unlessRefused, compiled, compileOf}
 use Rattle.booktext.specs.declared.told.Told.{Told}
 use Rattle.booktext.proofs.Promises.{never-7}
 
@@ -78,7 +79,7 @@ fault-small here s =
     (row-small (not (placeRight (verb s) (word s 1))) (a-row refl)
     (row-small (not (kindRight (verb s) (word s 2))) (a-row refl)
     (row-small (not (severityRight (verb s) (length (s .words)) (word s 2) (word s 3))) (a-row refl)
-    (row-small (not (boundRight (verb s) (length (s .words)) (word s 2) (word s 4) (word s 5))) (a-row refl) (a-row refl))))))))))
+    (row-small (not (boundRight (verb s) (length (s .words)) (word s 2) (word s (beforeBound (verb s))) (word s (suc (beforeBound (verb s)))))) (a-row refl) (a-row refl))))))))))
 
 name-fault-small : (all : List Statement) (count : ℕ) (s : Statement) → RowNumber (nameFault all count s)
 unfolding nameFault
@@ -87,8 +88,12 @@ name-fault-small all count s =
     (row-small (says aSection s && leb sectionLimit count) (a-row refl)
     (row-small (lacks all s) (a-row refl) (a-row refl)))
 
-rule-fault-small : (v : ℕ) (before : Bool) → RowNumber (ruleFault v before)
-rule-fault-small v before = row-small (eqb v aRule && before) (a-row refl) (row-small (eqb v anAlso && not before) (a-row refl) (a-row refl))
+rule-fault-small : (all before : List Statement) (s : Statement) → RowNumber (ruleFault all before s)
+unfolding ruleFault
+rule-fault-small all before s =
+    row-small (says aRule s && stands (spotOf s) before) (a-row refl)
+    (row-small (ofPlace (verb s) && not (says aRule s) && not (stands (spotOf s) before)) (a-row refl)
+    (row-small (ofCodes (verb s) && not (each (codeAsked all before s) (drop 2 (s .words)))) (a-row refl) (a-row refl)))
 
 module _ (t : List ℕ) (short : length t ≤ textLimit) where
   told-small : (number at other : ℕ) → RowNumber number → other ≤ 1048577 → SmallRow (tell number (lineOf t at) other)
@@ -110,18 +115,24 @@ module _ (t : List ℕ) (short : length t ≤ textLimit) where
   twice-small at after [] = small-nothing
   twice-small at after (s ∷ ss) = small-cond (says aUse s && not (isFirst after s)) (told-small 46 (s .at) (lineOf t at) (a-row refl) (line-small t at short)) (twice-small at after ss)
 
-  rules-small : (at : ℕ) (before ss : List Statement) → SmallRow (firstRuleFault t (lineOf t at) before ss)
+  rules-small : (at : ℕ) (all before ss : List Statement) → SmallRow (firstRuleFault t all (lineOf t at) before ss)
   unfolding firstRuleFault
-  rules-small at before [] = small-nothing
-  rules-small at before (s ∷ ss) =
-      small-cond (eqb (ruleFault (verb s) (stands before s)) 0) (rules-small at (before ++ (s ∷ [])) ss)
-      (told-small (ruleFault (verb s) (stands before s)) (s .at) (lineOf t at) (rule-fault-small (verb s) (stands before s)) (line-small t at short))
+  rules-small at all before [] = small-nothing
+  rules-small at all before (s ∷ ss) =
+      small-cond (eqb (ruleFault all before s) 0) (rules-small at all (before ++ (s ∷ [])) ss)
+      (told-small (ruleFault all before s) (s .at) (lineOf t at) (rule-fault-small all before s) (line-small t at short))
 
-  sets-small : (at : ℕ) (all : List Statement) (names : List (List ℕ)) → SmallRow (firstBadSet t (lineOf t at) all names)
+  strays-small : (at : ℕ) (names : List (List ℕ)) (ss : List Statement) → SmallRow (firstStray t (lineOf t at) names ss)
+  unfolding firstStray
+  strays-small at names [] = small-nothing
+  strays-small at names (s ∷ ss) =
+      small-cond (ofCodes (verb s) && not (among (word s 1) names)) (told-small 52 (s .at) (lineOf t at) (a-row refl) (line-small t at short)) (strays-small at names ss)
+
+  sets-small : (at : ℕ) (all ss : List Statement) (names : List (List ℕ)) → SmallRow (firstBadSet t (lineOf t at) all ss names)
   unfolding firstBadSet
-  sets-small at all [] = small-nothing
-  sets-small at all (name ∷ names) =
-      small-cond (within 1 codeCountLimit (length (codesOf all name))) (sets-small at all names)
+  sets-small at all ss [] = small-nothing
+  sets-small at all ss (name ∷ names) =
+      small-cond (within 1 codeCountLimit (length (held all ss name))) (sets-small at all ss names)
       (told-small 53 (atOf (from aSet name all)) (lineOf t at) (a-row refl) (line-small t at short))
 
   over-small : (number at : ℕ) (holds : Bool) → RowNumber number → SmallRow (over number (lineOf t at) holds)
@@ -134,10 +145,11 @@ module _ (t : List ℕ) (short : length t ≤ textLimit) where
       let c = sectionOf all s after in
       small-firstly (twice-small (s .at) after (body after))
       (small-firstly (over-small 56 (s .at) (ltb statementLimit (length ss)) (a-row refl))
-      (small-firstly (rules-small (s .at) [] ss)
+      (small-firstly (rules-small (s .at) all [] ss)
       (small-firstly (over-small 50 (s .at) (ltb ruleLimit (length (c .rules))) (a-row refl))
       (small-firstly (over-small 51 (s .at) (ltb setLimit (length (c .sets))) (a-row refl))
-      (small-firstly (sets-small (s .at) all (namesOf ss)) (over-small 54 (s .at) (ltb bookLimit (size + length (sectionBytes c))) (a-row refl)))))))
+      (small-firstly (strays-small (s .at) (namesOf (settled ss)) ss)
+      (small-firstly (sets-small (s .at) all ss (namesOf (settled ss))) (over-small 54 (s .at) (ltb bookLimit (size + length (sectionBytes c))) (a-row refl))))))))
 
   sections-small : (all : List Statement) (size : ℕ) (ss : List Statement) → SmallRow (sectionsTold t all size ss)
   unfolding sectionsTold
@@ -184,7 +196,7 @@ isLength n = eqb n 0 || eqb n 55
 -- a length stands alone; a line is short, so that a section's line can stand above it
 pub record Packs (told : Told) : Type 0 where
   pub number : told .number ≤ 56
-  pub detail : told .detail ≤ 2 ^ 40
+  pub detail : told .detail ≤ 2 ^ 48
   pub section : told .section ≤ 1048577
   pub lengths : isLength (told .number) ≡ true → told .section ≡ 0
   pub lines : isLength (told .number) ≡ false → told .detail ≤ 1048577
@@ -201,7 +213,7 @@ packs-row {told} r n =
       lines = λ e. r .detail;
     }
 
-packs-written : (result out : List ℕ) → length result ≤ 2 ^ 40 → Packs (written result out .told)
+packs-written : (result out : List ℕ) → length result ≤ 2 ^ 48 → Packs (written result out .told)
 unfolding written
 packs-written result out h = by (ltb (length out) (length result))
   where
@@ -209,7 +221,7 @@ packs-written result out h = by (ltb (length out) (length result))
     by true = record { number = omega arith; detail = h; section = omega arith; lengths = λ e. refl; lines = λ e. absurd (true≢false e) }
     by false = record { number = omega arith; detail = h; section = omega arith; lengths = λ e. refl; lines = λ e. absurd (true≢false e) }
 
-pub packs : {told : Told} (result out : List ℕ) → SmallRow told → (told .number ≡ 0 → length result ≤ 2 ^ 40) → Packs (unlessRefused told result out .told)
+pub packs : {told : Told} (result out : List ℕ) → SmallRow told → (told .number ≡ 0 → length result ≤ 2 ^ 48) → Packs (unlessRefused told result out .told)
 packs {told} result out r short = by (eqb (told .number) 0) refl
   where
     by : (b : Bool) → eqb (told .number) 0 ≡ b → Packs (cond b (written result out) (outcome told out) .told)

@@ -1,20 +1,19 @@
 -- Laws of `specs/Faults.antt` and of rows 31 and 32 in `specs/Refusals.antt`, in the words of the code that tries them. Assumes nothing.
 use mathlib.Core.Path.{_≡_, refl, sym, ap, _∙_}
-use mathlib.Core.Bool.{Bool, true, false, cond, not, _&&_}
+use mathlib.Core.Bool.{Bool, true, false, cond, not, _&&_, _||_}
 use mathlib.Core.List.{List, [], _∷_}
-use Prim.Native.Nat.{ℕ, _+_, _≤_, _<_}
+use Prim.Native.Nat.{ℕ, suc, _+_, _≤_, _<_}
 use native.Mathlib.Omega.{arith}
 use lib.Dec.{eqb}
 use lib.ListN.{length, getD, drop, drop-of-length-le}
 use borrow.Author.Tests.{eqb-true, eqb-false, not-true, not-false, eq-eqb, ne-eqb, lt-ltb, le-ltb}
 use Rattle.hl7.specs.Cut.{ahead}
-use Rattle.hl7.specs.declared.cut.Span.{Span}
 use Rattle.hl7.proofs.Comparing.{rest-at}
 use Rattle.grade.specs.Encoding.{each, textFits}
-use Rattle.booktext.specs.Lines.{Statement, word, verb, cutAt, statements, lineOf, textLimit, aSet, aCode}
-use Rattle.booktext.specs.Faults.{tell, nothing, mayStand, inside, countRight, versionRight, keyRight, codesRight, placeRight, kindRight, severityRight, boundRight, faultOf, firstFault}
+use Rattle.booktext.specs.Lines.{Statement, word, verb, cutAt, statements, lineOf, textLimit, ofCodes, aSet, aCode}
+use Rattle.booktext.specs.Faults.{tell, nothing, mayStand, inside, countRight, versionRight, keyRight, codesRight, placeRight, kindRight, severityRight, beforeBound, boundRight, faultOf, firstFault}
 use Rattle.booktext.specs.Refusals.{allowed, wrongAt, bytesTold}
-use Rattle.booktext.specs.Standing.{wordsFrom, spanBytes, NextWord, statementAt, nextLine, left, Finds, lateFault, sound}
+use Rattle.booktext.specs.Standing.{statementAt, nextLine, left, Finds, lateFault, sound}
 use Rattle.booktext.proofs.Stating.{left-start, onward, onward-none, onward-some, onward-step, found-onward}
 
 -- ---- rows 31 and 32
@@ -44,33 +43,19 @@ module _ (t : List ℕ) where
     told-right h = rw (le-ltb textLimit (length t) short, ← is, le-ltb at (length t) h)
 
 -- ---- row 38
-module _ (t : List ℕ) (i : ℕ) {w : Span} (next : NextWord t i w) where
-  pub codes-done : w .end ≤ w .start → true ≡ each (textFits 20) (wordsFrom t i)
-  codes-done h = rw (next .none h)
-
-  module _ (h : w .start < w .end) where
-    module _ {text : List ℕ} {fits : Bool} (p : text ≡ spanBytes t w) (is : fits ≡ textFits 20 text) where
-      codes-step : each (textFits 20) (wordsFrom t i) ≡ (fits && each (textFits 20) (wordsFrom t (w .end)))
-      codes-step = rw (next .some h, is, p)
-
-      pub codes-wrong : not fits ≡ true → false ≡ each (textFits 20) (wordsFrom t i)
-      codes-wrong e = sym (codes-step ∙ rw (not-true fits e))
-
-      pub codes-more : not fits ≡ false → each (textFits 20) (wordsFrom t i) ≡ each (textFits 20) (wordsFrom t (w .end))
-      codes-more e = codes-step ∙ rw (not-false fits e)
-
 module _ (words : List (List ℕ)) {v : ℕ} where
   pub codes-code : {rest : List (List ℕ)} {r : Bool} → v ≡ aCode → rest ≡ drop 1 words → r ≡ each (textFits 20) rest → r ≡ codesRight v words
   unfolding codesRight
   codes-code e p is = rw (is, p, eq-eqb v aCode e)
 
-  pub codes-set : {rest : List (List ℕ)} {r : Bool} → (v ≡ aCode → ⊥) → v ≡ aSet → rest ≡ drop 2 words → r ≡ each (textFits 20) rest → r ≡ codesRight v words
-  unfolding codesRight
-  codes-set n e p is = rw (is, p, ne-eqb v aCode n, eq-eqb v aSet e)
+  module _ (n : v ≡ aCode → ⊥) {changes : Bool} (of : changes ≡ ofCodes v) where
+    pub codes-set : {rest : List (List ℕ)} {r : Bool} → (eqb v aSet || changes) ≡ true → rest ≡ drop 2 words → r ≡ each (textFits 20) rest → r ≡ codesRight v words
+    unfolding codesRight
+    codes-set e p is = rw (is, p, ne-eqb v aCode n, ← of, e)
 
-  pub codes-others : (v ≡ aCode → ⊥) → (v ≡ aSet → ⊥) → true ≡ codesRight v words
-  unfolding codesRight
-  codes-others n m = rw (ne-eqb v aCode n, ne-eqb v aSet m)
+    pub codes-others : (eqb v aSet || changes) ≡ false → true ≡ codesRight v words
+    unfolding codesRight
+    codes-others e = rw (ne-eqb v aCode n, ← of, e)
 
 -- ---- one statement
 -- the first five rows, and then the others
@@ -106,7 +91,7 @@ unfolding faultOf sound
 fault-sound here s e =
     none-holds (eqb (verb s) 0) (mayStand here (verb s)) (countRight (verb s) (length (s .words))) (versionRight (verb s) (word s 1)) (keyRight (verb s) (word s 1))
     (codesRight (verb s) (s .words)) (placeRight (verb s) (word s 1)) (kindRight (verb s) (word s 2)) (severityRight (verb s) (length (s .words)) (word s 2) (word s 3))
-    (boundRight (verb s) (length (s .words)) (word s 2) (word s 4) (word s 5)) e
+    (boundRight (verb s) (length (s .words)) (word s 2) (word s (beforeBound (verb s))) (word s (suc (beforeBound (verb s))))) e
 
 -- ---- the first statement that has one
 pub sound-all : (t : List ℕ) (here : ℕ) (ss : List Statement) → firstFault t here ss .number ≡ 0 → each sound ss ≡ true

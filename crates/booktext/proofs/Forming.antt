@@ -14,17 +14,20 @@ use Rattle.grade.specs.Encoding.{each, spellAll, textFits, setFits, sectionFits
 use Rattle.grade.specs.Limits.{bookLimit, sectionLimit, ruleLimit, setLimit, keyLimit, codeCountLimit}
 use Rattle.grade.specs.Rule.{ruleFits}
 use Rattle.booktext.specs.Lines.{Statement, word, verb, says, makesRule, statementsFrom, unlessSilent, wordsIn, said, lineOf, numberFrom, aSet, aSection}
-use Rattle.booktext.specs.Words.{kindNames, kindNumber, aCodeKind}
+use Rattle.booktext.specs.Words.{kindNumber, aCodeKind}
 use Rattle.booktext.specs.Meaning.{body, from, expand}
-use Rattle.booktext.specs.Contents.{made, rulesOf, asksCode, pinned, named, withName, withNames, namesOf, codesOf, contentsOf, sectionOf, sectionsIn}
+use Rattle.booktext.specs.Changes.{settled}
+use Rattle.booktext.specs.Contents.{made, rulesOf, asksCode, pinned, named, withName, withNames, namesOf, held, contentsOf, sectionOf, sectionsIn}
 use Rattle.booktext.specs.Faults.{firstly, nothing, tell, keyRight}
-use Rattle.booktext.specs.Refusals.{atOf, isFirst, lacks, nameFault, firstNameFault, usedTwice, statementLimit, firstRuleFault, firstBadSet, over, sectionTold, sectionsTold}
+use Rattle.booktext.specs.Refusals.{atOf, isFirst, lacks, nameFault, firstNameFault, usedTwice, statementLimit, firstRuleFault, firstStray, firstBadSet, over, sectionTold, sectionsTold}
 use Rattle.booktext.specs.Standing.{sound, ready}
 use Rattle.booktext.specs.declared.told.Told.{Told}
 use Rattle.booktext.proofs.Sounding.{sounds}
 use Rattle.booktext.proofs.Each.{each-body}
-use Rattle.booktext.proofs.Setting.{codes-fit}
+use Rattle.booktext.proofs.Setting.{held-fit}
 use Rattle.booktext.proofs.Ruling.{rule-fits}
+use Rattle.booktext.proofs.Preceding.{among-append}
+use Rattle.booktext.proofs.Settling.{kind-few, settled-ready}
 use Rattle.booktext.proofs.Including.{plainly, expand-ready}
 
 -- ---- the first that refuses
@@ -172,7 +175,7 @@ pub record SectionPassed (t : List ℕ) (all : List Statement) (size : ℕ) (s :
   pub few : length (expand all (body after)) ≤ statementLimit
   pub rules : length (sectionOf all s after .rules) ≤ ruleLimit
   pub sets : length (sectionOf all s after .sets) ≤ setLimit
-  pub codes : firstBadSet t (lineOf t (s .at)) all (namesOf (expand all (body after))) .number ≡ 0
+  pub codes : firstBadSet t (lineOf t (s .at)) all (expand all (body after)) (namesOf (settled (expand all (body after)))) .number ≡ 0
   pub short : size + length (sectionBytes (sectionOf all s after)) ≤ bookLimit
 
 pub section-passed : (t : List ℕ) (all : List Statement) (size : ℕ) (s : Statement) (after : List Statement) → sectionTold t all size s after .number ≡ 0 → SectionPassed t all size s after
@@ -181,13 +184,16 @@ section-passed t all size s after h =
     let line = lineOf t (s .at) in
     let c = sectionOf all s after in
     let ss = expand all (body after) in
-    let late = firstly (firstBadSet t line all (namesOf ss)) (over 54 line (ltb bookLimit (size + length (sectionBytes c)))) in
+    let bad = firstBadSet t line all ss (namesOf (settled ss)) in
+    let stray = firstStray t line (namesOf (settled ss)) ss in
+    let late = firstly stray (firstly bad (over 54 line (ltb bookLimit (size + length (sectionBytes c))))) in
     let a = firstly-both (usedTwice t line after (body after)) _ h in
     let b = firstly-both (over 56 line (ltb statementLimit (length ss))) _ (a .1) in
-    let d = firstly-both (firstRuleFault t line [] ss) _ (b .1) in
+    let d = firstly-both (firstRuleFault t all line [] ss) _ (b .1) in
     let e = firstly-both (over 50 line (ltb ruleLimit (length (c .rules)))) (firstly (over 51 line (ltb setLimit (length (c .sets)))) late) (d .1) in
     let f = firstly-both (over 51 line (ltb setLimit (length (c .sets)))) late (e .1) in
-    let g = firstly-both (firstBadSet t line all (namesOf ss)) (over 54 line (ltb bookLimit (size + length (sectionBytes c)))) (f .1) in
+    let k = firstly-both stray (firstly bad (over 54 line (ltb bookLimit (size + length (sectionBytes c))))) (f .1) in
+    let g = firstly-both bad (over 54 line (ltb bookLimit (size + length (sectionBytes c)))) (k .1) in
     record {
       few = ltb-false statementLimit (length ss) (over-none 55 line (ltb statementLimit (length ss)) (b .0));
       rules = ltb-false ruleLimit (length (c .rules)) (over-none 49 line (ltb ruleLimit (length (c .rules))) (e .0));
@@ -217,15 +223,6 @@ sizes-fit t all size (s ∷ ss) h e = by (says aSection s) refl e (sizes-fit t a
         omega (arith, more fits (both .1), length-append (sectionBytes (sectionOf all s ss)) (spellAll sectionBytes (sectionsIn all ss)))
 
 -- ---- the names of a section's sets
-
-among-append : (x : List ℕ) (xs ys : List (List ℕ)) → among x (xs ++ ys) ≡ (among x xs || among x ys)
-unfolding among
-among-append x [] ys = refl
-among-append x (y ∷ xs) ys = by (same x y) (among-append x xs ys)
-  where
-    by : (b : Bool) → among x (xs ++ ys) ≡ (among x xs || among x ys) → (b || among x (xs ++ ys)) ≡ (b || among x xs || among x ys)
-    by true ih = refl
-    by false ih = ih
 
 among-later : (x : List ℕ) (xs ys : List (List ℕ)) → among x ys ≡ true → among x (xs ++ ys) ≡ true
 among-later x xs ys h = among-append x xs ys ∙ by (among x xs)
@@ -306,34 +303,19 @@ number-held k w (name ∷ names) h = by (same w name) h (number-held (suc k) w n
     by true h ih = (omega arith, omega arith)
     by false h ih = let i = ih h in (omega (arith, i .0), omega (arith, i .1))
 
--- among names that count from k
-number-most : (k : ℕ) (w : List ℕ) (names : List (List ℕ)) → numberFrom (suc k) w names ≤ k + length names
-unfolding numberFrom
-number-most k w [] = omega arith
-number-most k w (name ∷ names) = by (same w name) (number-most (suc k) w names)
-  where
-    by : (b : Bool) → numberFrom (suc (suc k)) w names ≤ suc k + length names → cond b (suc k) (numberFrom (suc (suc k)) w names) ≤ k + suc (length names)
-    by true ih = omega arith
-    by false ih = omega (arith, ih)
-
 -- ---- sets
 
-pub sets-fit : (t : List ℕ) (line : ℕ) (all : List Statement) (names : List (List ℕ)) → each sound all ≡ true → firstBadSet t line all names .number ≡ 0 → each setFits (map (codesOf all) names) ≡ true
+pub sets-fit : (t : List ℕ) (line : ℕ) (all ss : List Statement) (names : List (List ℕ)) → each sound all ≡ true → each ready ss ≡ true → firstBadSet t line all ss names .number ≡ 0 → each setFits (map (held all ss) names) ≡ true
 unfolding firstBadSet
-sets-fit t line all [] e h = refl
-sets-fit t line all (name ∷ names) e h = by (within 1 codeCountLimit (length (codesOf all name))) refl h (sets-fit t line all names e)
+sets-fit t line all ss [] e r h = refl
+sets-fit t line all ss (name ∷ names) e r h = by (within 1 codeCountLimit (length (held all ss name))) refl h (sets-fit t line all ss names e r)
   where
-    by : (b : Bool) → within 1 codeCountLimit (length (codesOf all name)) ≡ b → cond b (firstBadSet t line all names) (tell 53 (lineOf t (atOf (from aSet name all))) line) .number ≡ 0
-        → (firstBadSet t line all names .number ≡ 0 → each setFits (map (codesOf all) names) ≡ true) → (setFits (codesOf all name) && each setFits (map (codesOf all) names)) ≡ true
-    by true b h ih = rw (b, codes-fit all name e, ih h) refl
+    by : (b : Bool) → within 1 codeCountLimit (length (held all ss name)) ≡ b → cond b (firstBadSet t line all ss names) (tell 53 (lineOf t (atOf (from aSet name all))) line) .number ≡ 0
+        → (firstBadSet t line all ss names .number ≡ 0 → each setFits (map (held all ss) names) ≡ true) → (setFits (held all ss name) && each setFits (map (held all ss) names)) ≡ true
+    by true b h ih = rw (b, held-fit all ss name e r, ih h) refl
     by false b h ih = absurd (omega (arith, h))
 
 -- ---- rules
-
--- a kind's number
-kind-few : (w : List ℕ) → kindNumber w ≤ 6
-unfolding kindNumber kindNames
-kind-few w = number-most 0 w kindNames
 
 rules-fit : (names : List (List ℕ)) (ss : List Statement) → each ready ss ≡ true → each (nameHeld names) ss ≡ true → each (ruleFits (length names)) (rulesOf names ss) ≡ true
 unfolding rulesOf
@@ -362,10 +344,11 @@ section-fits : (t : List ℕ) (all : List Statement) (size : ℕ) (s : Statement
 unfolding contentsOf
 section-fits t all size s after v h every e p =
     let ss = expand all (body after) in
-    let names = namesOf ss in
+    let last = settled ss in
+    let names = namesOf last in
     let key : textFits keyLimit (word s 1) ≡ true = subst (λ (k : ℕ). keyRight k (word s 1) ≡ true) (eqb-true (verb s) aSection v) (sounds s h .key) in
-    let same-many : length (map (codesOf all) names) ≡ length names = length-map names (codesOf all) in
-    rw (key, le-leb (length (rulesOf names ss)) ruleLimit (p .rules), le-leb (length (map (codesOf all) names)) setLimit (p .sets), same-many, rules-fit names ss e (names-held ss), sets-fit t (lineOf t (s .at)) all names every (p .codes)) refl
+    let same-many : length (map (held all ss) names) ≡ length names = length-map names (held all ss) in
+    rw (key, le-leb (length (rulesOf names last)) ruleLimit (p .rules), le-leb (length (map (held all ss) names)) setLimit (p .sets), same-many, rules-fit names last (settled-ready ss e) (names-held last), sets-fit t (lineOf t (s .at)) all ss names every e (p .codes)) refl
 
 pub sections-fit : (t : List ℕ) (all : List Statement) (size : ℕ) (ss : List Statement)
     → each sound all ≡ true → each sound ss ≡ true → each plainly ss ≡ true → sectionsTold t all size ss .number ≡ 0 → each sectionFits (sectionsIn all ss) ≡ true

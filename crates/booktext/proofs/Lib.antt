@@ -3,7 +3,10 @@ pub mod Reading
 pub mod Stating
 pub mod Faulting
 pub mod Heading
+pub mod Marking
 pub mod Noting
+pub mod Changing
+pub mod Preceding
 pub mod Referring
 pub mod Completing
 pub mod Answering
@@ -11,6 +14,7 @@ pub mod Naming
 pub mod Each
 pub mod Sounding
 pub mod Ruling
+pub mod Settling
 pub mod Setting
 pub mod Including
 pub mod Forming

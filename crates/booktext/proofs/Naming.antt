@@ -1,22 +1,24 @@
 -- Laws of the names of a section's sets: a name's number, one name more, and loops that note names. Assumes nothing.
 use mathlib.Core.Path.{_≡_, refl, sym, ap, ap₂, subst, _∙_}
-use mathlib.Core.Bool.{Bool, true, false, cond, not, _||_}
+use mathlib.Core.Bool.{Bool, true, false, cond, not, _||_, true≢false}
 use mathlib.Core.List.{List, [], _∷_, _++_, map, map-append, append-nil}
-use Prim.Native.Nat.{ℕ, suc, _+_, _/_, _≤_, _<_}
+use Prim.Native.Nat.{ℕ, suc, _+_, _≤_, _<_}
 use native.Mathlib.Omega.{arith}
 use native.Mathlib.Decide.{decLt}
 use native.Mathlib.Numerals.{add-one}
 use lib.Dec.{eqb}
 use lib.ListN.{length, getD, take, drop, set, replicate, length-take, length-set, length-append, length-map, length-replicate, drop-of-length-le}
 use lib.Seq.{drop-cons, getD-take, getD-drop, take-suc-set}
-use borrow.Author.Tests.{eq-eqb, ne-eqb}
+use borrow.Author.Tests.{eq-eqb, ne-eqb, eqb-true}
 use Rattle.hl7.specs.Bytes.{same, among}
 use Rattle.hl7.specs.declared.cut.Span.{Span}
-use Rattle.hl7.proofs.Comparing.{from-step, from-done}
-use Rattle.booktext.specs.Lines.{Statement, word, verb, says, numberFrom, someSets}
+use Rattle.hl7.proofs.Comparing.{from-step, from-done, and-both}
+use Rattle.booktext.specs.Lines.{Statement, word, verb, says, ofRule, makesRule, numberFrom, someSets}
+use Rattle.booktext.specs.Words.{kindNumber, aCodeKind}
 use Rattle.booktext.specs.Contents.{withName, withNames, pinned, asksCode, named, namesOf}
-use Rattle.booktext.specs.Standing.{noSpan, spanBytes, wordsFrom, statementAt, noted, namesIn, NextWord, Names64, NamesMore}
+use Rattle.booktext.specs.Standing.{noSpan, spanBytes, wordsFrom, statementAt, lineIn, noted, namesIn, NextWord, Names64, NamesMore}
 use Rattle.booktext.specs.declared.names.Names.{Names}
+use Rattle.booktext.proofs.Marking.{noted-as, noted-verb, noted-other}
 
 -- ---- a name's number, in the words of a loop along the spans
 -- the names from number i on, of so many
@@ -60,7 +62,7 @@ number-start t x names = refl
 
 -- ---- names with more
 -- a name has a number just where it is among them
-number-among : (n : ℕ) (x : List ℕ) (l : List (List ℕ)) → among x l ≡ not (eqb (numberFrom (suc n) x l) 0)
+pub number-among : (n : ℕ) (x : List ℕ) (l : List (List ℕ)) → among x l ≡ not (eqb (numberFrom (suc n) x l) 0)
 unfolding among numberFrom
 number-among n x [] = refl
 number-among n x (y ∷ l) = by (same x y) (number-among (suc n) x l)
@@ -179,40 +181,63 @@ module _ {t : List ℕ} {names : Names} {more : List (List ℕ)} {End : Names �
   leads-over e = l .ends names (more-as t names names (sym e) (more-none t names))
 
 -- ---- the words of a statement
-module _ (t : List ℕ) (at : ℕ) (names : Names) where
-  module _ {v : ℕ} (f : v ≡ verb (statementAt t at 0)) where
-    pub sets-noted : (next : ℕ) (r : Names) → v ≡ someSets → wordsFrom t next ≡ drop 1 (wordsFrom t at) → NamesMore t names r (wordsFrom t next) → NamesMore t names r (pinned (statementAt t at 0 ∷ []))
+module _ (t : List ℕ) (cell : ℕ) (names : Names) {line : ℕ} (l : line ≡ lineIn cell) where
+  -- what a `sets` names, its line says
+  said-pinned : pinned (noted t cell ∷ []) ≡ pinned (statementAt t line 0 ∷ [])
+  unfolding pinned
+  said-pinned = by (makesRule (noted t cell)) refl ∙ ap (λ (n : ℕ). pinned (statementAt t n 0 ∷ [])) (sym l)
+    where
+      no-rule : (v : ℕ) → ofRule v ≡ true → eqb v someSets ≡ false
+      no-rule v e = of (eqb v someSets) refl
+        where
+          of : (b : Bool) → eqb v someSets ≡ b → b ≡ false
+          of true f = absurd (true≢false (sym e ∙ ap ofRule (eqb-true v someSets f)))
+          of false f = refl
+
+      by : (b : Bool) → makesRule (noted t cell) ≡ b → pinned (noted t cell ∷ []) ≡ pinned (statementAt t (lineIn cell) 0 ∷ [])
+      by true e =
+          let none = no-rule (verb (noted t cell)) e in
+          rw none (sym (rw (sym (ap (λ (v : ℕ). eqb v someSets) (noted-verb t cell)) ∙ none)))
+      by false e = ap (λ (s : Statement). pinned (s ∷ [])) (noted-other t cell e)
+
+  module _ {v : ℕ} (f : v ≡ verb (statementAt t line 0)) where
+    pub sets-noted : (next : ℕ) (r : Names) → v ≡ someSets → wordsFrom t next ≡ drop 1 (wordsFrom t line) → NamesMore t names r (wordsFrom t next) → NamesMore t names r (pinned (noted t cell ∷ []))
     unfolding pinned
-    sets-noted next r e s n = more-as t names r (s ∙ sym (rw (eq-eqb (verb (statementAt t at 0)) someSets (sym f ∙ e)) (append-nil (drop 1 (wordsFrom t at))))) n
+    sets-noted next r e s n =
+        more-as t names r (s ∙ sym (rw (eq-eqb (verb (statementAt t line 0)) someSets (sym f ∙ e)) (append-nil (drop 1 (wordsFrom t line)))) ∙ sym said-pinned) n
 
-    pub no-sets : (v ≡ someSets → ⊥) → NamesMore t names names (pinned (statementAt t at 0 ∷ []))
+    pub no-sets : (v ≡ someSets → ⊥) → NamesMore t names names (pinned (noted t cell ∷ []))
     unfolding pinned
-    no-sets k = more-as t names names (sym (rw (ne-eqb (verb (statementAt t at 0)) someSets (λ e. k (f ∙ e))))) (more-none t names)
+    no-sets k = more-as t names names (sym (rw (ne-eqb (verb (statementAt t line 0)) someSets (λ e. k (f ∙ e)))) ∙ sym said-pinned) (more-none t names)
 
-  module _ {b : Bool} (f : b ≡ asksCode (statementAt t at 0)) where
-    pub code-noted : {next : ℕ} {w : Span} (r : Names) → b ≡ true → wordsFrom t next ≡ drop 4 (wordsFrom t at) → NextWord t next w → NamesMore t names r (spanBytes t w ∷ []) → NamesMore t names r (named (statementAt t at 0 ∷ []))
-    unfolding named
-    code-noted {w = w} r e s x n =
-        let fourth : spanBytes t w ≡ getD (wordsFrom t at) 4 [] = x .here ∙ ap (λ (l : List (List ℕ)). getD l 0 []) s ∙ getD-drop 4 (wordsFrom t at) 0 [] in
-        more-as t names r (ap (λ (y : List ℕ). y ∷ []) fourth ∙ sym (rw (sym f ∙ e))) n
+  module _ {b : Bool} (f : b ≡ asksCode (statementAt t line 0)) where
+    said-code : asksCode (noted t cell) ≡ b
+    said-code = noted-as t cell asksCode (λ bound. refl) ∙ ap (λ (n : ℕ). asksCode (statementAt t n 0)) (sym l) ∙ sym f
 
-    pub no-code : b ≡ false → NamesMore t names names (named (statementAt t at 0 ∷ []))
+    pub code-noted : (next : ℕ) {w : Span} (r : Names) → b ≡ true → (makesRule (noted t cell) ≡ true → wordsFrom t next ≡ drop 4 (noted t cell .words)) → NextWord t next w → NamesMore t names r (spanBytes t w ∷ []) → NamesMore t names r (named (noted t cell ∷ []))
     unfolding named
-    no-code e = more-as t names names (sym (rw (sym f ∙ e))) (more-none t names)
+    code-noted next {w} r e s x n =
+        let rule = and-both (makesRule (noted t cell)) (eqb (kindNumber (word (noted t cell) 2)) aCodeKind) (said-code ∙ e) .0 in
+        let fourth : spanBytes t w ≡ word (noted t cell) 4 = x .here ∙ ap (λ (l : List (List ℕ)). getD l 0 []) (s rule) ∙ getD-drop 4 (noted t cell .words) 0 [] in
+        more-as t names r (ap (λ (y : List ℕ). y ∷ []) fourth ∙ sym (rw (said-code ∙ e))) n
+
+    pub no-code : b ≡ false → NamesMore t names names (named (noted t cell ∷ []))
+    unfolding named
+    no-code e = more-as t names names (sym (rw (said-code ∙ e))) (more-none t names)
 
 -- ---- loops along the cells
 module _ (t cells : List ℕ) (i : ℕ) where
   -- one statement, and those of the cells after it
   module _ (h : i < length cells) where
-    pub pinned-step : pinned (map (noted t) (drop i cells)) ≡ pinned (statementAt t (getD cells i 0 / 256) 0 ∷ []) ++ pinned (map (noted t) (drop (i + 1) cells))
+    pub pinned-step : pinned (map (noted t) (drop i cells)) ≡ pinned (noted t (getD cells i 0) ∷ []) ++ pinned (map (noted t) (drop (i + 1) cells))
     unfolding pinned
-    pinned-step = ap pinned (from-step (noted t) cells i h) ∙ by (says someSets (noted t (getD cells i 0))) (drop 1 (wordsFrom t (getD cells i 0 / 256))) (pinned (map (noted t) (drop (i + 1) cells)))
+    pinned-step = ap pinned (from-step (noted t) cells i h) ∙ by (says someSets (noted t (getD cells i 0))) (drop 1 (noted t (getD cells i 0) .words)) (pinned (map (noted t) (drop (i + 1) cells)))
       where
         by : (b : Bool) (own later : List (List ℕ)) → cond b (own ++ later) later ≡ cond b (own ++ []) [] ++ later
         by true own later = rw (append-nil own)
         by false own later = refl
 
-    pub named-step : named (map (noted t) (drop i cells)) ≡ named (statementAt t (getD cells i 0 / 256) 0 ∷ []) ++ named (map (noted t) (drop (i + 1) cells))
+    pub named-step : named (map (noted t) (drop i cells)) ≡ named (noted t (getD cells i 0) ∷ []) ++ named (map (noted t) (drop (i + 1) cells))
     unfolding named
     named-step = ap named (from-step (noted t) cells i h) ∙ by (asksCode (noted t (getD cells i 0))) (word (noted t (getD cells i 0)) 4) (named (map (noted t) (drop (i + 1) cells)))
       where

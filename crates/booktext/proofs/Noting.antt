@@ -9,12 +9,14 @@ use lib.ListN.{length, getD, take, drop, set, length-append, length-map}
 use native.Mathlib.Decide.{decLt}
 use lib.Seq.{take-suc-set, length-take-le}
 use borrow.Author.Tests.{eq-eqb, ne-eqb}
-use Rattle.booktext.specs.Lines.{Statement, verb, says, lineOf, aUse, aCommon, statements}
+use Rattle.booktext.specs.Lines.{Statement, verb, says, lineOf, textLimit, aUse, aCommon, statements}
 use Rattle.booktext.specs.Meaning.{body, from, under, give, taken, expand}
+use Rattle.booktext.specs.Changes.{settledAs, settled}
 use Rattle.booktext.specs.Faults.{tell, nothing}
 use Rattle.booktext.specs.Refusals.{isFirst, usedTwice, statementLimit}
 use Rattle.booktext.specs.Standing.{wordsFrom, statementAt, nextLine, left, bodyFrom, Finds, noted, Holds, NotesMore}
 use Rattle.booktext.specs.declared.told.Told.{Told}
+use Rattle.booktext.proofs.Marking.{noted-plain}
 use Rattle.booktext.proofs.Stating.{onward, onward-none, onward-some, onward-step}
 
 -- ---- row 46
@@ -65,15 +67,17 @@ module _ (t : List ℕ) where
   holds-none cells = record { exact = λ k. refl; over = λ k. absurd (omega arith) }
 
   -- one more, and one for which there is no room
-  pub notes-one : (cells : List ℕ) (count at letter : ℕ) → length cells ≡ statementLimit → count < statementLimit → letter ≤ 255 → NotesMore t cells count (set cells count (at * 256 + letter)) (count + 1) (statementAt t at letter ∷ [])
-  notes-one cells count at letter room h small ss k =
-      let cell = at * 256 + letter in
-      let here : noted t cell ≡ statementAt t at letter = ap₂ (statementAt t) (omega arith) (omega arith) in
+  pub notes-one : (cells : List ℕ) (count cell : ℕ) → length cells ≡ statementLimit → count < statementLimit → NotesMore t cells count (set cells count cell) (count + 1) (noted t cell ∷ [])
+  notes-one cells count cell room h ss k =
       let more : take (count + 1) (set cells count cell) ≡ take count cells ++ (cell ∷ []) = ap (λ (n : ℕ). take n (set cells count cell)) (add-one count) ∙ take-suc-set cells count cell (omega arith) in
       record {
-        exact = λ few. ap (map (noted t)) more ∙ map-append (noted t) (take count cells) (cell ∷ []) ∙ ap₂ (λ (xs : List Statement) (x : Statement). xs ++ (x ∷ [])) (k .exact (omega arith)) here;
+        exact = λ few. ap (map (noted t)) more ∙ map-append (noted t) (take count cells) (cell ∷ []) ∙ ap (λ (xs : List Statement). xs ++ (noted t cell ∷ [])) (k .exact (omega arith));
         over = λ many. absurd (omega (arith, h, many));
       }
+
+  -- a statement by its line and the severity that it was given
+  pub noted-line : (at letter : ℕ) → length t ≤ textLimit → at ≤ length t → letter ≤ 255 → noted t (at * 256 + letter) ≡ statementAt t at letter
+  noted-line at letter short near small = noted-plain t (at * 256 + letter) (omega arith) ∙ ap₂ (statementAt t) (omega arith) (omega arith)
 
   -- with as many as fit, or more
   over-with : (cells : List ℕ) (count : ℕ) (ss more : List Statement) → statementLimit < count → Holds t cells count ss → statementLimit < length (ss ++ more)
@@ -146,6 +150,16 @@ module _ (t before : List ℕ) (count : ℕ) (all : List Statement) (cells : Lis
     pub section-done : length t < at → NotesMore t before count cells n all
     unfolding expand
     section-done h = noting-done _ w (ap (expand (statements t)) (onward-none t (bodyFrom t) h))
+
+  -- one statement of some that are settled
+  module _ (now : Statement) (later : List Statement) where
+    pub settle-on : {ss : List Statement} → ss ≡ now ∷ later → Noting t before count all cells n (settled ss) → (after : List ℕ) (k : ℕ) → length after ≡ length cells → NotesMore t cells n after k (settledAs now later) → Noting t before count all after k (settled later)
+    unfolding settled
+    settle-on e w after k s f = noting-on _ w (settledAs now later) (settled later) after k (ap settled e) s f
+
+  pub settle-done : {ss : List Statement} → ss ≡ [] → Noting t before count all cells n (settled ss) → NotesMore t before count cells n all
+  unfolding settled
+  settle-done e w = noting-done _ w (ap settled e)
 
 -- from none noted
 pub noted-all : (t before : List ℕ) (all : List Statement) (cells : List ℕ) (n : ℕ) → NotesMore t before 0 cells n all → Holds t cells n all

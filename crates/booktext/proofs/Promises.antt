@@ -17,11 +17,12 @@ use Rattle.grade.specs.Rule.{counted, firstField, placeFits}
 use Rattle.grade.specs.declared.rule.Place.{Place}
 use Rattle.grade.specs.declared.rule.Rule.{Rule}
 use Rattle.grade.proofs.Decoded.{decodes}
-use Rattle.booktext.specs.Lines.{Statement, word, says, makesRule, statements, lines, aCommon, aUse}
+use Rattle.booktext.specs.Lines.{Statement, word, says, makesRule, statements, lines, aCommon, aUse, aSeverity, aBound, aDrop, aLess}
 use Rattle.booktext.specs.Meaning.{under, give, taken, expand}
-use Rattle.booktext.specs.Contents.{rulesOf, pinned, named, made, withNames, namesOf, codesOf, contentsOf, sectionsIn, meaning}
+use Rattle.booktext.specs.Changes.{spotNumber, spotOf, saysOf, bind, amend, amended, dropped, settledAs, settled, namesCode, lessened, kept, addedBy, added}
+use Rattle.booktext.specs.Contents.{rulesOf, pinned, named, made, withNames, namesOf, codesOf, held, contentsOf, sectionsIn, meaning}
 use Rattle.booktext.specs.Faults.{firstly, firstFault}
-use Rattle.booktext.specs.Refusals.{spotNumber, bytesTold, firstNameFault, sectionsTold, namedTold, refusal, compiled, beginning}
+use Rattle.booktext.specs.Refusals.{bytesTold, firstNameFault, sectionsTold, namedTold, refusal, compiled, beginning}
 use Rattle.booktext.proofs.Faulting.{sound-all}
 use Rattle.booktext.proofs.Including.{plainly, statements-plain}
 use Rattle.booktext.proofs.Forming.{firstly-both, names-passed, Rising, statements-rise, keys-differ, sizes-fit, sections-fit}
@@ -82,6 +83,56 @@ named-still (s ∷ ss) = rw (named-still ss) refl
 names-still : (ss : List Statement) → namesOf (map still ss) ≡ namesOf ss
 unfolding namesOf
 names-still ss = ap₂ (λ (a b : List (List ℕ)). withNames [] (a ++ b)) (pinned-still ss) (named-still ss)
+
+-- what later statements change does not hang on positions either
+amend-still : (spot : ℕ) (s x : Statement) → amend spot (still s) (still x) ≡ still (amend spot s x)
+unfolding spotOf
+amend-still spot s x = by (saysOf aSeverity spot x) (saysOf aBound spot x)
+  where
+    by : (a b : Bool) → cond a (give (getD (word x 3) 0 0) (still s)) (cond b (bind (drop 3 (x .words)) (still s)) (still s)) ≡ still (cond a (give (getD (word x 3) 0 0) s) (cond b (bind (drop 3 (x .words)) s) s))
+    by true b = refl
+    by false true = refl
+    by false false = refl
+
+amended-still : (spot : ℕ) (s : Statement) (ss : List Statement) → amended spot (still s) (map still ss) ≡ still (amended spot s ss)
+unfolding amended
+amended-still spot s [] = refl
+amended-still spot s (x ∷ ss) = ap (λ (y : Statement). amended spot y (map still ss)) (amend-still spot s x) ∙ amended-still spot (amend spot s x) ss
+
+dropped-still : (spot : ℕ) (ss : List Statement) → dropped spot (map still ss) ≡ dropped spot ss
+unfolding dropped spotOf
+dropped-still spot [] = refl
+dropped-still spot (x ∷ ss) = ap (λ (b : Bool). saysOf aDrop spot x || b) (dropped-still spot ss)
+
+settled-still : (ss : List Statement) → settled (map still ss) ≡ map still (settled ss)
+unfolding settled settledAs spotOf
+settled-still [] = refl
+settled-still (s ∷ ss) = ap₂ _++_ one (settled-still ss) ∙ sym (map-append still (settledAs s ss) (settled ss))
+  where
+    by : (a b : Bool) → cond a (cond b [] (still (amended (spotOf s) s ss) ∷ [])) (still s ∷ []) ≡ map still (cond a (cond b [] (amended (spotOf s) s ss ∷ [])) (s ∷ []))
+    by true true = refl
+    by true false = refl
+    by false b = refl
+
+    one : settledAs (still s) (map still ss) ≡ map still (settledAs s ss)
+    one =
+        ap₂ (λ (b : Bool) (y : Statement). cond (makesRule s) (cond b [] (y ∷ [])) (still s ∷ [])) (dropped-still (spotOf s) ss) (amended-still (spotOf s) s ss)
+        ∙ by (makesRule s) (dropped (spotOf s) ss)
+
+lessened-still : (name c : List ℕ) (ss : List Statement) → lessened name c (map still ss) ≡ lessened name c ss
+unfolding lessened
+lessened-still name c [] = refl
+lessened-still name c (x ∷ ss) = ap (λ (b : Bool). namesCode aLess name c x || b) (lessened-still name c ss)
+
+kept-still : (name : List ℕ) (ss : List Statement) (cs : List (List ℕ)) → kept name (map still ss) cs ≡ kept name ss cs
+unfolding kept
+kept-still name ss [] = refl
+kept-still name ss (c ∷ cs) = ap₂ (λ (b : Bool) (l : List (List ℕ)). cond b l (c ∷ l)) (lessened-still name c ss) (kept-still name ss cs)
+
+added-still : (name : List ℕ) (ss : List Statement) → added name (map still ss) ≡ added name ss
+unfolding added
+added-still name [] = refl
+added-still name (x ∷ ss) = ap₂ _++_ (kept-still name ss (addedBy name x)) (added-still name ss)
 
 -- the names of the commons that it uses
 unfoldable pub usesOf : List Statement → List (List ℕ)
@@ -145,17 +196,25 @@ expand-still all other (s ∷ ss) (z ∷ zs) e c =
 
 -- A section's contents depend only on its own statements, the commons that it uses and the sets that it names: not on where they stand, nor on anything else of the text
 pub own-page : (all other own theirs : List Statement) (key : List ℕ) → map still own ≡ map still theirs → Commons all other (usesOf own)
-    → ((name : List ℕ) → among name (namesOf (expand all own)) ≡ true → codesOf all name ≡ codesOf other name)
+    → ((name : List ℕ) → among name (namesOf (settled (expand all own))) ≡ true → codesOf all name ≡ codesOf other name)
     → contentsOf all key (expand all own) ≡ contentsOf other key (expand other theirs)
-unfolding contentsOf
+unfolding contentsOf held
 own-page all other own theirs key e commons sets =
     let ss = expand all own in
     let zs = expand other theirs in
-    let same-said = expand-still all other own theirs e commons in
-    let names : namesOf ss ≡ namesOf zs = sym (names-still ss) ∙ ap namesOf same-said ∙ names-still zs in
-    ap₂ (λ (rules : List Rule) (held : List (List (List ℕ))). record { key = key; rules = rules; sets = held })
-    (ap (λ (n : List (List ℕ)). rulesOf n ss) names ∙ sym (rules-still (namesOf zs) ss) ∙ ap (rulesOf (namesOf zs)) same-said ∙ rules-still (namesOf zs) zs)
-    (map-held (codesOf all) (codesOf other) (namesOf ss) sets ∙ ap (map (codesOf other)) names)
+    let said : map still ss ≡ map still zs = expand-still all other own theirs e commons in
+    let last : map still (settled ss) ≡ map still (settled zs) = sym (settled-still ss) ∙ ap settled said ∙ settled-still zs in
+    let names : namesOf (settled ss) ≡ namesOf (settled zs) = sym (names-still (settled ss)) ∙ ap namesOf last ∙ names-still (settled zs) in
+    let codes : (name : List ℕ) → among name (namesOf (settled ss)) ≡ true → held all ss name ≡ held other zs name =
+    λ name h. ap₂ _++_
+    (sym (kept-still name ss (codesOf all name)) ∙ ap₂ (kept name) said (sets name h) ∙ kept-still name zs (codesOf other name))
+    (sym (added-still name ss) ∙ ap (added name) said ∙ added-still name zs) in
+    ap₂ (λ (rules : List Rule) (sets : List (List (List ℕ))). record { key = key; rules = rules; sets = sets })
+    (ap (λ (n : List (List ℕ)). rulesOf n (settled ss)) names
+    ∙ sym (rules-still (namesOf (settled zs)) (settled ss))
+    ∙ ap (rulesOf (namesOf (settled zs))) last
+    ∙ rules-still (namesOf (settled zs)) (settled zs))
+    (map-held (held all ss) (held other zs) (namesOf (settled ss)) codes ∙ ap (map (held other zs)) names)
 
 -- ---- place and kind as one number
 

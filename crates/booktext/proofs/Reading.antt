@@ -38,14 +38,27 @@ number-few n w (name ∷ names) = by (same w name) (number-few (suc n) w names)
 pub picked-few : (n : ℕ) {r rest : ℕ} → leb n 255 ≡ true → r ≤ max n rest → rest ≤ 255 → r ≤ 255
 picked-few n h picked later = omega (arith, leb-true n 255 h)
 
-pub asked-verb : (w : List ℕ) {book set common section code uses sets rule also : Bool} {a b c d e f g h i r : ℕ}
+-- the verbs that change rules or sets
+pub asked-change : (w : List ℕ) {severity bound dropped more less : Bool} {a b c d e : ℕ}
+    → severity ≡ same w (bytes "severity") → bound ≡ same w (bytes "bound") → dropped ≡ same w (bytes "drop") → more ≡ same w (bytes "more") → less ≡ same w (bytes "less")
+    → a ≡ cond severity 10 b → b ≡ cond bound 11 c → c ≡ cond dropped 12 d → d ≡ cond more 13 e → e ≡ cond less 14 0
+    → a ≡ numberFrom 10 w (drop 9 verbs)
+unfolding verbs numberFrom
+asked-change w b1 b2 b3 b4 b5 e1 e2 e3 e4 e5 = rw (e1, e2, e3, e4, e5, b1, b2, b3, b4, b5)
+
+-- their numbers fit a byte
+pub change-few : (w : List ℕ) {r : ℕ} → r ≡ numberFrom 10 w (drop 9 verbs) → r ≤ 255
+unfolding verbs
+change-few w is = omega (arith, is, number-few 9 w (drop 9 verbs))
+
+pub asked-verb : (w : List ℕ) {book set common section code uses sets rule also : Bool} {a b c d e f g h i j r : ℕ}
     → book ≡ same w (bytes "book") → set ≡ same w (bytes "set") → common ≡ same w (bytes "common") → section ≡ same w (bytes "section") → code ≡ same w (bytes "code")
     → uses ≡ same w (bytes "use") → sets ≡ same w (bytes "sets") → rule ≡ same w (bytes "rule") → also ≡ same w (bytes "also")
-    → r ≡ a → a ≡ cond book 1 b → b ≡ cond set 2 c → c ≡ cond common 3 d → d ≡ cond section 4 e → e ≡ cond code 5 f → f ≡ cond uses 6 g → g ≡ cond sets 7 h → h ≡ cond rule 8 i → i ≡ cond also 9 0
-    → (r ≡ verbOf w) × (r ≤ 9)
+    → r ≡ a → a ≡ cond book 1 b → b ≡ cond set 2 c → c ≡ cond common 3 d → d ≡ cond section 4 e → e ≡ cond code 5 f → f ≡ cond uses 6 g → g ≡ cond sets 7 h → h ≡ cond rule 8 i → i ≡ cond also 9 j → j ≡ numberFrom 10 w (drop 9 verbs)
+    → (r ≡ verbOf w) × (r ≤ 14)
 unfolding verbOf verbs numberFrom
-asked-verb w {r = r} b1 b2 b3 b4 b5 b6 b7 b8 b9 e0 e1 e2 e3 e4 e5 e6 e7 e8 e9 =
-    let is : r ≡ verbOf w = rw (e0, e1, e2, e3, e4, e5, e6, e7, e8, e9, b1, b2, b3, b4, b5, b6, b7, b8, b9) in
+asked-verb w {r = r} b1 b2 b3 b4 b5 b6 b7 b8 b9 e0 e1 e2 e3 e4 e5 e6 e7 e8 e9 e10 =
+    let is : r ≡ verbOf w = rw (e0, e1, e2, e3, e4, e5, e6, e7, e8, e9, e10, b1, b2, b3, b4, b5, b6, b7, b8, b9) in
     (is, omega (arith, is, number-few 0 w verbs))
 
 pub asked-kind : (w : List ℕ) {required length number date time code : Bool} {a b c d e f r : ℕ}

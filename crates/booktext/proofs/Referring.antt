@@ -1,30 +1,29 @@
 -- Laws of names: where the first statement with a verb and a name stands, which names are not there, and the rows on them in order. Assumes nothing.
 use mathlib.Core.Path.{_≡_, refl, sym, ap, ap₂, _∙_}
-use mathlib.Core.Bool.{Bool, true, false, cond, not, _&&_}
+use mathlib.Core.Bool.{Bool, true, false, cond, not, _&&_, _||_}
 use mathlib.Core.List.{List, [], _∷_}
 use Prim.Native.Nat.{ℕ, suc, _+_, _≤_, _<_}
 use native.Mathlib.Omega.{arith}
 use native.Mathlib.Numerals.{add-one}
 use lib.Dec.{eqb, leb}
 use lib.ListN.{length, getD, drop}
-use borrow.Author.Tests.{leb-true, leb-false, eqb-false, eq-eqb, ne-eqb, not-true, not-false}
+use borrow.Author.Tests.{leb-true, leb-false, eqb-false, eq-eqb, ne-eqb}
 use Rattle.hl7.specs.Bytes.{within}
-use Rattle.hl7.specs.declared.cut.Span.{Span}
 use Rattle.grade.specs.Encoding.{each}
 use Rattle.grade.specs.Limits.{sectionLimit}
-use Rattle.booktext.specs.Lines.{Statement, verb, says, ofRule, lineOf, aSet, aCommon, aSection, aUse, someSets, statements}
+use Rattle.booktext.specs.Lines.{Statement, verb, says, ofRule, ofCodes, lineOf, aSet, aCommon, aSection, aUse, someSets, aBound, statements}
 use Rattle.booktext.specs.Words.{kindNumber, aCodeKind}
 use Rattle.booktext.specs.Meaning.{from}
 use Rattle.booktext.specs.Contents.{asksCode, sectionOf, sectionsIn, meaning}
-use Rattle.booktext.specs.Faults.{tell, nothing}
-use Rattle.booktext.specs.Refusals.{atOf, isFirst, isThere, isSet, lacks, nameFault, firstNameFault}
-use Rattle.booktext.specs.Standing.{wordsFrom, spanBytes, NextWord, statementAt, nextLine, left, Finds}
+use Rattle.booktext.specs.Faults.{tell, nothing, beforeBound}
+use Rattle.booktext.specs.Refusals.{atOf, isFirst, isThere, isSet, namesSet, setNamed, lacks, nameFault, firstNameFault}
+use Rattle.booktext.specs.Standing.{wordsFrom, statementAt, nextLine, left, Finds}
 use Rattle.booktext.specs.declared.told.Told.{Told}
 use Rattle.booktext.proofs.Stating.{left-start, onward, found-onward, onward-none, onward-some, onward-step}
 
 -- ---- the first with a verb and a name
 module _ (t : List ℕ) {list tail : List Statement} {r : ℕ} (f : Finds t list tail r) where
-  at-found : {x : ℕ} → x ≡ cond (leb r (length t)) r 0 → x ≡ atOf list
+  pub at-found : {x : ℕ} → x ≡ cond (leb r (length t)) r 0 → x ≡ atOf list
   at-found {x} e = by-case (leb r (length t)) refl
     where
       by-case : (b : Bool) → leb r (length t) ≡ b → x ≡ atOf list
@@ -54,33 +53,22 @@ module _ (t : List ℕ) (at : ℕ) {v : ℕ} {b : Bool} (e : v ≡ verb (stateme
   double-head h n d g = ap not (first-found t (statements t) at e n d g) ∙ double-is h
 
 -- ---- row 45
-module _ (t : List ℕ) (at i : ℕ) (all : List Statement) (passed : each (isSet all) (wordsFrom t at) ≡ each (isSet all) (wordsFrom t i)) (w : Span) (n : NextWord t i w) where
-  pub sets-all : w .end ≤ w .start → true ≡ each (isSet all) (wordsFrom t at)
-  sets-all h = sym (passed ∙ ap (each (isSet all)) (n .none h))
+-- it names one set
+pub names-is : (t : List ℕ) (at : ℕ) {v k : ℕ} {x : List ℕ} {rule codes : Bool} → v ≡ verb (statementAt t at 0) → rule ≡ ofRule v → codes ≡ ofCodes v → x ≡ getD (wordsFrom t at) 2 [] → k ≡ kindNumber x → (codes || ((rule || eqb v aBound) && eqb k aCodeKind)) ≡ namesSet (statementAt t at 0)
+names-is t at e f c g h = rw (c, f, h, g, e)
 
-  module _ (h : w .start < w .end) {name : List ℕ} {b : Bool} (e : name ≡ spanBytes t w) (f : b ≡ isThere (from aSet name all)) where
-    sets-step : each (isSet all) (wordsFrom t at) ≡ (b && each (isSet all) (wordsFrom t (w .end)))
-    sets-step =
-        passed ∙ ap (each (isSet all)) (n .some h)
-        ∙ ap (λ (x : Bool). x && each (isSet all) (wordsFrom t (w .end))) (sym (f ∙ ap (λ (x : List ℕ). isThere (from aSet x all)) e))
-
-    pub sets-not : not b ≡ true → false ≡ each (isSet all) (wordsFrom t at)
-    sets-not g = sym (sets-step ∙ ap (λ (x : Bool). x && each (isSet all) (wordsFrom t (w .end))) (not-true b g))
-
-    pub sets-on : not b ≡ false → each (isSet all) (wordsFrom t at) ≡ each (isSet all) (wordsFrom t (w .end))
-    sets-on g = sets-step ∙ ap (λ (x : Bool). x && each (isSet all) (wordsFrom t (w .end))) (not-false b g)
-
+-- it is a rule of kind CODE
 pub asks-is : (t : List ℕ) (at : ℕ) {v k : ℕ} {x : List ℕ} {b : Bool} → v ≡ verb (statementAt t at 0) → b ≡ ofRule v → x ≡ getD (wordsFrom t at) 2 [] → k ≡ kindNumber x → (b && eqb k aCodeKind) ≡ asksCode (statementAt t at 0)
 asks-is t at e f g h = ap₂ _&&_ (f ∙ ap ofRule e) (ap (λ (k : ℕ). eqb k aCodeKind) (h ∙ ap kindNumber g))
 
 module _ (t : List ℕ) (at : ℕ) {v : ℕ} (e : v ≡ verb (statementAt t at 0)) where
   abbrev lacks-by : Bool → Bool → Bool → Bool
-  lacks-by takes code sets = cond takes (not (isThere (from aCommon (getD (wordsFrom t at) 1 []) (statements t)))) (cond code (not (isSet (statements t) (getD (wordsFrom t at) 4 []))) (sets && not (each (isSet (statements t)) (drop 1 (wordsFrom t at)))))
+  lacks-by takes one sets = cond takes (not (isThere (from aCommon (getD (wordsFrom t at) 1 []) (statements t)))) (cond one (not (isSet (statements t) (setNamed (statementAt t at 0)))) (sets && not (each (isSet (statements t)) (drop 1 (wordsFrom t at)))))
 
-  lacks-is : {takes code sets : Bool} → says aUse (statementAt t at 0) ≡ takes → asksCode (statementAt t at 0) ≡ code → says someSets (statementAt t at 0) ≡ sets → lacks (statements t) (statementAt t at 0) ≡ lacks-by takes code sets
+  lacks-is : {takes one sets : Bool} → says aUse (statementAt t at 0) ≡ takes → namesSet (statementAt t at 0) ≡ one → says someSets (statementAt t at 0) ≡ sets → lacks (statements t) (statementAt t at 0) ≡ lacks-by takes one sets
   unfolding lacks
   lacks-is {takes} f g h =
-      ap (λ (x : Bool). lacks-by x (asksCode (statementAt t at 0)) (says someSets (statementAt t at 0))) f
+      ap (λ (x : Bool). lacks-by x (namesSet (statementAt t at 0)) (says someSets (statementAt t at 0))) f
       ∙ ap₂ (lacks-by takes) g h
 
   pub lacks-common : v ≡ aUse → {name : List ℕ} {b : Bool} → name ≡ getD (wordsFrom t at) 1 [] → b ≡ isThere (from aCommon name (statements t)) → not b ≡ lacks (statements t) (statementAt t at 0)
@@ -88,14 +76,16 @@ module _ (t : List ℕ) (at : ℕ) {v : ℕ} (e : v ≡ verb (statementAt t at 0
       ap not (g ∙ ap (λ (x : List ℕ). isThere (from aCommon x (statements t))) f)
       ∙ sym (lacks-is (eq-eqb (verb (statementAt t at 0)) aUse (sym e ∙ h)) refl refl)
 
-  module _ (h : v ≡ aUse → ⊥) {code : Bool} (c : code ≡ asksCode (statementAt t at 0)) where
+  module _ (h : v ≡ aUse → ⊥) {one : Bool} (c : one ≡ namesSet (statementAt t at 0)) where
     no-use : says aUse (statementAt t at 0) ≡ false
     no-use = ne-eqb (verb (statementAt t at 0)) aUse (λ q. h (e ∙ q))
 
-    pub lacks-set : code ≡ true → {name : List ℕ} {b : Bool} → name ≡ getD (wordsFrom t at) 4 [] → b ≡ isThere (from aSet name (statements t)) → not b ≡ lacks (statements t) (statementAt t at 0)
-    lacks-set k f g = ap not (g ∙ ap (λ (x : List ℕ). isThere (from aSet x (statements t))) f) ∙ sym (lacks-is no-use (sym c ∙ k) refl)
+    pub lacks-set : one ≡ true → {which : ℕ} {name : List ℕ} {b : Bool} → which ≡ cond (ofCodes v) 1 (beforeBound v) → name ≡ getD (wordsFrom t at) which [] → b ≡ isThere (from aSet name (statements t)) → not b ≡ lacks (statements t) (statementAt t at 0)
+    lacks-set k {name = name} w f g =
+        let is : name ≡ setNamed (statementAt t at 0) = rw (f, w, e) in
+        ap not (g ∙ ap (λ (x : List ℕ). isThere (from aSet x (statements t))) is) ∙ sym (lacks-is no-use (sym c ∙ k) refl)
 
-    module _ (k : code ≡ false) where
+    module _ (k : one ≡ false) where
       pub lacks-sets : v ≡ someSets → (p : ℕ) {b : Bool} → wordsFrom t p ≡ drop 1 (wordsFrom t at) → b ≡ each (isSet (statements t)) (wordsFrom t p) → not b ≡ lacks (statements t) (statementAt t at 0)
       lacks-sets l p f g =
           ap not (g ∙ ap (each (isSet (statements t))) f)

@@ -1,18 +1,16 @@
--- Laws of the rules of a section: rows 47 and 48, how many rules there are, and their bytes. Assumes nothing.
-use mathlib.Core.Path.{_≡_, refl, sym, ap, ap₂, _∙_}
-use mathlib.Core.Bool.{Bool, true, false, cond, not, _&&_, _||_, or-assoc, or-false, true≢false}
-use mathlib.Core.List.{List, [], _∷_, _++_, map, map-append, append-nil, append-assoc}
-use Prim.Native.Nat.{ℕ, zero, suc, _+_, _*_, _/_, _%_, _-_, _≤_, _<_}
+-- Laws of the rules of a section: how many there are, and their bytes. Assumes nothing.
+use mathlib.Core.Path.{_≡_, refl, sym, ap, ap₂, subst, _∙_}
+use mathlib.Core.Bool.{Bool, true, false, cond, not, _&&_, _||_, true≢false}
+use mathlib.Core.List.{List, [], _∷_, _++_, map, append-nil, append-assoc}
+use Prim.Native.Nat.{ℕ, zero, suc, _+_, _%_, _-_, _≤_, _<_}
 use Prim.Native.Char.{code}
 use native.Mathlib.Omega.{arith}
 use native.Mathlib.Decide.{decLt}
-use native.Mathlib.Numerals.{add-one}
 use lib.Dec.{eqb, leb}
-use lib.ListN.{length, getD, take, drop, set, length-set, drop-of-length-le, List·getD-eq-default}
-use lib.Seq.{take-suc, take-suc-set}
-use borrow.Author.Tests.{eq-eqb, ne-eqb, eqb-true, leb-true, not-true, not-false}
-use Rattle.hl7.specs.Bytes.{within, isIn}
-use Rattle.hl7.proofs.Comparing.{rest-at, from-step, from-done, and-both}
+use lib.ListN.{length, getD, take, drop, List·getD-eq-default}
+use borrow.Author.Tests.{eq-eqb, ne-eqb, eqb-true, leb-true}
+use Rattle.hl7.specs.Bytes.{within}
+use Rattle.hl7.proofs.Comparing.{from-step, from-done, and-both}
 use Rattle.grade.specs.Rule.{nameBytes, counted, placeFits, severityOf, severityLetter, kindOf, kindFits, ruleFits, ruleWith}
 use Rattle.grade.specs.Encoding.{each, spellAll, kindByte, lastBytes, ruleBytes}
 use Rattle.grade.specs.declared.rule.Place.{Place}
@@ -24,119 +22,28 @@ use Rattle.grade.specs.declared.rule.KindRead.{KindRead}
 use Rattle.grade.proofs.Naming.{name-letters}
 use Rattle.ack.specs.Splice.{Wrote}
 use Rattle.ack.proofs.Writing.{wrote-as, _then_}
-use Rattle.booktext.specs.Lines.{Statement, word, verb, ofRule, makesRule, numberFrom, lineOf}
+use Rattle.booktext.specs.Lines.{Statement, word, verb, ofRule, makesRule, numberFrom, aRule, anAlso}
 use Rattle.booktext.specs.Words.{numberIn, pointed, placeIn, boundFits, isPlace, isSeverity, isSeverityWord, kindNumber, aLength, aTime, aCodeKind}
 use Rattle.booktext.specs.Contents.{letterOf, ruleOr, made, rulesOf}
-use Rattle.booktext.specs.Faults.{tell, nothing}
-use Rattle.booktext.specs.Refusals.{spotOf, stands, ruleFault, firstRuleFault}
-use Rattle.booktext.specs.Standing.{statementAt, noted, sound, ready, CountsRules, placeBytes, boundBytes}
-use Rattle.booktext.specs.declared.told.Told.{Told}
+use Rattle.booktext.specs.Faults.{placeRight, kindRight, severityRight, beforeBound, boundRight}
+use Rattle.booktext.specs.Standing.{statementAt, lineIn, noted, sound, ready, CountsRules, placeBytes, boundBytes}
+use Rattle.booktext.proofs.Marking.{lineSays, noted-as, noted-verb}
 use Rattle.booktext.proofs.Sounding.{Sounds, sounds}
 
--- ---- place and kind as one number
-module _ (t : List ℕ) (at : ℕ) {v : ℕ} {b : Bool} (f : v ≡ verb (statementAt t at 0)) (g : b ≡ ofRule v) where
-  pub asked-rule : {c : Bool} → b ≡ c → makesRule (statementAt t at 0) ≡ c
-  asked-rule e = sym (g ∙ ap ofRule f) ∙ e
+-- ---- verbs of rules
 
-  pub spot-none : not b ≡ true → 0 ≡ spotOf (statementAt t at 0)
-  unfolding spotOf
-  spot-none e = sym (rw (asked-rule (not-true b e)))
+-- what is so of both is so of a rule's
+pub rule-verb : (P : ℕ → Type 0) → P aRule → P anAlso → (v : ℕ) → ofRule v ≡ true → P v
+rule-verb P first further v e = by (eqb v aRule) (eqb v anAlso) refl refl e
+  where
+    by : (a b : Bool) → eqb v aRule ≡ a → eqb v anAlso ≡ b → (a || b) ≡ true → P v
+    by true b f g h = subst P (sym (eqb-true v aRule f)) first
+    by false true f g h = subst P (sym (eqb-true v anAlso g)) further
+    by false false f g h = absurd (true≢false (sym h))
 
-  pub spot-is : {p : Place} {k : ℕ} {x y : List ℕ} → not b ≡ false → x ≡ word (statementAt t at 0) 1 → p ≡ placeIn x → y ≡ word (statementAt t at 0) 2 → k ≡ kindNumber y
-      → ((p .segment * 100 + p .field) * 21 + p .component) * 7 + k ≡ spotOf (statementAt t at 0)
-  unfolding spotOf
-  spot-is e ex ep ey ek = rw (ep, ek, ex, ey, asked-rule (not-false b e))
-
--- ---- those of the cells, noted by a loop
-module _ (t cells before : List ℕ) where
-  -- what was noted, and then what is left, is what there is
-  pub record Spots (spots : List ℕ) (i : ℕ) : Type 0 where
-    pub same : length spots ≡ length before
-    pub inside : i ≤ length cells
-    pub rest : take i spots ++ map spotOf (map (noted t) (drop i cells)) ≡ map spotOf (map (noted t) cells)
-
-  pub spots-none : Spots before 0
-  spots-none = record { same = refl; inside = omega arith; rest = refl }
-
-  module _ {spots : List ℕ} {i : ℕ} (s : Spots spots i) where
-    pub spots-more : {x : ℕ} → length cells ≤ length before → i < length cells → x ≡ spotOf (statementAt t (getD cells i 0 / 256) 0) → Spots (set spots i x) (i + 1)
-    unfolding spotOf
-    spots-more {x} room h e =
-        record {
-          same = length-set spots i x ∙ s .same;
-          inside = omega arith;
-          rest =
-              ap (λ (l : List ℕ). l ++ map spotOf (map (noted t) (drop (i + 1) cells))) (ap (λ (n : ℕ). take n (set spots i x)) (add-one i) ∙ take-suc-set spots i x (omega (arith, s .same)))
-              ∙ append-assoc (take i spots) (x ∷ []) (map spotOf (map (noted t) (drop (i + 1) cells)))
-              ∙ ap (λ (y : ℕ). take i spots ++ (y ∷ map spotOf (map (noted t) (drop (i + 1) cells)))) e
-              ∙ ap (λ (l : List Statement). take i spots ++ map spotOf l) (sym (from-step (noted t) cells i h))
-              ∙ s .rest;
-        }
-
-    pub spots-over : length cells ≤ i → take (length cells) spots ≡ map spotOf (map (noted t) cells)
-    spots-over h =
-        let end : length cells ≡ i = omega (arith, s .inside) in
-        ap (λ (n : ℕ). take n spots) end
-        ∙ sym (append-nil (take i spots))
-        ∙ ap (λ (l : List Statement). take i spots ++ map spotOf l) (sym (from-done (noted t) cells i h))
-        ∙ s .rest
-
--- one of them, and those before it
-spots-at : (t cells spots : List ℕ) (i : ℕ) → take (length cells) spots ≡ map spotOf (map (noted t) cells) → i < length cells
-    → (getD spots i 0 ≡ spotOf (noted t (getD cells i 0))) × (take i spots ≡ map spotOf (map (noted t) (take i cells)))
-spots-at t [] spots i e h = absurd (omega arith)
-spots-at t (c ∷ cells) [] i e h = absurd (omega (arith, ap length e))
-spots-at t (c ∷ cells) (x ∷ spots) zero e h = (ap (λ (l : List ℕ). getD l 0 0) e, refl)
-spots-at t (c ∷ cells) (x ∷ spots) (suc i) e h =
-    let later = spots-at t cells spots i (ap (drop 1) e) (omega arith) in
-    (later .0, ap₂ _∷_ (ap (λ (l : List ℕ). getD l 0 0) e) (later .1))
-
--- ---- a number among some
-module _ (spots : List ℕ) (x i : ℕ) (any : Bool) where
-  pub in-more : i < length spots → (any || isIn x (drop i spots)) ≡ (any || eqb x (getD spots i 0) || isIn x (drop (i + 1) spots))
-  unfolding isIn
-  in-more h = ap (λ (l : List ℕ). any || isIn x l) (rest-at spots i h) ∙ sym (or-assoc any (eqb x (getD spots i 0)) (isIn x (drop (i + 1) spots)))
-
-  pub in-over : length spots ≤ i → (any || isIn x (drop i spots)) ≡ any
-  unfolding isIn
-  in-over h = ap (λ (l : List ℕ). any || isIn x l) (drop-of-length-le spots h) ∙ or-false any
-
--- ---- rows 47 and 48
-pub fault-picked : (v : ℕ) (before : Bool) {late n : ℕ} → late ≡ cond (eqb v 9 && not before) 48 0 → n ≡ cond (eqb v 8 && before) 47 late → n ≡ ruleFault v before
-fault-picked v before e f = f ∙ ap (cond (eqb v 8 && before) 47) e
-
-module _ (t cells : List ℕ) (head i : ℕ) where
-  -- of the cells from i on
-  abbrev pub faultFrom : Told
-  faultFrom = firstRuleFault t (lineOf t head) (map (noted t) (take i cells)) (map (noted t) (drop i cells))
-
-  pub fault-over : length cells ≤ i → faultFrom ≡ nothing
-  unfolding firstRuleFault
-  fault-over h = ap (firstRuleFault t (lineOf t head) (map (noted t) (take i cells))) (from-done (noted t) cells i h)
-
-  module _
-      (spots : List ℕ) (e : take (length cells) spots ≡ map spotOf (map (noted t) cells)) (h : i < length cells)
-      {v n : ℕ} {b : Bool} (f : v ≡ verb (statementAt t (getD cells i 0 / 256) 0)) (g : b ≡ isIn (getD spots i 0) (take i spots)) (k : n ≡ ruleFault v b) where
-    fault-is : n ≡ ruleFault (verb (noted t (getD cells i 0))) (stands (map (noted t) (take i cells)) (noted t (getD cells i 0)))
-    fault-is = let at-i = spots-at t cells spots i e h in k ∙ ap₂ ruleFault f (g ∙ ap₂ isIn (at-i .0) (at-i .1))
-
-    fault-step : faultFrom ≡ cond (eqb n 0) (firstRuleFault t (lineOf t head) (map (noted t) (take i cells) ++ (noted t (getD cells i 0) ∷ [])) (map (noted t) (drop (i + 1) cells))) (tell n (lineOf t (getD cells i 0 / 256)) (lineOf t head))
-    unfolding firstRuleFault
-    fault-step =
-        ap (firstRuleFault t (lineOf t head) (map (noted t) (take i cells))) (from-step (noted t) cells i h)
-        ∙ ap
-        (λ (n : ℕ). cond (eqb n 0) (firstRuleFault t (lineOf t head) (map (noted t) (take i cells) ++ (noted t (getD cells i 0) ∷ [])) (map (noted t) (drop (i + 1) cells))) (tell n (lineOf t (getD cells i 0 / 256)) (lineOf t head)))
-        (sym fault-is)
-
-    pub fault-told : {r : Told} {line section : ℕ} → (n ≡ 0 → ⊥) → line ≡ lineOf t (getD cells i 0 / 256) → section ≡ lineOf t head → r ≡ tell n line section → r ≡ faultFrom
-    fault-told some el es er = rw (er, el, es) (sym (fault-step ∙ rw (ne-eqb n 0 some)))
-
-    pub fault-more : n ≡ 0 → faultFrom ≡ firstRuleFault t (lineOf t head) (map (noted t) (take (i + 1) cells)) (map (noted t) (drop (i + 1) cells))
-    fault-more none =
-        fault-step
-        ∙ rw (eq-eqb n 0 none)
-        (ap (λ (l : List Statement). firstRuleFault t (lineOf t head) l (map (noted t) (drop (i + 1) cells)))
-        (sym (map-append (noted t) (take i cells) (getD cells i 0 ∷ [])) ∙ ap (map (noted t)) (sym (ap (λ (m : ℕ). take m cells) (add-one i) ∙ take-suc cells i 0 h))))
+module _ (t : List ℕ) (cell : ℕ) {line v : ℕ} {b : Bool} (l : line ≡ lineIn cell) (f : v ≡ verb (statementAt t line 0)) (g : b ≡ ofRule v) where
+  pub asked-rule : {c : Bool} → b ≡ c → makesRule (noted t cell) ≡ c
+  asked-rule e = ap ofRule (noted-verb t cell ∙ ap (λ (n : ℕ). verb (statementAt t n 0)) (sym l) ∙ sym f) ∙ sym g ∙ e
 
 -- ---- how many rules
 module _ (t cells : List ℕ) where
@@ -150,14 +57,14 @@ module _ (t cells : List ℕ) where
   counts-none = record { few = omega arith; inside = omega arith; rest = λ names. omega arith }
 
   module _ {n i : ℕ} (c : Counts n i) where
-    pub counts-more : {v m : ℕ} {b : Bool} → i < length cells → v ≡ verb (statementAt t (getD cells i 0 / 256) 0) → b ≡ ofRule v → m ≡ cond b (n + 1) n → Counts m (i + 1)
+    pub counts-more : {line v m : ℕ} {b : Bool} → i < length cells → line ≡ lineIn (getD cells i 0) → v ≡ verb (statementAt t line 0) → b ≡ ofRule v → m ≡ cond b (n + 1) n → Counts m (i + 1)
     unfolding rulesOf
-    counts-more {m = m} {b} h f g e =
+    counts-more {m = m} {b} h l f g e =
         record {
           few = by-few b e;
           inside = omega arith;
           rest = λ names. by b (rulesOf names (map (noted t) (drop (i + 1) cells))) (made names (noted t (getD cells i 0))) e
-              ∙ ap (λ (x : Bool). n + length (cond x (made names (noted t (getD cells i 0)) ∷ rulesOf names (map (noted t) (drop (i + 1) cells))) (rulesOf names (map (noted t) (drop (i + 1) cells))))) (g ∙ ap ofRule f)
+              ∙ ap (λ (x : Bool). n + length (cond x (made names (noted t (getD cells i 0)) ∷ rulesOf names (map (noted t) (drop (i + 1) cells))) (rulesOf names (map (noted t) (drop (i + 1) cells))))) (sym (asked-rule t (getD cells i 0) l f g refl))
               ∙ ap (λ (l : List Statement). n + length (rulesOf names l)) (sym (from-step (noted t) cells i h))
               ∙ c .rest names;
         }
@@ -179,11 +86,14 @@ module _ (t cells : List ℕ) where
 
 -- ---- the severity's letter
 module _ (t : List ℕ) (cell : ℕ) where
-  pub letter-own : {letter : ℕ} {w : List ℕ} → cell % 256 ≡ 0 → w ≡ word (noted t cell) 3 → letter ≡ getD w 0 0 → letter ≡ letterOf (noted t cell)
-  letter-own none e f = rw (eq-eqb (cell % 256) 0 none) (f ∙ ap (λ (w : List ℕ). getD w 0 0) e)
+  said-letter : letterOf (noted t cell) ≡ letterOf (lineSays t cell)
+  said-letter = noted-as t cell letterOf (λ bound. refl)
+
+  pub letter-own : {letter line : ℕ} {w : List ℕ} → cell % 256 ≡ 0 → line ≡ lineIn cell → w ≡ word (statementAt t line 0) 3 → letter ≡ getD w 0 0 → letter ≡ letterOf (noted t cell)
+  letter-own none l e f = f ∙ ap (λ (w : List ℕ). getD w 0 0) (e ∙ ap (λ (n : ℕ). word (statementAt t n 0) 3) l) ∙ sym (said-letter ∙ rw (eq-eqb (cell % 256) 0 none))
 
   pub letter-given : (cell % 256 ≡ 0 → ⊥) → cell % 256 ≡ letterOf (noted t cell)
-  letter-given some = rw (ne-eqb (cell % 256) 0 some)
+  letter-given some = sym (said-letter ∙ rw (ne-eqb (cell % 256) 0 some))
 
 -- ---- parts of the ten bytes
 pub bound-written : (kind set low high : ℕ) {o p q r : List ℕ} {at b c d x y z : ℕ} → Wrote o at (x ∷ []) p b → Wrote p b (y ∷ []) q c → Wrote q c (z ∷ []) r d
@@ -253,36 +163,37 @@ unfolding isPlace
 place-fits w h = and-both (eqb (getD w 3 0) (code "-") && (not (pointed w) || leb 1 (placeIn w .component))) (placeFits (placeIn w)) h .1
 
 -- ---- the ten bytes
--- what is asked of a rule alone
-when-rule : (b c : Bool) → b ≡ true → (not b || c) ≡ true → c ≡ true
-when-rule true c e h = h
-when-rule false c e h = absurd (true≢false (sym e))
-
 module _ (s : Statement) (ok : ready s ≡ true) (rule : makesRule s ≡ true) where
-  right : Sounds s
+  pub right : Sounds s
   unfolding ready
   right = sounds s (and-both (sound s) _ ok .0)
 
   pub rule-place : isPlace (word s 1) ≡ true
-  rule-place = when-rule (makesRule s) (isPlace (word s 1)) rule (right .place)
+  rule-place = rule-verb (λ (v : ℕ). placeRight v (word s 1) ≡ true → isPlace (word s 1) ≡ true) (λ h. h) (λ h. h) (verb s) rule (right .place)
 
-  rule-kind : 1 ≤ kindNumber (word s 2)
-  rule-kind = leb-true 1 (kindNumber (word s 2)) (when-rule (makesRule s) (leb 1 (kindNumber (word s 2))) rule (right .kind))
+  pub rule-kind : 1 ≤ kindNumber (word s 2)
+  rule-kind = leb-true 1 (kindNumber (word s 2)) (rule-verb (λ (v : ℕ). kindRight v (word s 2) ≡ true → leb 1 (kindNumber (word s 2)) ≡ true) (λ h. h) (λ h. h) (verb s) rule (right .kind))
+
+  pub rule-own : isSeverityWord (word s 3) ≡ true
+  rule-own = rule-verb (λ (v : ℕ). severityRight v (length (s .words)) (word s 2) (word s 3) ≡ true → isSeverityWord (word s 3) ≡ true) (λ h. h) (λ h. h) (verb s) rule (right .severity)
 
   rule-letter : isSeverity (severityOf (letterOf s)) ≡ true
   unfolding ready isSeverityWord
-  rule-letter = by (eqb (s .given) 0) own (and-both (sound s) _ ok .1)
+  rule-letter = by (eqb (s .given) 0) (and-both (eqb (length (word s 3)) 1) _ rule-own .1) (and-both (sound s) _ ok .1)
     where
-      of-rule : (b c d : Bool) → b ≡ true → cond b c d ≡ true → c ≡ true
-      of-rule true c d e h = h
-      of-rule false c d e h = absurd (true≢false (sym e))
-
-      own : isSeverity (severityOf (getD (word s 3) 0 0)) ≡ true
-      own = and-both (eqb (length (word s 3)) 1) _ (of-rule (makesRule s) (isSeverityWord (word s 3)) _ rule (right .severity)) .1
-
       by : (b : Bool) → isSeverity (severityOf (getD (word s 3) 0 0)) ≡ true → (b || isSeverity (severityOf (s .given))) ≡ true → isSeverity (severityOf (cond b (getD (word s 3) 0 0) (s .given))) ≡ true
       by true o g = o
       by false o g = g
+
+  pub rule-bound : boundFits (kindNumber (word s 2)) (length (s .words) - 4) (word s 4) (word s 5) ≡ true
+  rule-bound =
+      rule-verb
+      (λ (v : ℕ). boundRight v (length (s .words)) (word s 2) (word s (beforeBound v)) (word s (suc (beforeBound v))) ≡ true → boundFits (kindNumber (word s 2)) (length (s .words) - 4) (word s 4) (word s 5) ≡ true)
+      (λ h. h)
+      (λ h. h)
+      (verb s)
+      rule
+      (right .bound)
 
   module _ (names : List (List ℕ)) (most : kindNumber (word s 2) ≤ 6) where
     -- it fits a section with so many sets, where the set that it names is one of them
@@ -292,7 +203,7 @@ module _ (s : Statement) (ok : ready s ≡ true) (rule : makesRule s ≡ true) w
         let severity = severity-said (letterOf s) rule-letter in
         let kind = kind-said (kindNumber (word s 2)) (numberFrom 1 (word s 4) names) (numberIn (word s 4)) (numberIn (word s 5)) rule-kind most in
         let place = placeIn (word s 1) in
-        let bound = when-rule (makesRule s) (boundFits (kindNumber (word s 2)) (length (s .words) - 4) (word s 4) (word s 5)) rule (right .bound) in
+        let bound = rule-bound in
         ap₂ (λ (x : SeverityRead) (y : KindRead). ruleFits n (ruleOr (ruleWith place x y))) (severity .reads) (kind .reads)
         ∙ rw (place-fits (word s 1) rule-place, kind .fits n (length (s .words) - 4) (word s 4) (word s 5) refl refl bound held) refl
 
@@ -309,24 +220,24 @@ module _ (s : Statement) (ok : ready s ≡ true) (rule : makesRule s ≡ true) w
 
   pub rule-written : (names : List (List ℕ)) {o p q r u first second low-word high-word : List ℕ} {at b c d e kind set low high letter : ℕ}
       → first ≡ word s 1 → second ≡ word s 2 → (kind ≡ kindNumber second) × (kind ≤ 6)
-      → set ≡ numberFrom 1 (word s 4) names → low-word ≡ word s 4 → low ≡ numberIn low-word → high-word ≡ word s 5 → high ≡ numberIn high-word → letter ≡ letterOf s
+      → low-word ≡ word s 4 → set ≡ numberFrom 1 low-word names → low ≡ numberIn low-word → high-word ≡ word s 5 → high ≡ numberIn high-word → letter ≡ letterOf s
       → Wrote o at (placeBytes (placeIn first)) p b → Wrote p b (kind ∷ []) q c → Wrote q c (letter ∷ []) r d → Wrote r d (boundBytes kind set low high) u e
       → Wrote o at (ruleBytes (made names s)) u e
-  rule-written names ef es ek eset elw el ehw eh ele w x y z =
+  rule-written names ef es ek elw eset el ehw eh ele w x y z =
       let most : kindNumber (word s 2) ≤ 6 = omega (arith, ek .1, ek .0 ∙ ap kindNumber es) in
       wrote-as (w then x then y then z) (rw (ek .0, ef, es, eset, el, elw, eh, ehw, ele) (sym (rule-spelt names most)))
 
 -- ---- rules written one after the other
 module _ (names : List (List ℕ)) where
   -- that of one statement, where it makes one
-  module _ (t : List ℕ) (cell : ℕ) {v : ℕ} {b : Bool} (f : v ≡ verb (statementAt t (cell / 256) 0)) (g : b ≡ ofRule v) {o p : List ℕ} {at r : ℕ} where
+  module _ (t : List ℕ) (cell : ℕ) {line v : ℕ} {b : Bool} (l : line ≡ lineIn cell) (f : v ≡ verb (statementAt t line 0)) (g : b ≡ ofRule v) {o p : List ℕ} {at r : ℕ} where
     pub made-written : b ≡ true → Wrote o at (ruleBytes (made names (noted t cell))) p r → Wrote o at (spellAll ruleBytes (rulesOf names (noted t cell ∷ []))) p r
     unfolding rulesOf
-    made-written e w = wrote-as w (sym (rw (asked-rule t (cell / 256) f g e) (append-nil (ruleBytes (made names (noted t cell))))))
+    made-written e w = wrote-as w (sym (rw (asked-rule t cell l f g e) (append-nil (ruleBytes (made names (noted t cell))))))
 
     pub none-written : b ≡ false → Wrote o at [] p r → Wrote o at (spellAll ruleBytes (rulesOf names (noted t cell ∷ []))) p r
     unfolding rulesOf
-    none-written e w = wrote-as w (sym (rw (asked-rule t (cell / 256) f g e)))
+    none-written e w = wrote-as w (sym (rw (asked-rule t cell l f g e)))
 
   module _ (t cells : List ℕ) (i : ℕ) where
     -- the rules of the cells from i on

@@ -1,7 +1,7 @@
 -- Laws of words and lines: what is said from a position on, word by word. A blank is passed; LF, a bar or the end ends it; a run of other bytes is a word.
 -- Assumes nothing.
 use mathlib.Core.Path.{_≡_, refl, sym, ap, ap₂, _∙_}
-use mathlib.Core.Bool.{Bool, true, false, cond, not, _||_, true≢false}
+use mathlib.Core.Bool.{Bool, true, false, cond, not, _&&_, _||_, true≢false}
 use mathlib.Core.List.{List, [], _∷_, _++_, append-nil}
 use Prim.Native.Nat.{ℕ, _+_, _-_, _≤_, _<_}
 use native.Mathlib.Omega.{arith}
@@ -9,11 +9,12 @@ use native.Mathlib.Nat.{add-zero}
 use lib.Dec.{eqb}
 use lib.ListN.{length, getD, take, drop, length-drop, length-append, drop-of-length-le}
 use lib.Seq.{take-append-seam, drop-drop, getD-drop}
-use borrow.Author.Tests.{eqb-true, not-true}
+use borrow.Author.Tests.{eqb-true, not-true, not-false}
 use Rattle.hl7.specs.Bytes.{all}
 use Rattle.hl7.specs.Cut.{ahead, cut, partAt}
 use Rattle.hl7.specs.Spans.{between, occurrences}
 use Rattle.hl7.specs.declared.cut.Span.{Span}
+use Rattle.grade.specs.Encoding.{each}
 use Rattle.hl7.proofs.Comparing.{and-both, or-neither, all-as, rest-at, occurs-more}
 use Rattle.booktext.specs.Lines.{lineFeed, bar, said, lineOf, blank, cutAt, filled, wordsIn}
 use Rattle.booktext.specs.Standing.{ends, dark, run, wordsFrom, spanBytes, NextWord}
@@ -348,3 +349,19 @@ line-more v i line {r} h e = by (eqb (getD v i 0) lineFeed) e (occurs-more lineF
 -- the measure of a loop over words
 pub words-fewer : {t : List ℕ} {at : ℕ} {r : Span} → NextWord t at r → r .start < r .end → length (wordsFrom t (r .end)) < length (wordsFrom t at)
 words-fewer n h = omega (arith, ap length (n .some h))
+
+-- ---- words that pass a test
+-- every word from a position on passes a test
+module _ (test : List ℕ → Bool) (t : List ℕ) (i : ℕ) {all : Bool} (passed : all ≡ each test (wordsFrom t i)) {w : Span} (n : NextWord t i w) where
+  pub words-all : w .end ≤ w .start → true ≡ all
+  words-all h = sym (passed ∙ ap (each test) (n .none h))
+
+  module _ (h : w .start < w .end) {b : Bool} (e : b ≡ test (spanBytes t w)) where
+    words-is : all ≡ (b && each test (wordsFrom t (w .end)))
+    words-is = passed ∙ ap (each test) (n .some h) ∙ ap (λ (x : Bool). x && each test (wordsFrom t (w .end))) (sym e)
+
+    pub words-not : not b ≡ true → false ≡ all
+    words-not g = sym (words-is ∙ ap (λ (x : Bool). x && each test (wordsFrom t (w .end))) (not-true b g))
+
+    pub words-later : not b ≡ false → all ≡ each test (wordsFrom t (w .end))
+    words-later g = words-is ∙ ap (λ (x : Bool). x && each test (wordsFrom t (w .end))) (not-false b g)

@@ -12,10 +12,11 @@ use Rattle.grade.specs.declared.rule.RuleRead.{RuleRead}
 use Rattle.booktext.specs.Lines.{Statement, word, says, makesRule, numberFrom, aSet, aSection, aCode, someSets, statements}
 use Rattle.booktext.specs.Words.{numberIn, placeIn, kindNumber, aCodeKind}
 use Rattle.booktext.specs.Meaning.{body, from, expand}
+use Rattle.booktext.specs.Changes.{settled, kept, added}
 
 -- ---- rules
 
--- the severity that `use` gives it, else its own
+-- the severity that `use` or `severity` gives it, else its own
 abbrev pub letterOf : Statement → ℕ
 letterOf s = cond (eqb (s .given) 0) (getD (word s 3) 0 0) (s .given)
 
@@ -77,11 +78,16 @@ codesAt (s ∷ ss) = drop 2 (s .words) ++ listed (body ss)
 unfoldable pub codesOf : List Statement → List ℕ → List (List ℕ)
 codesOf all name = codesAt (from aSet name all)
 
+-- those that it has in a section with some statements: what is left of its own, then what is added
+unfoldable pub held : List Statement → List Statement → List ℕ → List (List ℕ)
+held all ss name = kept name ss (codesOf all name) ++ added name ss
+
 -- ---- the book
 
 -- a section by its key and its statements after inclusion
 unfoldable pub contentsOf : List Statement → List ℕ → List Statement → Contents
-contentsOf all key ss = record { key = key; rules = rulesOf (namesOf ss) ss; sets = map (codesOf all) (namesOf ss) }
+contentsOf all key ss =
+    record { key = key; rules = rulesOf (namesOf (settled ss)) (settled ss); sets = map (held all ss) (namesOf (settled ss)) }
 
 -- the section whose head is s, with all that follows it
 abbrev pub sectionOf : List Statement → Statement → List Statement → Contents

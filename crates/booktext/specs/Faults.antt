@@ -1,5 +1,5 @@
 -- To be believed. What one statement may be refused for by itself: rows 33 to 42. Assumes nothing.
-use Prim.Native.Nat.{ℕ, _-_}
+use Prim.Native.Nat.{ℕ, suc, _-_}
 use mathlib.Core.Bool.{Bool, cond, not, _||_}
 use mathlib.Core.List.{List, [], _∷_}
 use lib.Dec.{eqb, leb}
@@ -8,7 +8,7 @@ use Rattle.hl7.specs.Text.{bytes}
 use Rattle.hl7.specs.Bytes.{within, same}
 use Rattle.grade.specs.Encoding.{each, textFits}
 use Rattle.grade.specs.Limits.{keyLimit, codeLimit}
-use Rattle.booktext.specs.Lines.{Statement, word, verb, ofRule, lineOf, aBook, aSet, aCommon, aSection, aCode, aUse, someSets}
+use Rattle.booktext.specs.Lines.{Statement, word, verb, ofRule, lineOf, ofPlace, ofCodes, aBook, aSet, aCommon, aSection, aCode, aUse, someSets, aSeverity, aBound, aDrop}
 use Rattle.booktext.specs.Words.{isPlace, isSeverityWord, kindNumber, boundFits}
 use Rattle.booktext.specs.declared.told.Told.{Told}
 
@@ -33,7 +33,7 @@ mayStand here v =
     cond (eqb v aBook) (eqb here 0)
     (cond (eqb v aCode) (eqb here aSet)
     (cond (eqb v aUse || eqb v someSets) (eqb here aSection)
-    (cond (ofRule v) (leb aCommon here)
+    (cond (ofPlace v || ofCodes v) (leb aCommon here)
     (leb aBook here))))
 
 -- where the next one stands
@@ -48,7 +48,11 @@ countRight v n =
     cond (ofRule v) (within 4 6 n)
     (cond (eqb v aUse) (within 2 3 n)
     (cond (eqb v aBook || eqb v aCommon || eqb v aSection) (eqb n 2)
-    (leb 2 n)))
+    (cond (eqb v aSeverity) (eqb n 4)
+    (cond (eqb v aBound) (within 4 5 n)
+    (cond (eqb v aDrop) (eqb n 3)
+    (cond (ofCodes v) (leb 3 n)
+    (leb 2 n)))))))
 
 abbrev pub versionRight : ℕ → List ℕ → Bool
 versionRight v w = not (eqb v aBook) || same w (bytes "1")
@@ -58,25 +62,30 @@ keyRight v w = not (eqb v aSection) || textFits keyLimit w
 
 -- the words that have to be codes
 abbrev pub codeWords : ℕ → List (List ℕ) → List (List ℕ)
-codeWords v words = cond (eqb v aCode) (drop 1 words) (cond (eqb v aSet) (drop 2 words) [])
+codeWords v words = cond (eqb v aCode) (drop 1 words) (cond (eqb v aSet || ofCodes v) (drop 2 words) [])
 
 unfoldable pub codesRight : ℕ → List (List ℕ) → Bool
 codesRight v words = each (textFits codeLimit) (codeWords v words)
 
 abbrev pub placeRight : ℕ → List ℕ → Bool
-placeRight v w = not (ofRule v) || isPlace w
+placeRight v w = not (ofPlace v) || isPlace w
 
 abbrev pub kindRight : ℕ → List ℕ → Bool
-kindRight v w = not (ofRule v) || leb 1 (kindNumber w)
+kindRight v w = not (ofPlace v) || leb 1 (kindNumber w)
 
--- the fourth word of a rule; the third of a `use` that has one
+-- the fourth word of a rule or a `severity`; the third of a `use` that has one
 abbrev pub severityRight : ℕ → ℕ → List ℕ → List ℕ → Bool
 severityRight v n third fourth =
-    cond (ofRule v) (isSeverityWord fourth)
+    cond (ofRule v || eqb v aSeverity) (isSeverityWord fourth)
     (not (eqb v aUse) || leb n 2 || isSeverityWord third)
 
+-- how many words stand before a bound: a rule has its severity there
+abbrev pub beforeBound : ℕ → ℕ
+beforeBound v = cond (eqb v aBound) 3 4
+
+-- the first two words of the bound
 abbrev pub boundRight : ℕ → ℕ → List ℕ → List ℕ → List ℕ → Bool
-boundRight v n kind low high = not (ofRule v) || boundFits (kindNumber kind) (n - 4) low high
+boundRight v n kind low high = not (ofRule v || eqb v aBound) || boundFits (kindNumber kind) (n - beforeBound v) low high
 
 -- ---- the first row that holds; 0 where none does
 
@@ -91,7 +100,7 @@ faultOf here s =
     (cond (not (placeRight (verb s) (word s 1))) 39
     (cond (not (kindRight (verb s) (word s 2))) 40
     (cond (not (severityRight (verb s) (length (s .words)) (word s 2) (word s 3))) 41
-    (cond (not (boundRight (verb s) (length (s .words)) (word s 2) (word s 4) (word s 5))) 42
+    (cond (not (boundRight (verb s) (length (s .words)) (word s 2) (word s (beforeBound (verb s))) (word s (suc (beforeBound (verb s)))))) 42
     0)))))))))
 
 -- of statements, the first that has one; each stands where the heads before it say

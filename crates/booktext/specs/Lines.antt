@@ -6,7 +6,7 @@ use mathlib.Core.List.{List, [], _∷_}
 use lib.Dec.{eqb}
 use lib.ListN.{length, getD, take}
 use Rattle.hl7.specs.Text.{bytes}
-use Rattle.hl7.specs.Bytes.{same}
+use Rattle.hl7.specs.Bytes.{same, within}
 use Rattle.hl7.specs.Cut.{ahead, cut, partAt}
 use Rattle.hl7.specs.Spans.{occurrences}
 
@@ -91,7 +91,8 @@ numberFrom n w (name ∷ names) = cond (same w name) n (numberFrom (suc n) w nam
 unfoldable pub verbs : List (List ℕ)
 verbs =
     bytes "book" ∷ bytes "set" ∷ bytes "common" ∷ bytes "section" ∷ bytes "code"
-    ∷ bytes "use" ∷ bytes "sets" ∷ bytes "rule" ∷ bytes "also" ∷ []
+    ∷ bytes "use" ∷ bytes "sets" ∷ bytes "rule" ∷ bytes "also" ∷ bytes "severity"
+    ∷ bytes "bound" ∷ bytes "drop" ∷ bytes "more" ∷ bytes "less" ∷ []
 
 abbrev pub aBook : ℕ
 aBook = 1
@@ -120,6 +121,21 @@ aRule = 8
 abbrev pub anAlso : ℕ
 anAlso = 9
 
+abbrev pub aSeverity : ℕ
+aSeverity = 10
+
+abbrev pub aBound : ℕ
+aBound = 11
+
+abbrev pub aDrop : ℕ
+aDrop = 12
+
+abbrev pub aMore : ℕ
+aMore = 13
+
+abbrev pub aLess : ℕ
+aLess = 14
+
 -- the first word names the statement; 0 for any other word
 unfoldable pub verbOf : List ℕ → ℕ
 verbOf w = numberFrom 1 w verbs
@@ -136,3 +152,11 @@ ofRule v = eqb v aRule || eqb v anAlso
 
 abbrev pub makesRule : Statement → Bool
 makesRule s = ofRule (verb s)
+
+-- it speaks of a place and a kind: a rule, or what changes one
+abbrev pub ofPlace : ℕ → Bool
+ofPlace v = within aRule aDrop v
+
+-- it changes the codes of a set
+abbrev pub ofCodes : ℕ → Bool
+ofCodes v = eqb v aMore || eqb v aLess

@@ -1,20 +1,20 @@
 -- To be believed. The refusals of a text in the order in which they are tried, and what compiling it answers. Assumes nothing.
-use Prim.Native.Nat.{ℕ, suc, _+_, _*_}
+use Prim.Native.Nat.{ℕ, suc, _+_}
 use mathlib.Core.Bool.{Bool, true, false, cond, not, _&&_, _||_}
-use mathlib.Core.List.{List, [], _∷_, _++_, map}
+use mathlib.Core.List.{List, [], _∷_, _++_}
 use lib.Dec.{eqb, leb, ltb}
 use lib.ListN.{length, drop}
-use Rattle.hl7.specs.Bytes.{within, isIn}
+use Rattle.hl7.specs.Bytes.{within, among}
 use Rattle.hl7.specs.Cut.{partAt}
 use Rattle.grade.specs.Book.{Contents}
 use Rattle.grade.specs.Encoding.{each, sectionBytes, bookBytes}
 use Rattle.grade.specs.Limits.{bookLimit, sectionLimit, ruleLimit, setLimit, codeCountLimit}
-use Rattle.grade.specs.declared.rule.Place.{Place}
-use Rattle.booktext.specs.Lines.{Statement, word, verb, says, makesRule, statements, lineOf, textLimit, lineFeed, cutAt, aSet, aCommon, aSection, aUse, someSets, aRule, anAlso}
-use Rattle.booktext.specs.Words.{placeIn, kindNumber}
+use Rattle.booktext.specs.Lines.{Statement, word, verb, says, makesRule, ofPlace, ofCodes, statements, lineOf, textLimit, lineFeed, cutAt, aSet, aCommon, aSection, aUse, someSets, aRule, aBound, aDrop, aMore, aLess}
+use Rattle.booktext.specs.Words.{kindNumber, aCodeKind}
 use Rattle.booktext.specs.Meaning.{body, from, expand}
-use Rattle.booktext.specs.Contents.{asksCode, namesOf, codesOf, sectionOf, meaning}
-use Rattle.booktext.specs.Faults.{tell, nothing, firstly, firstFault}
+use Rattle.booktext.specs.Changes.{spotOf, saysOf, namesCode, settled}
+use Rattle.booktext.specs.Contents.{namesOf, codesOf, held, sectionOf, meaning}
+use Rattle.booktext.specs.Faults.{tell, nothing, firstly, beforeBound, firstFault}
 use Rattle.booktext.specs.declared.told.Told.{Told}
 
 -- ---- rows 31 and 32: the text's bytes
@@ -53,11 +53,18 @@ isThere (s ∷ ss) = true
 abbrev pub isSet : List Statement → List ℕ → Bool
 isSet all name = isThere (from aSet name all)
 
+-- the name of the one set that it names: a rule or a `bound` of kind CODE, `more` and `less`
+abbrev pub namesSet : Statement → Bool
+namesSet s = ofCodes (verb s) || ((makesRule s || says aBound s) && eqb (kindNumber (word s 2)) aCodeKind)
+
+abbrev pub setNamed : Statement → List ℕ
+setNamed s = word s (cond (ofCodes (verb s)) 1 (beforeBound (verb s)))
+
 -- it names a common or a set that there is not
 unfoldable pub lacks : List Statement → Statement → Bool
 lacks all s =
     cond (says aUse s) (not (isThere (from aCommon (word s 1) all)))
-    (cond (asksCode s) (not (isSet all (word s 4)))
+    (cond (namesSet s) (not (isSet all (setNamed s)))
     (says someSets s && not (each (isSet all) (drop 1 (s .words)))))
 
 -- with so many sections before it
@@ -86,39 +93,55 @@ usedTwice t line after (s ∷ ss) = cond (says aUse s && not (isFirst after s)) 
 abbrev pub statementLimit : ℕ
 statementLimit = 2048
 
--- ---- rows 47 and 48: rules of one place and kind
+-- ---- rows 47 to 49: what stands before a statement
 
--- place and kind as one number: a field is at most 99, a component at most 20, a kind at most 6, so no two have the same
-abbrev pub spotNumber : Place → ℕ → ℕ
-spotNumber p kind = ((p .segment * 100 + p .field) * 21 + p .component) * 7 + kind
+-- whether something is there after some statements: the last that puts it there or takes it away decides, else what was so before them
+unfoldable pub there : (puts takes : Statement → Bool) → Bool → List Statement → Bool
+there puts takes so [] = so
+there puts takes so (x ∷ ss) = there puts takes (puts x || (not (takes x) && so)) ss
 
--- that of a rule; 0 for any other statement
-unfoldable pub spotOf : Statement → ℕ
-spotOf s = cond (makesRule s) (spotNumber (placeIn (word s 1)) (kindNumber (word s 2))) 0
+-- a rule of a place and kind
+abbrev pub rulesIt : ℕ → Statement → Bool
+rulesIt spot x = makesRule x && eqb (spotOf x) spot
 
--- a rule of its place and kind stands before it
-abbrev pub stands : List Statement → Statement → Bool
-stands before s = isIn (spotOf s) (map spotOf before)
+unfoldable pub stands : ℕ → List Statement → Bool
+stands spot before = there (rulesIt spot) (saysOf aDrop spot) false before
 
--- the row that holds of a statement with a verb, where one does or does not stand before it; 0 where none does
-abbrev pub ruleFault : ℕ → Bool → ℕ
-ruleFault v before =
-    cond (eqb v aRule && before) 47
-    (cond (eqb v anAlso && not before) 48
-    0)
+-- the set with a name has a code
+unfoldable pub hasCode : List Statement → List Statement → List ℕ → List ℕ → Bool
+hasCode all before name c = there (namesCode aMore name c) (namesCode aLess name c) (among c (codesOf all name)) before
 
-unfoldable pub firstRuleFault : List ℕ → ℕ → List Statement → List Statement → Told
-firstRuleFault t line before [] = nothing
-firstRuleFault t line before (s ∷ ss) =
-    cond (eqb (ruleFault (verb s) (stands before s)) 0) (firstRuleFault t line (before ++ (s ∷ [])) ss)
-    (tell (ruleFault (verb s) (stands before s)) (lineOf t (s .at)) line)
+-- `less` asks that a code is there, `more` that it is not
+abbrev pub codeAsked : List Statement → List Statement → Statement → List ℕ → Bool
+codeAsked all before s c = cond (says aLess s) (hasCode all before (word s 1) c) (not (hasCode all before (word s 1) c))
+
+-- the row that holds of a statement after some others; 0 where none does
+unfoldable pub ruleFault : List Statement → List Statement → Statement → ℕ
+ruleFault all before s =
+    cond (says aRule s && stands (spotOf s) before) 47
+    (cond (ofPlace (verb s) && not (says aRule s) && not (stands (spotOf s) before)) 48
+    (cond (ofCodes (verb s) && not (each (codeAsked all before s) (drop 2 (s .words)))) 49
+    0))
+
+unfoldable pub firstRuleFault : List ℕ → List Statement → ℕ → List Statement → List Statement → Told
+firstRuleFault t all line before [] = nothing
+firstRuleFault t all line before (s ∷ ss) =
+    cond (eqb (ruleFault all before s) 0) (firstRuleFault t all line (before ++ (s ∷ [])) ss)
+    (tell (ruleFault all before s) (lineOf t (s .at)) line)
+
+-- ---- row 52: a change of a set that the section does not hold
+
+unfoldable pub firstStray : List ℕ → ℕ → List (List ℕ) → List Statement → Told
+firstStray t line names [] = nothing
+firstStray t line names (s ∷ ss) =
+    cond (ofCodes (verb s) && not (among (word s 1) names)) (tell 52 (lineOf t (s .at)) line) (firstStray t line names ss)
 
 -- ---- row 53: a set without a code, or with over 1,024
 
-unfoldable pub firstBadSet : List ℕ → ℕ → List Statement → List (List ℕ) → Told
-firstBadSet t line all [] = nothing
-firstBadSet t line all (name ∷ names) =
-    cond (within 1 codeCountLimit (length (codesOf all name))) (firstBadSet t line all names)
+unfoldable pub firstBadSet : List ℕ → ℕ → List Statement → List Statement → List (List ℕ) → Told
+firstBadSet t line all ss [] = nothing
+firstBadSet t line all ss (name ∷ names) =
+    cond (within 1 codeCountLimit (length (held all ss name))) (firstBadSet t line all ss names)
     (tell 53 (lineOf t (atOf (from aSet name all))) line)
 
 -- ---- a section, in a book that has so many bytes before it
@@ -132,14 +155,15 @@ abbrev pub sizesTold : List ℕ → List Statement → ℕ → ℕ → Contents 
 sizesTold t all size line c ss =
     firstly (over 50 line (ltb ruleLimit (length (c .rules))))
     (firstly (over 51 line (ltb setLimit (length (c .sets))))
-    (firstly (firstBadSet t line all (namesOf ss))
-    (over 54 line (ltb bookLimit (size + length (sectionBytes c))))))
+    (firstly (firstStray t line (namesOf (settled ss)) ss)
+    (firstly (firstBadSet t line all ss (namesOf (settled ss)))
+    (over 54 line (ltb bookLimit (size + length (sectionBytes c)))))))
 
 unfoldable pub sectionTold : List ℕ → List Statement → ℕ → Statement → List Statement → Told
 sectionTold t all size s after =
     firstly (usedTwice t (lineOf t (s .at)) after (body after))
     (firstly (over 56 (lineOf t (s .at)) (ltb statementLimit (length (expand all (body after)))))
-    (firstly (firstRuleFault t (lineOf t (s .at)) [] (expand all (body after)))
+    (firstly (firstRuleFault t all (lineOf t (s .at)) [] (expand all (body after)))
     (sizesTold t all size (lineOf t (s .at)) (sectionOf all s after) (expand all (body after)))))
 
 unfoldable pub sectionsTold : List ℕ → List Statement → ℕ → List Statement → Told

@@ -1,6 +1,6 @@
 -- Inner: only contracts inside the crate use these names; nothing here has to be believed.
 -- A statement by the position of its line, what is still to come from a position on, and what is noted of a section. Assumes nothing.
-use Prim.Native.Nat.{ℕ, _+_, _/_, _%_, _≤_, _<_}
+use Prim.Native.Nat.{ℕ, suc, _+_, _-_, _*_, _/_, _%_, _≤_, _<_, min}
 use mathlib.Core.Path.{_≡_}
 use mathlib.Core.Bool.{Bool, true, cond, not, _&&_, _||_}
 use mathlib.Core.List.{List, [], _∷_, _++_, map}
@@ -11,18 +11,21 @@ use Rattle.hl7.specs.Cut.{partAt, endFrom}
 use Rattle.hl7.specs.Spans.{between, partsFrom}
 use Rattle.hl7.specs.declared.cut.Span.{Span}
 use Rattle.ack.specs.Splice.{Wrote}
-use Rattle.booktext.specs.Lines.{Statement, lineFeed, bar, blank, cutAt, wordsIn, statementsFrom, statements, word, verb, aSet, aSection}
+use Rattle.booktext.specs.Lines.{Statement, lineFeed, bar, blank, cutAt, wordsIn, statementsFrom, statements, word, verb, makesRule, aSet, aSection}
 use Rattle.booktext.specs.Meaning.{body, isOf, from}
 use Rattle.booktext.specs.Words.{isSeverity, aLength, aTime, aCodeKind}
+use Rattle.booktext.specs.Changes.{spotOf, bind}
 use Rattle.booktext.specs.Contents.{rulesOf, withNames}
-use Rattle.booktext.specs.Faults.{countRight, keyRight, codesRight, placeRight, kindRight, severityRight, boundRight, tell}
+use Rattle.booktext.specs.Faults.{countRight, keyRight, codesRight, placeRight, kindRight, severityRight, beforeBound, boundRight, tell}
 use Rattle.booktext.specs.Refusals.{statementLimit, compiled}
+use Rattle.grade.specs.Encoding.{spellAll, textBytes}
 use Rattle.grade.specs.Limits.{bookLimit}
 use Rattle.grade.specs.Rule.{nameBytes, severityOf}
 use Rattle.grade.specs.declared.rule.Place.{Place}
 use Rattle.booktext.specs.declared.told.Told.{Told}
 use Rattle.booktext.specs.declared.names.Names.{Names}
 use Rattle.booktext.specs.declared.sets.Put.{Put}
+use Rattle.booktext.specs.declared.sets.Run.{Run}
 
 -- ---- words from a position on
 
@@ -102,7 +105,7 @@ lateFault v n words =
     (cond (not (placeRight v (getD words 1 []))) 39
     (cond (not (kindRight v (getD words 2 []))) 40
     (cond (not (severityRight v n (getD words 2 []) (getD words 3 []))) 41
-    (cond (not (boundRight v n (getD words 2 []) (getD words 4 []) (getD words 5 []))) 42
+    (cond (not (boundRight v n (getD words 2 []) (getD words (beforeBound v) []) (getD words (suc (beforeBound v)) []))) 42
     0))))
 
 -- its words are right, wherever it stands
@@ -114,7 +117,7 @@ sound s =
     && placeRight (verb s) (word s 1)
     && kindRight (verb s) (word s 2)
     && severityRight (verb s) (length (s .words)) (word s 2) (word s 3)
-    && boundRight (verb s) (length (s .words)) (word s 2) (word s 4) (word s 5)
+    && boundRight (verb s) (length (s .words)) (word s 2) (word s (beforeBound (verb s))) (word s (suc (beforeBound (verb s))))
 
 -- and the severity that it was given is one
 unfoldable pub ready : Statement → Bool
@@ -122,9 +125,24 @@ ready s = sound s && (eqb (s .given) 0 || isSeverity (severityOf (s .given)))
 
 -- ---- a section's statements, noted
 
--- a statement as one number: its position and the severity it was given
-abbrev pub noted : List ℕ → ℕ → Statement
-noted t cell = statementAt t (cell / 256) (cell % 256)
+-- A statement as one number: from low to high the severity that it was given, the position of its line, and where another line has its bound one more than
+-- that line's position, else 0. A text's positions are below 2^21.
+abbrev pub lineIn : ℕ → ℕ
+lineIn cell = cell / 256 % 2097152
+
+abbrev pub boundIn : ℕ → ℕ
+boundIn cell = cell / 256 / 2097152
+
+-- a rule with the bound of another line, which has it after three words
+abbrev pub boundBy : List ℕ → ℕ → Statement → Statement
+boundBy t b s = cond (makesRule s && leb 1 b) (bind (drop 3 (wordsFrom t (b - 1))) s) s
+
+unfoldable pub noted : List ℕ → ℕ → Statement
+noted t cell = boundBy t (boundIn cell) (statementAt t (lineIn cell) (cell % 256))
+
+-- place, kind and verb of a statement as one number
+abbrev pub markOf : Statement → ℕ
+markOf s = spotOf s * 16 + verb s
 
 -- so many cells hold the statements, or there are too many of them
 pub record Holds (t cells : List ℕ) (count : ℕ) (ss : List Statement) : Type 0 where
@@ -138,6 +156,10 @@ NotesMore t before count after r more = (ss : List Statement) → Holds t before
 -- r is how many rules they make, whatever sets the section holds
 abbrev pub CountsRules : List Statement → ℕ → Type 0
 CountsRules ss r = (names : List (List ℕ)) → r ≡ length (rulesOf names ss)
+
+-- the marks of statements
+abbrev pub Marks : List Statement → List ℕ → Type 0
+Marks ss marks = marks ≡ map markOf ss
 
 -- ---- names of sets
 
@@ -172,6 +194,11 @@ placeBytes p = nameBytes (p .segment) ++ (p .field ∷ p .component ∷ [])
 abbrev pub boundBytes : ℕ → ℕ → ℕ → ℕ → List ℕ
 boundBytes kind set low high =
     cond (eqb kind aCodeKind) set 0 ∷ cond (eqb kind aLength || eqb kind aTime) low 0 ∷ cond (eqb kind aLength) high 0 ∷ []
+
+-- codes were written behind some others, of which there were so many; counted up to one more than a set may have
+pub record Spelt (codes : List (List ℕ)) (before : List ℕ) (from : Run) (after : List ℕ) (r : Run) : Type 0 where
+  pub wrote : Wrote before (from .at) (spellAll textBytes codes) after (r .at)
+  pub counted : r .count ≡ min (from .count + length codes) 1025
 
 -- ---- what a part of a book was made to be
 

@@ -1,4 +1,7 @@
 // A text made into a book.
+use crate::before::first_rule_fault;
+use crate::cell::note_marks;
+use crate::change::settle;
 use crate::fault::bytes_told;
 use crate::fault::first_fault;
 use crate::heads::HEAD_LIMIT;
@@ -10,13 +13,12 @@ use crate::names::SET_LIMIT;
 use crate::names::names_of;
 use crate::refer::first_name_fault;
 use crate::rules::count_rules;
-use crate::rules::first_rule_fault;
-use crate::rules::note_spots;
 use crate::rules::put_rules;
 use crate::section::STATEMENT_LIMIT;
 use crate::section::note_section;
 use crate::section::used_twice;
 use crate::sets::Put;
+use crate::sets::first_stray;
 use crate::sets::put_sets;
 use crate::sets::put_text;
 use crate::sets::put_two;
@@ -40,10 +42,11 @@ ghost use Rattle.grade.specs.Encoding.{each, spellAll, textBytes, twoBytesOf, r
 ghost use Rattle.grade.specs.Limits.{bookLimit};
 ghost use Rattle.ack.specs.Splice.{Wrote};
 ghost use Rattle.booktext.specs.Lines.{statements, says, lineOf, textLimit, aSection};
+ghost use Rattle.booktext.specs.Changes.{settled};
 ghost use Rattle.booktext.specs.Contents.{rulesOf, contentsOf, sectionOf, sectionsIn, meaning};
 ghost use Rattle.booktext.specs.Faults.{tell, nothing, firstly};
 ghost use Rattle.booktext.specs.Refusals.{statementLimit, firstRuleFault, sizesTold, sectionTold, sectionsTold, namedTold, refusal, compileOf};
-ghost use Rattle.booktext.specs.Standing.{wordsFrom, statementAt, nextLine, left, sound, ready, noted, namesIn, Puts, Heads, MakesBy};
+ghost use Rattle.booktext.specs.Standing.{wordsFrom, statementAt, nextLine, left, sound, ready, noted, Marks, namesIn, Puts, Heads, MakesBy};
 
 // A refusal, with nothing more written.
 fn refused(told: Told, at: usize) -> Put
@@ -80,7 +83,7 @@ fn put_front(
     put_rules(out, fourth, t, cells, names)
 }
 
-// Rows 50 to 54 of a section whose statements are noted, and its bytes.
+// Rows 50 to 54 of a section whose statements are noted, and settled, and its bytes.
 fn put_section(
     out: &mut [u8],
     at: usize,
@@ -89,20 +92,26 @@ fn put_section(
     rest: usize,
     head: usize,
     cells: &[usize],
+    marks: &[usize],
+    lasting: &[usize],
 ) -> Put
-    requires { ⌜ Heads (now t) (now heads) rest × (each sound (statements (now t)) ≡ true) × (each ready (map (noted (now t)) (now cells)) ≡ true) × (length (getD (wordsFrom (now t) head) 1 []) ≤ 255) ⌝ }
+    requires { ⌜ Heads (now t) (now heads) rest × (each sound (statements (now t)) ≡ true) × (each ready (map (noted (now t)) (now cells)) ≡ true) × Marks (map (noted (now t)) (now cells)) (now marks) × (map (noted (now t)) (now lasting) ≡ settled (map (noted (now t)) (now cells))) × (length (getD (wordsFrom (now t) head) 1 []) ≤ 255) ⌝ }
     ensures { λ r. ⌜ Puts (sizesTold (now (t .entry)) (statements (now (t .entry))) at (lineOf (now (t .entry)) head) (contentsOf (statements (now (t .entry))) (getD (wordsFrom (now (t .entry)) head) 1 []) (map (noted (now (t .entry))) (now (cells .entry)))) (map (noted (now (t .entry))) (now (cells .entry)))) (sectionBytes (contentsOf (statements (now (t .entry))) (getD (wordsFrom (now (t .entry)) head) 1 []) (map (noted (now (t .entry))) (now (cells .entry))))) (now (out .entry)) at (now (out .exit)) r ⌝ }
 {
-    let rules = count_rules(t, cells);
+    let rules = count_rules(t, lasting);
     if RULE_LIMIT < rules {
         return over(t, 50, head, at);
     }
-    let names = names_of(t, cells);
+    let names = names_of(t, lasting);
     if SET_LIMIT < names.count {
         return over(t, 51, head, at);
     }
-    let next = put_front(out, at, t, head, cells, names, rules);
-    let sets = put_sets(out, next, t, heads, rest, head, names);
+    let stray = first_stray(t, head, cells, marks, names);
+    if stray.number != 0 {
+        return refused(stray, at);
+    }
+    let next = put_front(out, at, t, head, lasting, names, rules);
+    let sets = put_sets(out, next, t, heads, rest, head, cells, marks, names);
     if sets.told.number != 0 {
         return sets;
     }
@@ -112,7 +121,7 @@ fn put_section(
     sets
 }
 
-// Rows 47 and 48, then the others.
+// Rows 47 to 49, then the others; the statements are settled in between.
 fn check_section(
     out: &mut [u8],
     at: usize,
@@ -121,17 +130,28 @@ fn check_section(
     rest: usize,
     head: usize,
     cells: &[usize],
-    spots: &mut [usize],
+    marks: &[usize],
+    lasting: &mut [usize],
 ) -> Put
-    requires { ⌜ Heads (now t) (now heads) rest × (each sound (statements (now t)) ≡ true) × (each ready (map (noted (now t)) (now cells)) ≡ true) × (length (getD (wordsFrom (now t) head) 1 []) ≤ 255) × (length (now cells) ≤ length (now spots)) ⌝ }
-    ensures { λ r. ⌜ Puts (firstly (firstRuleFault (now (t .entry)) (lineOf (now (t .entry)) head) [] (map (noted (now (t .entry))) (now (cells .entry)))) (sizesTold (now (t .entry)) (statements (now (t .entry))) at (lineOf (now (t .entry)) head) (contentsOf (statements (now (t .entry))) (getD (wordsFrom (now (t .entry)) head) 1 []) (map (noted (now (t .entry))) (now (cells .entry)))) (map (noted (now (t .entry))) (now (cells .entry))))) (sectionBytes (contentsOf (statements (now (t .entry))) (getD (wordsFrom (now (t .entry)) head) 1 []) (map (noted (now (t .entry))) (now (cells .entry))))) (now (out .entry)) at (now (out .exit)) r ⌝ }
+    requires { ⌜ Heads (now t) (now heads) rest × (each sound (statements (now t)) ≡ true) × (each ready (map (noted (now t)) (now cells)) ≡ true) × Marks (map (noted (now t)) (now cells)) (now marks) × (length (now cells) ≤ statementLimit) × (length (now lasting) ≡ statementLimit) × (length (getD (wordsFrom (now t) head) 1 []) ≤ 255) ⌝ }
+    ensures { λ r. ⌜ Puts (firstly (firstRuleFault (now (t .entry)) (statements (now (t .entry))) (lineOf (now (t .entry)) head) [] (map (noted (now (t .entry))) (now (cells .entry)))) (sizesTold (now (t .entry)) (statements (now (t .entry))) at (lineOf (now (t .entry)) head) (contentsOf (statements (now (t .entry))) (getD (wordsFrom (now (t .entry)) head) 1 []) (map (noted (now (t .entry))) (now (cells .entry)))) (map (noted (now (t .entry))) (now (cells .entry))))) (sectionBytes (contentsOf (statements (now (t .entry))) (getD (wordsFrom (now (t .entry)) head) 1 []) (map (noted (now (t .entry))) (now (cells .entry))))) (now (out .entry)) at (now (out .exit)) r ⌝ }
 {
-    note_spots(t, cells, spots);
-    let fault = first_rule_fault(t, head, cells, spots);
+    let fault = first_rule_fault(t, heads, rest, head, cells, marks);
     if fault.number != 0 {
         return refused(fault, at);
     }
-    put_section(out, at, t, heads, rest, head, cells)
+    let count = settle(t, cells, marks, lasting);
+    put_section(
+        out,
+        at,
+        t,
+        heads,
+        rest,
+        head,
+        cells,
+        marks,
+        &lasting[..count],
+    )
 }
 
 // All rows of the section with a head, and its bytes.
@@ -143,9 +163,10 @@ fn make_section(
     rest: usize,
     head: usize,
     cells: &mut [usize],
-    spots: &mut [usize],
+    marks: &mut [usize],
+    lasting: &mut [usize],
 ) -> Put
-    requires { ⌜ Heads (now t) (now heads) rest × (length (now t) ≤ textLimit) × (head ≤ length (now t)) × (says aSection (statementAt (now t) head 0) ≡ true) × (each sound (statements (now t)) ≡ true) × (each sound (statementAt (now t) head 0 ∷ left (now t) (nextLine (now t) head)) ≡ true) × (length (now cells) ≡ statementLimit) × (length (now spots) ≡ statementLimit) ⌝ }
+    requires { ⌜ Heads (now t) (now heads) rest × (length (now t) ≤ textLimit) × (head ≤ length (now t)) × (says aSection (statementAt (now t) head 0) ≡ true) × (each sound (statements (now t)) ≡ true) × (each sound (statementAt (now t) head 0 ∷ left (now t) (nextLine (now t) head)) ≡ true) × (length (now cells) ≡ statementLimit) × (length (now marks) ≡ statementLimit) × (length (now lasting) ≡ statementLimit) ⌝ }
     ensures { λ r. ⌜ Puts (sectionTold (now (t .entry)) (statements (now (t .entry))) at (statementAt (now (t .entry)) head 0) (left (now (t .entry)) (nextLine (now (t .entry)) head))) (sectionBytes (sectionOf (statements (now (t .entry))) (statementAt (now (t .entry)) head 0) (left (now (t .entry)) (nextLine (now (t .entry)) head)))) (now (out .entry)) at (now (out .exit)) r ⌝ }
 {
     let start = next_line(t, head);
@@ -157,7 +178,18 @@ fn make_section(
     if STATEMENT_LIMIT < count {
         return over(t, 56, head, at);
     }
-    check_section(out, at, t, heads, rest, head, &cells[..count], spots)
+    note_marks(t, &cells[..count], marks);
+    check_section(
+        out,
+        at,
+        t,
+        heads,
+        rest,
+        head,
+        &cells[..count],
+        &marks[..count],
+        lasting,
+    )
 }
 
 // A section where the statement is one, else nothing.
@@ -169,13 +201,14 @@ fn make_any(
     rest: usize,
     line: usize,
     cells: &mut [usize],
-    spots: &mut [usize],
+    marks: &mut [usize],
+    lasting: &mut [usize],
 ) -> Put
-    requires { ⌜ Heads (now t) (now heads) rest × (length (now t) ≤ textLimit) × (line ≤ length (now t)) × (each sound (statements (now t)) ≡ true) × (each sound (statementAt (now t) line 0 ∷ left (now t) (nextLine (now t) line)) ≡ true) × (length (now cells) ≡ statementLimit) × (length (now spots) ≡ statementLimit) ⌝ }
+    requires { ⌜ Heads (now t) (now heads) rest × (length (now t) ≤ textLimit) × (line ≤ length (now t)) × (each sound (statements (now t)) ≡ true) × (each sound (statementAt (now t) line 0 ∷ left (now t) (nextLine (now t) line)) ≡ true) × (length (now cells) ≡ statementLimit) × (length (now marks) ≡ statementLimit) × (length (now lasting) ≡ statementLimit) ⌝ }
     ensures { λ r. ⌜ Puts (cond (says aSection (statementAt (now (t .entry)) line 0)) (sectionTold (now (t .entry)) (statements (now (t .entry))) at (statementAt (now (t .entry)) line 0) (left (now (t .entry)) (nextLine (now (t .entry)) line))) nothing) (cond (says aSection (statementAt (now (t .entry)) line 0)) (sectionBytes (sectionOf (statements (now (t .entry))) (statementAt (now (t .entry)) line 0) (left (now (t .entry)) (nextLine (now (t .entry)) line)))) []) (now (out .entry)) at (now (out .exit)) r ⌝ }
 {
     if verb_at(t, line) == SECTION {
-        return make_section(out, at, t, heads, rest, line, cells, spots);
+        return make_section(out, at, t, heads, rest, line, cells, marks, lasting);
     }
     refused(nothing(), put(out, at, b""))
 }
@@ -188,15 +221,16 @@ fn make_sections(
     heads: &[usize],
     rest: usize,
     cells: &mut [usize],
-    spots: &mut [usize],
+    marks: &mut [usize],
+    lasting: &mut [usize],
 ) -> Put
-    requires { ⌜ Heads (now t) (now heads) rest × (at ≤ bookLimit) × (length (now t) ≤ textLimit) × (each sound (statements (now t)) ≡ true) × (length (now cells) ≡ statementLimit) × (length (now spots) ≡ statementLimit) ⌝ }
+    requires { ⌜ Heads (now t) (now heads) rest × (at ≤ bookLimit) × (length (now t) ≤ textLimit) × (each sound (statements (now t)) ≡ true) × (length (now cells) ≡ statementLimit) × (length (now marks) ≡ statementLimit) × (length (now lasting) ≡ statementLimit) ⌝ }
     ensures { λ r. ⌜ Puts (sectionsTold (now (t .entry)) (statements (now (t .entry))) at (statements (now (t .entry)))) (spellAll sectionBytes (sectionsIn (statements (now (t .entry))) (statements (now (t .entry))))) (now (out .entry)) at (now (out .exit)) r ⌝ }
 {
     let mut to = at;
     let mut line = next_statement(t, 0);
     while line <= t.len() {
-        let one = make_any(out, to, t, heads, rest, line, cells, spots);
+        let one = make_any(out, to, t, heads, rest, line, cells, marks, lasting);
         if one.told.number != 0 {
             return one;
         }
@@ -212,11 +246,21 @@ fn make_book(out: &mut [u8], t: &[u8], heads: &[usize], rest: usize, sections: u
     ensures { λ r. ⌜ Puts (sectionsTold (now (t .entry)) (statements (now (t .entry))) 6 (statements (now (t .entry)))) (bookBytes (meaning (now (t .entry)))) (now (out .entry)) 0 (now (out .exit)) r ⌝ }
 {
     let mut cells = [0usize; STATEMENT_LIMIT];
-    let mut spots = [0usize; STATEMENT_LIMIT];
+    let mut marks = [0usize; STATEMENT_LIMIT];
+    let mut lasting = [0usize; STATEMENT_LIMIT];
     let second = put(out, 0, b"VXB");
     let third = put_two(out, second, 1);
     let fourth = put_byte(out, third, sections as u8);
-    make_sections(out, fourth, t, heads, rest, &mut cells, &mut spots)
+    make_sections(
+        out,
+        fourth,
+        t,
+        heads,
+        rest,
+        &mut cells,
+        &mut marks,
+        &mut lasting,
+    )
 }
 
 // Rows 31 to 54 and 56. Where none holds, the book stands in the first bytes of the place, and the detail is its length.

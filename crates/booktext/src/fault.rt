@@ -13,15 +13,21 @@ use crate::told::Told;
 use crate::told::nothing;
 use crate::told::tell;
 use crate::word::BOOK;
+use crate::word::BOUND;
 use crate::word::CODE;
 use crate::word::COMMON;
+use crate::word::DROP;
 use crate::word::SECTION;
 use crate::word::SET;
 use crate::word::SETS;
+use crate::word::SEVERITY;
 use crate::word::USE;
+use crate::word::before_bound;
 use crate::word::bound_fits;
 use crate::word::either;
+use crate::word::is_codes;
 use crate::word::is_place;
+use crate::word::is_placed;
 use crate::word::is_rule;
 use crate::word::is_severity_word;
 use crate::word::is_text;
@@ -31,10 +37,13 @@ use hl7::bytes::is_within;
 use hl7::bytes::pick;
 use hl7::bytes::same_bytes;
 ghost use mathlib.Core.Path.{_≡_};
+ghost use mathlib.Core.Bool.{cond};
+ghost use lib.Dec.{eqb, leb};
+ghost use Rattle.hl7.specs.Bytes.{within};
 ghost use Rattle.grade.specs.Encoding.{each, textFits};
 ghost use Rattle.booktext.specs.Faults.{mayStand, inside, countRight, versionRight, keyRight, codesRight, placeRight, kindRight, severityRight, boundRight, faultOf, firstFault};
 ghost use Rattle.booktext.specs.Refusals.{allowed, wrongAt, bytesTold};
-ghost use Rattle.booktext.specs.Lines.{statements};
+ghost use Rattle.booktext.specs.Lines.{statements, ofCodes, aSeverity, aBound, aDrop};
 ghost use Rattle.booktext.specs.Standing.{wordsFrom, statementAt, lateFault};
 
 // The longest text, in bytes.
@@ -79,7 +88,8 @@ pub(crate) fn bytes_told(t: &[u8]) -> Told
 fn may_stand(here: u8, verb: u8) -> bool
     ensures { λ r. ⌜ r ≡ mayStand here verb ⌝ }
 {
-    let others = either(is_rule(verb), COMMON <= here, BOOK <= here);
+    let placed = is_placed(verb) | is_codes(verb);
+    let others = either(placed, COMMON <= here, BOOK <= here);
     let inner = either((verb == USE) | (verb == SETS), here == SECTION, others);
     either(
         verb == BOOK,
@@ -88,15 +98,22 @@ fn may_stand(here: u8, verb: u8) -> bool
     )
 }
 
+// How many words there may be where a verb is no head, no use and no rule.
+fn change_right(verb: u8, n: usize) -> bool
+    ensures { λ r. ⌜ r ≡ cond (eqb verb aSeverity) (eqb n 4) (cond (eqb verb aBound) (within 4 5 n) (cond (eqb verb aDrop) (eqb n 3) (cond (ofCodes verb) (leb 3 n) (leb 2 n)))) ⌝ }
+{
+    let codes = either(is_codes(verb), 3 <= n, 2 <= n);
+    let dropped = either(verb == DROP, n == 3, codes);
+    let bounded = either(verb == BOUND, (4 <= n) & (n <= 5), dropped);
+    either(verb == SEVERITY, n == 4, bounded)
+}
+
 fn count_right(verb: u8, n: usize) -> bool
     ensures { λ r. ⌜ r ≡ countRight verb n ⌝ }
 {
-    let named = either(
-        (verb == BOOK) | (verb == COMMON) | (verb == SECTION),
-        n == 2,
-        2 <= n,
-    );
-    let used = either(verb == USE, (2 <= n) & (n <= 3), named);
+    let named = (verb == BOOK) | (verb == COMMON) | (verb == SECTION);
+    let others = either(named, n == 2, change_right(verb, n));
+    let used = either(verb == USE, (2 <= n) & (n <= 3), others);
     either(is_rule(verb), (4 <= n) & (n <= 6), used)
 }
 
@@ -135,7 +152,7 @@ fn codes_right(t: &[u8], at: usize, verb: u8) -> bool
     if verb == CODE {
         return all_codes(t, skip_words(t, at, 1));
     }
-    if verb == SET {
+    if (verb == SET) | is_codes(verb) {
         return all_codes(t, skip_words(t, at, 2));
     }
     true
@@ -144,26 +161,28 @@ fn codes_right(t: &[u8], at: usize, verb: u8) -> bool
 fn place_right(verb: u8, w: &[u8]) -> bool
     ensures { λ r. ⌜ r ≡ placeRight verb (now (w .entry)) ⌝ }
 {
-    !is_rule(verb) | is_place(w)
+    !is_placed(verb) | is_place(w)
 }
 
 fn kind_right(verb: u8, w: &[u8]) -> bool
     ensures { λ r. ⌜ r ≡ kindRight verb (now (w .entry)) ⌝ }
 {
-    !is_rule(verb) | (1 <= kind_number(w))
+    !is_placed(verb) | (1 <= kind_number(w))
 }
 
 fn severity_right(verb: u8, n: usize, third: &[u8], fourth: &[u8]) -> bool
     ensures { λ r. ⌜ r ≡ severityRight verb n (now (third .entry)) (now (fourth .entry)) ⌝ }
 {
     let of_use = (verb != USE) | (n <= 2) | is_severity_word(third);
-    either(is_rule(verb), is_severity_word(fourth), of_use)
+    let fourth_word = is_rule(verb) | (verb == SEVERITY);
+    either(fourth_word, is_severity_word(fourth), of_use)
 }
 
 fn bound_right(verb: u8, n: usize, kind: &[u8], low: &[u8], high: &[u8]) -> bool
     ensures { λ r. ⌜ r ≡ boundRight verb n (now (kind .entry)) (now (low .entry)) (now (high .entry)) ⌝ }
 {
-    !is_rule(verb) | bound_fits(kind_number(kind), minus(n, 4), low, high)
+    let count = minus(n, before_bound(verb));
+    !(is_rule(verb) | (verb == BOUND)) | bound_fits(kind_number(kind), count, low, high)
 }
 
 // The first row of 38 to 42 that holds.
@@ -172,7 +191,10 @@ fn late_fault(t: &[u8], at: usize, verb: u8, n: usize) -> usize
 {
     let kind = word_of(t, at, 2);
     let severe = severity_right(verb, n, kind, word_of(t, at, 3));
-    let bounded = bound_right(verb, n, kind, word_of(t, at, 4), word_of(t, at, 5));
+    let start = before_bound(verb);
+    let low = word_of(t, at, start);
+    let high = word_of(t, at, start + 1);
+    let bounded = bound_right(verb, n, kind, low, high);
     let last = pick(
         !kind_right(verb, kind),
         40,

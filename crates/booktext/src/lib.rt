@@ -1,4 +1,7 @@
 // Rule books as text.
+pub(crate) mod before;
+pub mod cell;
+pub mod change;
 pub mod compile;
 pub(crate) mod fault;
 pub mod heads;

@@ -1,10 +1,15 @@
 // The names of the sets that a section holds, in their order: where each stands in the text. Names are compared by their bytes.
+use crate::cell::bound_at;
+use crate::cell::line_in;
 use crate::line::next_word;
 use crate::line::part;
 use crate::line::skip_words;
-use crate::refer::asks_code;
+use crate::line::word_of;
 use crate::statement::verb_at;
+use crate::word::CODE_KIND;
 use crate::word::SETS;
+use crate::word::is_rule;
+use crate::word::kind_number;
 use hl7::bytes::same_bytes;
 use hl7::cut::Span;
 ghost use mathlib.Core.Path.{_≡_};
@@ -12,7 +17,7 @@ ghost use mathlib.Core.List.{[], _∷_, map};
 ghost use Prim.Native.Nat.{_<_, _≤_};
 ghost use lib.ListN.{length, getD};
 ghost use Rattle.booktext.specs.Lines.{numberFrom};
-ghost use Rattle.booktext.specs.Contents.{withNames, pinned, named, namesOf};
+ghost use Rattle.booktext.specs.Contents.{withNames, pinned, asksCode, named, namesOf};
 ghost use Rattle.booktext.specs.Standing.{noSpan, spanBytes, wordsFrom, statementAt, noted, namesIn, Names64, NamesMore};
 
 // The most sets of a section.
@@ -102,23 +107,31 @@ fn note_words(t: &[u8], names: Names, at: usize) -> Names
 }
 
 // The names with those of a statement's `sets`.
-fn note_sets(t: &[u8], names: Names, at: usize) -> Names
+fn note_sets(t: &[u8], names: Names, cell: usize) -> Names
     requires { ⌜ length (names .spans) ≡ 64 ⌝ }
-    ensures { λ r. ⌜ NamesMore (now (t .entry)) names r (pinned (statementAt (now (t .entry)) at 0 ∷ [])) ⌝ }
+    ensures { λ r. ⌜ NamesMore (now (t .entry)) names r (pinned (noted (now (t .entry)) cell ∷ [])) ⌝ }
 {
-    if verb_at(t, at) == SETS {
-        return note_words(t, names, skip_words(t, at, 1));
+    let line = line_in(cell);
+    if verb_at(t, line) == SETS {
+        return note_words(t, names, skip_words(t, line, 1));
     }
     names
 }
 
-// The names with the one that a rule of kind CODE gives.
-fn note_code(t: &[u8], names: Names, at: usize) -> Names
-    requires { ⌜ length (names .spans) ≡ 64 ⌝ }
-    ensures { λ r. ⌜ NamesMore (now (t .entry)) names r (named (statementAt (now (t .entry)) at 0 ∷ [])) ⌝ }
+// Whether it is a rule of kind CODE.
+fn asks_code(t: &[u8], at: usize) -> bool
+    ensures { λ r. ⌜ r ≡ asksCode (statementAt (now (t .entry)) at 0) ⌝ }
 {
-    if asks_code(t, at) {
-        return note_name(t, names, next_word(t, skip_words(t, at, 4)));
+    is_rule(verb_at(t, at)) & (kind_number(word_of(t, at, 2)) == CODE_KIND)
+}
+
+// The names with the one that a rule of kind CODE gives.
+fn note_code(t: &[u8], names: Names, cell: usize) -> Names
+    requires { ⌜ length (names .spans) ≡ 64 ⌝ }
+    ensures { λ r. ⌜ NamesMore (now (t .entry)) names r (named (noted (now (t .entry)) cell ∷ [])) ⌝ }
+{
+    if asks_code(t, line_in(cell)) {
+        return note_name(t, names, next_word(t, bound_at(t, cell)));
     }
     names
 }
@@ -130,7 +143,7 @@ fn pinned_names(t: &[u8], cells: &[usize]) -> Names
     let mut names = no_names();
     let mut i = 0;
     while i < cells.len() {
-        names = note_sets(t, names, cells[i] / 256);
+        names = note_sets(t, names, cells[i]);
         i += 1;
     }
     names
@@ -143,7 +156,7 @@ pub(crate) fn names_of(t: &[u8], cells: &[usize]) -> Names
     let mut names = pinned_names(t, cells);
     let mut i = 0;
     while i < cells.len() {
-        names = note_code(t, names, cells[i] / 256);
+        names = note_code(t, names, cells[i]);
         i += 1;
     }
     names

@@ -12,12 +12,15 @@ use crate::statement::verb_at;
 use crate::told::Told;
 use crate::told::nothing;
 use crate::told::tell;
+use crate::word::BOUND;
 use crate::word::CODE_KIND;
 use crate::word::COMMON;
 use crate::word::SECTION;
 use crate::word::SET;
 use crate::word::SETS;
 use crate::word::USE;
+use crate::word::before_bound;
+use crate::word::is_codes;
 use crate::word::is_rule;
 use crate::word::kind_number;
 use hl7::bytes::is_within;
@@ -29,11 +32,11 @@ ghost use lib.Dec.{eqb, leb};
 ghost use lib.ListN.{length};
 ghost use Rattle.hl7.specs.Bytes.{within};
 ghost use Rattle.grade.specs.Encoding.{each};
-ghost use Rattle.booktext.specs.Lines.{verb, statements};
+ghost use Rattle.booktext.specs.Lines.{verb, ofCodes, statements};
 ghost use Rattle.booktext.specs.Meaning.{from};
-ghost use Rattle.booktext.specs.Contents.{meaning, asksCode};
-ghost use Rattle.booktext.specs.Faults.{tell, nothing};
-ghost use Rattle.booktext.specs.Refusals.{isFirst, isThere, isSet, lacks, nameFault, firstNameFault};
+ghost use Rattle.booktext.specs.Contents.{meaning};
+ghost use Rattle.booktext.specs.Faults.{tell, nothing, beforeBound};
+ghost use Rattle.booktext.specs.Refusals.{isFirst, isThere, isSet, namesSet, lacks, nameFault, firstNameFault};
 ghost use Rattle.booktext.specs.Standing.{wordsFrom, statementAt, left, Heads};
 
 // The most sections of a book.
@@ -46,7 +49,7 @@ pub struct Counted {
 }
 
 // Where a statement was found, 0 where it was not.
-fn found_at(t: &[u8], found: usize) -> usize
+pub(crate) fn found_at(t: &[u8], found: usize) -> usize
     ensures { λ r. ⌜ r ≡ cond (leb found (length (now (t .entry)))) found 0 ⌝ }
 {
     pick(found <= t.len(), found, 0)
@@ -97,11 +100,20 @@ fn are_sets(t: &[u8], heads: &[usize], rest: usize, at: usize) -> bool
     }
 }
 
-// Whether it is a rule of kind CODE.
-pub(crate) fn asks_code(t: &[u8], at: usize) -> bool
-    ensures { λ r. ⌜ r ≡ asksCode (statementAt (now (t .entry)) at 0) ⌝ }
+// Whether it names one set.
+fn names_set(t: &[u8], at: usize) -> bool
+    ensures { λ r. ⌜ r ≡ namesSet (statementAt (now (t .entry)) at 0) ⌝ }
 {
-    is_rule(verb_at(t, at)) & (kind_number(word_of(t, at, 2)) == CODE_KIND)
+    let verb = verb_at(t, at);
+    let bounded = is_rule(verb) | (verb == BOUND);
+    is_codes(verb) | (bounded & (kind_number(word_of(t, at, 2)) == CODE_KIND))
+}
+
+// Which of its words that is.
+fn set_word(verb: u8) -> usize
+    ensures { λ r. ⌜ r ≡ cond (ofCodes verb) 1 (beforeBound verb) ⌝ }
+{
+    pick(is_codes(verb), 1, before_bound(verb))
 }
 
 // Whether it names a common or a set that there is not.
@@ -113,8 +125,8 @@ fn lacks_name(t: &[u8], heads: &[usize], rest: usize, at: usize) -> bool
     if verb == USE {
         return !is_there(t, heads, rest, COMMON, word_of(t, at, 1));
     }
-    if asks_code(t, at) {
-        return !is_there(t, heads, rest, SET, word_of(t, at, 4));
+    if names_set(t, at) {
+        return !is_there(t, heads, rest, SET, word_of(t, at, set_word(verb)));
     }
     if verb == SETS {
         return !are_sets(t, heads, rest, skip_words(t, at, 1));

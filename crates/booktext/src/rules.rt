@@ -1,16 +1,12 @@
-// The rules of a section whose statements are noted in cells: rows 47 and 48, how many there are, and their bytes.
-use crate::line::line_of;
+// The rules of a section whose statements are noted in cells: how many there are, and their bytes.
+use crate::cell::bound_at;
+use crate::cell::line_in;
 use crate::line::word_of;
 use crate::names::Names;
 use crate::names::number_of;
 use crate::statement::verb_at;
-use crate::told::Told;
-use crate::told::nothing;
-use crate::told::tell;
-use crate::word::ALSO;
 use crate::word::CODE_KIND;
 use crate::word::LENGTH_KIND;
-use crate::word::RULE;
 use crate::word::TIME_KIND;
 use crate::word::is_rule;
 use crate::word::kind_number;
@@ -25,82 +21,13 @@ ghost use mathlib.Core.Path.{_≡_};
 ghost use mathlib.Core.Bool.{true, cond};
 ghost use mathlib.Core.List.{[], _∷_, map};
 ghost use Prim.Native.Nat.{_≤_};
-ghost use lib.ListN.{length, getD, take};
-ghost use Rattle.hl7.specs.Bytes.{isIn};
+ghost use lib.ListN.{length};
 ghost use Rattle.grade.specs.Encoding.{each, spellAll, ruleBytes};
 ghost use Rattle.ack.specs.Splice.{Wrote};
-ghost use Rattle.booktext.specs.Lines.{numberFrom, makesRule, lineOf};
+ghost use Rattle.booktext.specs.Lines.{numberFrom, makesRule};
 ghost use Rattle.booktext.specs.Words.{placeIn, isPlace};
 ghost use Rattle.booktext.specs.Contents.{letterOf, made, rulesOf};
-ghost use Rattle.booktext.specs.Refusals.{spotOf, ruleFault, firstRuleFault};
-ghost use Rattle.booktext.specs.Standing.{CountsRules, wordsFrom, statementAt, noted, namesIn, ready, placeBytes, boundBytes};
-
-// ---- rows 47 and 48
-// Place and kind of a rule as one number; 0 for any other statement.
-fn spot_of(t: &[u8], at: usize) -> usize
-    ensures { λ r. ⌜ r ≡ spotOf (statementAt (now (t .entry)) at 0) ⌝ }
-{
-    if !is_rule(verb_at(t, at)) {
-        return 0;
-    }
-    let place = place_in(word_of(t, at, 1));
-    let kind = kind_number(word_of(t, at, 2));
-    let field = (place.segment as usize) * 100 + place.field as usize;
-    (field * 21 + place.component as usize) * 7 + kind as usize
-}
-
-// Notes these numbers of the statements in the cells.
-pub(crate) fn note_spots(t: &[u8], cells: &[usize], spots: &mut [usize])
-    requires { ⌜ length (now cells) ≤ length (now spots) ⌝ }
-    ensures { λ r. ⌜ take (length (now (cells .entry))) (now (spots .exit)) ≡ map spotOf (map (noted (now (t .entry))) (now (cells .entry))) ⌝ }
-{
-    let mut i = 0;
-    while i < cells.len() {
-        spots[i] = spot_of(t, cells[i] / 256);
-        i += 1;
-    }
-}
-
-// Whether a number is among some.
-pub fn is_in(spots: &[usize], x: usize) -> bool
-    ensures { λ r. ⌜ r ≡ isIn x (now (spots .entry)) ⌝ }
-{
-    let mut any = false;
-    let mut i = 0;
-    while i < spots.len() {
-        any = any | (x == spots[i]);
-        i += 1;
-    }
-    any
-}
-
-// The row that holds of a statement with a verb, where one of its place and kind does or does not stand before it; 0 where none does.
-fn rule_fault(verb: u8, before: bool) -> usize
-    ensures { λ r. ⌜ r ≡ ruleFault verb before ⌝ }
-{
-    pick(
-        (verb == RULE) & before,
-        47,
-        pick((verb == ALSO) & !before, 48, 0),
-    )
-}
-
-// The first statement that has one, in a section with a head.
-pub(crate) fn first_rule_fault(t: &[u8], head: usize, cells: &[usize], spots: &[usize]) -> Told
-    requires { ⌜ (length (now cells) ≤ length (now spots)) × (take (length (now cells)) (now spots) ≡ map spotOf (map (noted (now t)) (now cells))) ⌝ }
-    ensures { λ r. ⌜ r ≡ firstRuleFault (now (t .entry)) (lineOf (now (t .entry)) head) [] (map (noted (now (t .entry))) (now (cells .entry))) ⌝ }
-{
-    let mut i = 0;
-    while i < cells.len() {
-        let at = cells[i] / 256;
-        let fault = rule_fault(verb_at(t, at), is_in(&spots[..i], spots[i]));
-        if fault != 0 {
-            return tell(fault, line_of(t, at), line_of(t, head));
-        }
-        i += 1;
-    }
-    nothing()
-}
+ghost use Rattle.booktext.specs.Standing.{CountsRules, noted, namesIn, ready, placeBytes, boundBytes};
 
 // ---- how many
 pub(crate) fn count_rules(t: &[u8], cells: &[usize]) -> usize
@@ -109,7 +36,7 @@ pub(crate) fn count_rules(t: &[u8], cells: &[usize]) -> usize
     let mut n = 0;
     let mut i = 0;
     while i < cells.len() {
-        n = pick(is_rule(verb_at(t, cells[i] / 256)), n + 1, n);
+        n = pick(is_rule(verb_at(t, line_in(cells[i]))), n + 1, n);
         i += 1;
     }
     n
@@ -122,7 +49,7 @@ pub fn letter_of(t: &[u8], cell: usize) -> u8
 {
     let given = (cell % 256) as u8;
     if given == 0 {
-        return byte_at(word_of(t, cell / 256, 3), 0);
+        return byte_at(word_of(t, line_in(cell), 3), 0);
     }
     given
 }
@@ -147,12 +74,12 @@ fn unless(test: bool, byte: u8) -> u8
     if test { byte } else { 0 }
 }
 
-// The number of the set that a rule names, 0 for none.
-fn set_number(t: &[u8], at: usize, names: Names) -> u8
+// The number of the set with a name, 0 for none.
+fn set_number(t: &[u8], name: &[u8], names: Names) -> u8
     requires { ⌜ (names .count ≤ 64) × (length (names .spans) ≡ 64) ⌝ }
-    ensures { λ r. ⌜ r ≡ numberFrom 1 (getD (wordsFrom (now (t .entry)) at) 4 []) (namesIn (now (t .entry)) names) ⌝ }
+    ensures { λ r. ⌜ r ≡ numberFrom 1 (now (name .entry)) (namesIn (now (t .entry)) names) ⌝ }
 {
-    number_of(t, names, word_of(t, at, 4)) as u8
+    number_of(t, names, name) as u8
 }
 
 // Segment name, field, component.
@@ -171,11 +98,13 @@ fn put_rule(out: &mut [u8], at: usize, t: &[u8], cell: usize, names: Names) -> u
     requires { ⌜ (names .count ≤ 64) × (length (names .spans) ≡ 64) × (ready (noted (now t) cell) ≡ true) × (makesRule (noted (now t) cell) ≡ true) ⌝ }
     ensures { λ r. ⌜ Wrote (now (out .entry)) at (ruleBytes (made (namesIn (now (t .entry)) names) (noted (now (t .entry)) cell))) (now (out .exit)) r ⌝ }
 {
-    let line = cell / 256;
+    let line = line_in(cell);
+    let bound = bound_at(t, cell);
+    let first = word_of(t, bound, 0);
     let kind = kind_number(word_of(t, line, 2));
-    let set = set_number(t, line, names);
-    let low = number_in(word_of(t, line, 4));
-    let high = number_in(word_of(t, line, 5));
+    let set = set_number(t, first, names);
+    let low = number_in(first);
+    let high = number_in(word_of(t, bound, 1));
     let second = put_place(out, at, word_of(t, line, 1));
     let third = put_byte(out, second, kind);
     let fourth = put_byte(out, third, letter_of(t, cell));
@@ -201,7 +130,7 @@ fn put_made(out: &mut [u8], at: usize, t: &[u8], cell: usize, names: Names) -> u
     requires { ⌜ (names .count ≤ 64) × (length (names .spans) ≡ 64) × (ready (noted (now t) cell) ≡ true) ⌝ }
     ensures { λ r. ⌜ Wrote (now (out .entry)) at (spellAll ruleBytes (rulesOf (namesIn (now (t .entry)) names) (noted (now (t .entry)) cell ∷ []))) (now (out .exit)) r ⌝ }
 {
-    if is_rule(verb_at(t, cell / 256)) {
+    if is_rule(verb_at(t, line_in(cell))) {
         return put_rule(out, at, t, cell, names);
     }
     put(out, at, b"")

@@ -14,13 +14,13 @@ use crate::word::USE;
 use hl7::bytes::byte_at;
 ghost use mathlib.Core.Path.{_≡_};
 ghost use mathlib.Core.Bool.{not, _&&_};
-ghost use mathlib.Core.List.{[], _∷_, map};
-ghost use Prim.Native.Nat.{_≤_};
+ghost use mathlib.Core.List.{List, [], _∷_, map};
+ghost use Prim.Native.Nat.{ℕ, _≤_};
 ghost use lib.ListN.{length};
 ghost use Rattle.booktext.specs.Lines.{statements, says, lineOf, textLimit, aUse};
 ghost use Rattle.booktext.specs.Meaning.{give, taken, expand};
 ghost use Rattle.booktext.specs.Refusals.{isFirst, usedTwice, statementLimit};
-ghost use Rattle.booktext.specs.Standing.{statementAt, left, bodyFrom, Heads, Holds, NotesMore};
+ghost use Rattle.booktext.specs.Standing.{statementAt, left, bodyFrom, Heads, noted, Holds, NotesMore};
 
 // The most statements of a section after inclusion.
 pub const STATEMENT_LIMIT: usize = 2048;
@@ -51,16 +51,24 @@ pub(crate) fn used_twice(t: &[u8], head: usize, start: usize) -> Told
 }
 
 // ---- statements after inclusion
-// Notes one statement more: its position, and the severity that it was given.
-fn note(t: &[u8], cells: &mut [usize], count: usize, at: usize, letter: u8) -> usize
-    requires { ⌜ (length (now t) ≤ textLimit) × (at ≤ length (now t)) × (length (now cells) ≡ statementLimit) ⌝ }
-    ensures { λ r. ⌜ NotesMore (now (t .entry)) (now (cells .entry)) count (now (cells .exit)) r ((statementAt (now (t .entry)) at letter ∷ [])) ⌝ }
+// Notes one statement more.
+pub(crate) fn note_cell(cells: &mut [usize], count: usize, cell: usize) -> usize
+    requires { ⌜ length (now cells) ≡ statementLimit ⌝ }
+    ensures { λ r. ⌜ ((t : List ℕ) → NotesMore t (now (cells .entry)) count (now (cells .exit)) r (noted t cell ∷ [])) ⌝ }
 {
     if STATEMENT_LIMIT <= count {
         return STATEMENT_LIMIT + 1;
     }
-    cells[count] = at * 256 + letter as usize;
+    cells[count] = cell;
     count + 1
+}
+
+// Notes one by the position of its line, and the severity that it was given.
+fn note(t: &[u8], cells: &mut [usize], count: usize, at: usize, letter: u8) -> usize
+    requires { ⌜ (length (now t) ≤ textLimit) × (at ≤ length (now t)) × (length (now cells) ≡ statementLimit) ⌝ }
+    ensures { λ r. ⌜ NotesMore (now (t .entry)) (now (cells .entry)) count (now (cells .exit)) r ((statementAt (now (t .entry)) at letter ∷ [])) ⌝ }
+{
+    note_cell(cells, count, at * 256 + letter as usize)
 }
 
 // Notes the statements of a common, which begin at start.

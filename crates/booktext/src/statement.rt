@@ -21,7 +21,7 @@ const LF: u8 = 10;
 
 // The number of its verb, 0 for none.
 pub fn verb_at(t: &[u8], at: usize) -> u8
-    ensures { λ r. ⌜ (r ≡ verb (statementAt (now (t .entry)) at 0)) × (r ≤ 9) ⌝ }
+    ensures { λ r. ⌜ (r ≡ verb (statementAt (now (t .entry)) at 0)) × (r ≤ 14) ⌝ }
 {
     verb_of(word_of(t, at, 0))
 }

@@ -14,11 +14,13 @@ use hl7::number::read_digits;
 ghost use mathlib.Core.Path.{_≡_};
 ghost use mathlib.Core.Bool.{cond};
 ghost use Prim.Native.Nat.{_-_, _≤_};
+ghost use lib.ListN.{drop};
 ghost use Rattle.hl7.specs.Bytes.{all};
 ghost use Rattle.grade.specs.Book.{plain};
 ghost use Rattle.grade.specs.Encoding.{textFits};
 ghost use Rattle.grade.specs.Rule.{severityOf};
-ghost use Rattle.booktext.specs.Lines.{verbOf, ofRule};
+ghost use Rattle.booktext.specs.Faults.{beforeBound};
+ghost use Rattle.booktext.specs.Lines.{numberFrom, verbs, verbOf, ofRule, ofPlace, ofCodes};
 ghost use Rattle.booktext.specs.Words.{numberIn, placeIn, isPlace, isSeverity, isSeverityWord, kindNumber, boundFits};
 
 pub(crate) const BOOK: u8 = 1;
@@ -39,6 +41,16 @@ pub(crate) const RULE: u8 = 8;
 
 pub(crate) const ALSO: u8 = 9;
 
+pub const SEVERITY: u8 = 10;
+
+pub const BOUND: u8 = 11;
+
+pub(crate) const DROP: u8 = 12;
+
+pub(crate) const MORE: u8 = 13;
+
+pub(crate) const LESS: u8 = 14;
+
 pub(crate) const LENGTH_KIND: u8 = 2;
 
 pub(crate) const TIME_KIND: u8 = 5;
@@ -54,14 +66,31 @@ fn short(n: usize) -> u8
     n as u8
 }
 
+// The number of a verb that changes rules or sets, 0 for any other word.
+fn change_of(w: &[u8]) -> usize
+    ensures { λ r. ⌜ r ≡ numberFrom 10 (now (w .entry)) (drop 9 verbs) ⌝ }
+{
+    let codes = pick(
+        same_bytes(w, b"more"),
+        13,
+        pick(same_bytes(w, b"less"), 14, 0),
+    );
+    let rules = pick(
+        same_bytes(w, b"bound"),
+        11,
+        pick(same_bytes(w, b"drop"), 12, codes),
+    );
+    pick(same_bytes(w, b"severity"), 10, rules)
+}
+
 // The number of a verb, 0 for any other word.
 pub(crate) fn verb_of(w: &[u8]) -> u8
-    ensures { λ r. ⌜ (r ≡ verbOf (now (w .entry))) × (r ≤ 9) ⌝ }
+    ensures { λ r. ⌜ (r ≡ verbOf (now (w .entry))) × (r ≤ 14) ⌝ }
 {
     let later = pick(
         same_bytes(w, b"rule"),
         8,
-        pick(same_bytes(w, b"also"), 9, 0),
+        pick(same_bytes(w, b"also"), 9, change_of(w)),
     );
     let inner = pick(
         same_bytes(w, b"code"),
@@ -110,6 +139,27 @@ pub fn is_rule(verb: u8) -> bool
     ensures { λ r. ⌜ r ≡ ofRule verb ⌝ }
 {
     (verb == RULE) | (verb == ALSO)
+}
+
+// Whether one speaks of a place and a kind.
+pub(crate) fn is_placed(verb: u8) -> bool
+    ensures { λ r. ⌜ r ≡ ofPlace verb ⌝ }
+{
+    is_within(verb, RULE, DROP)
+}
+
+// Whether one changes the codes of a set.
+pub(crate) fn is_codes(verb: u8) -> bool
+    ensures { λ r. ⌜ r ≡ ofCodes verb ⌝ }
+{
+    (verb == MORE) | (verb == LESS)
+}
+
+// How many words stand before a bound.
+pub(crate) fn before_bound(verb: u8) -> usize
+    ensures { λ r. ⌜ (r ≡ beforeBound verb) × (r ≤ 4) ⌝ }
+{
+    pick(verb == BOUND, 3, 4)
 }
 
 // ---- keys and codes

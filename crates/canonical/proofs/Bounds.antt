@@ -25,7 +25,7 @@ show-packs b is out = packs (shown (decoded b)) out (tells (malformed b) (otherV
         small-cond m (record { number = a-row refl; detail = omega arith; section = omega arith })
         (small-cond v (record { number = a-row refl; detail = omega arith; section = omega arith }) small-nothing)
 
-    short : (m : Bool) → malformed b ≡ m → (v : Bool) → otherVersion b ≡ v → rows m v .number ≡ 0 → length (shown (decoded b)) ≤ 2 ^ 40
+    short : (m : Bool) → malformed b ≡ m → (v : Bool) → otherVersion b ≡ v → rows m v .number ≡ 0 → length (shown (decoded b)) ≤ 2 ^ 48
     short true e v f z = absurd (omega (arith, z))
     short false e true f z = absurd (omega (arith, z))
     short false e false f z = omega (arith, again-short b is e f)

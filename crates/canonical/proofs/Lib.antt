@@ -4,6 +4,7 @@ pub mod Paging
 pub mod Showable
 pub mod Showing
 pub mod ShownWords
+pub mod ShownPlain
 pub mod ShownMeans
 pub mod ShownRight
 pub mod ShownNamed

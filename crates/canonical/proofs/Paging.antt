@@ -1,6 +1,6 @@
 -- Blocks of printed lines: which verbs they have, where a block ends, and where a head is found by its name. Assumes nothing.
 use mathlib.Core.Path.{_≡_, refl, sym, ap, ap₂, _∙_}
-use mathlib.Core.Bool.{Bool, true, false, cond, not, _&&_, _||_, or-assoc, true≢false}
+use mathlib.Core.Bool.{Bool, true, false, cond, not, _&&_, _||_, true≢false}
 use mathlib.Core.List.{List, [], _∷_, _++_, append-nil, append-assoc}
 use Prim.Native.Nat.{ℕ, _+_}
 use lib.Dec.{eqb}
@@ -14,6 +14,7 @@ use Rattle.ack.specs.Layout.{joined}
 use Rattle.booktext.specs.Lines.{Statement, verbOf, aBook, aSection, aUse}
 use Rattle.booktext.specs.Meaning.{body, from, taken, expand}
 use Rattle.booktext.specs.Contents.{sectionsIn, withNames}
+use Rattle.booktext.proofs.Preceding.{among-append}
 use Rattle.canonical.specs.Shown.{printed}
 use Rattle.canonical.proofs.Printing.{placed, placed-append}
 
@@ -30,11 +31,6 @@ same-turned v w e = by (same w v) refl
     by : (b : Bool) → same w v ≡ b → same w v ≡ false
     by true f = absurd (true≢false (sym (same-self v) ∙ ap (same v) (sym (same-equal w v f)) ∙ e))
     by false f = f
-
-pub among-append : (x : List ℕ) (xs ys : List (List ℕ)) → among x (xs ++ ys) ≡ (among x xs || among x ys)
-unfolding among
-among-append x [] ys = refl
-among-append x (y ∷ xs) ys = ap (λ (b : Bool). same x y || b) (among-append x xs ys) ∙ sym (or-assoc (same x y) (among x xs) (among x ys))
 
 -- none is among those before it
 distinct-apart : (xs : List (List ℕ)) (x : List ℕ) (ys : List (List ℕ)) → distinct (xs ++ (x ∷ ys)) ≡ true → among x xs ≡ false

@@ -49,7 +49,7 @@ module _ (b : List ℕ) (start : ℕ) (stands : standsAt b start ≡ true) where
   section-key = stands-key b start stands .0
 
   module _ {s : Section} (is : s ≡ siteAt b start) where
-    itself : (contentsAt b start .rules ≡ rulesIn b s) × (contentsAt b start .sets ≡ setsIn b s) × Holds b s
+    pub itself : (contentsAt b start .rules ≡ rulesIn b s) × (contentsAt b start .sets ≡ setsIn b s) × Holds b s
     itself = let parts = stands-parts b start stands in rw is (held b start (siteAt b start) (contentsAt b start) (parts .0) (parts .1))
 
     pub section-holds : Holds b s

@@ -1,6 +1,6 @@
 -- Laws of writing a section's rules: their words, their lines, and the places and kinds that are noted on the way. Assumes nothing.
 use mathlib.Core.Path.{_≡_, refl, sym, ap, ap₂, _∙_}
-use mathlib.Core.Bool.{Bool, true, false, cond}
+use mathlib.Core.Bool.{Bool, true, false, cond, _||_, or-assoc, or-false}
 use mathlib.Core.List.{List, [], _∷_, _++_, append-nil, append-assoc}
 use Prim.Native.Char.{code}
 use Prim.Native.Nat.{ℕ, _+_, _≤_, _<_}
@@ -10,6 +10,7 @@ use lib.ListN.{length, getD, take, drop, set, drop-of-length-le}
 use lib.Seq.{drop-cons, take-suc-set}
 use Rattle.hl7.specs.Text.{bytes}
 use Rattle.hl7.specs.Bytes.{isIn}
+use Rattle.hl7.proofs.Comparing.{rest-at}
 use Rattle.grade.specs.Rule.{noRule, nameBytes, severityLetter}
 use Rattle.grade.specs.declared.rule.Place.{Place}
 use Rattle.grade.specs.declared.rule.Rule.{Rule}
@@ -88,3 +89,13 @@ module _ (rules : List Rule) (i : ℕ) (spots : List ℕ) where
     pub rules-over : length rules ≤ i → rulesFrom ≡ []
     unfolding ruleLines printed
     rules-over h = ap (λ (l : List Rule). printed (ruleLines key (take i spots) l)) (drop-of-length-le rules h)
+
+-- ---- a number among some
+module _ (spots : List ℕ) (x i : ℕ) (any : Bool) where
+  pub in-more : i < length spots → (any || isIn x (drop i spots)) ≡ (any || eqb x (getD spots i 0) || isIn x (drop (i + 1) spots))
+  unfolding isIn
+  in-more h = ap (λ (l : List ℕ). any || isIn x l) (rest-at spots i h) ∙ sym (or-assoc any (eqb x (getD spots i 0)) (isIn x (drop (i + 1) spots)))
+
+  pub in-over : length spots ≤ i → (any || isIn x (drop i spots)) ≡ any
+  unfolding isIn
+  in-over h = ap (λ (l : List ℕ). any || isIn x l) (drop-of-length-le spots h) ∙ or-false any

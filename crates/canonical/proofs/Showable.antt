@@ -17,7 +17,7 @@ use Rattle.grade.specs.Rule.{placeFits, timeDigits, kindFits, ruleFits}
 use Rattle.grade.specs.declared.rule.Kind.{Kind}
 use Rattle.grade.specs.declared.rule.Rule.{Rule}
 use Rattle.booktext.specs.Lines.{numberFrom, verbs, verbOf, aSet, aCode, someSets, aRule, anAlso}
-use Rattle.canonical.specs.Shown.{setName, codeLine, setLines, pinLines, ruleSpot, ruleLines, bookLines}
+use Rattle.canonical.specs.Shown.{setName, codeLine, setLines, pinLines, ruleSpot, ruleVerb, ruleLines, bookLines}
 use Rattle.canonical.proofs.Paging.{each-append, lineVerb, verbsPass}
 
 -- ---- what can be shown
@@ -143,14 +143,18 @@ pageLines c = pinLines (c .key) (c .sets) ++ ruleLines (c .key) [] (c .rules)
 
 -- ---- their verbs
 module _ (test : ℕ → Bool) where
-  rule-verbs : (key before : List ℕ) (rules : List Rule) → test aRule ≡ true → test anAlso ≡ true → verbsPass test (ruleLines key before rules) ≡ true
-  unfolding ruleLines verbOf verbs numberFrom same
-  rule-verbs key before [] r a = refl
-  rule-verbs key before (x ∷ rules) r a = ap₂ _&&_ (one (isIn (ruleSpot x) before)) (rule-verbs key (before ++ (ruleSpot x ∷ [])) rules r a)
+  pub rule-verb : (before : List ℕ) (x : Rule) → test aRule ≡ true → test anAlso ≡ true → test (verbOf (ruleVerb before x)) ≡ true
+  unfolding verbOf verbs numberFrom same
+  rule-verb before x r a = by (isIn (ruleSpot x) before)
     where
-      one : (b : Bool) → test (verbOf (cond b (bytes "also") (bytes "rule"))) ≡ true
-      one true = a
-      one false = r
+      by : (b : Bool) → test (verbOf (cond b (bytes "also") (bytes "rule"))) ≡ true
+      by true = a
+      by false = r
+
+  rule-verbs : (key before : List ℕ) (rules : List Rule) → test aRule ≡ true → test anAlso ≡ true → verbsPass test (ruleLines key before rules) ≡ true
+  unfolding ruleLines
+  rule-verbs key before [] r a = refl
+  rule-verbs key before (x ∷ rules) r a = ap₂ _&&_ (rule-verb before x r a) (rule-verbs key (before ++ (ruleSpot x ∷ [])) rules r a)
 
   pub page-verbs : (c : Contents) → test someSets ≡ true → test aRule ≡ true → test anAlso ≡ true → verbsPass test (pageLines c) ≡ true
   unfolding verbOf verbs numberFrom same

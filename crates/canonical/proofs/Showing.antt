@@ -24,7 +24,7 @@ use Rattle.canonical.specs.Shown.{setName, setNames, pinLines, kindWord,
 use Rattle.canonical.proofs.Printing.{placed}
 use Rattle.canonical.proofs.ReadBack.{number-back, place-back, kind-back, severity-back, other-number}
 use Rattle.canonical.proofs.Paging.{names-new, names-known, names-append, lineAt, nextAt}
-use Rattle.canonical.proofs.Showable.{highSaid, isShown, Fits, shown-place, shown-kind, shown-high, within-bounds, length-bounds, time-bound, pageLines}
+use Rattle.canonical.proofs.Showable.{highSaid, isShown, Fits, shown-place, shown-kind, shown-high, within-bounds, length-bounds, time-bound, pageLines, rule-verb}
 
 -- ---- names of a section's sets
 module _ (key : List ℕ) where
@@ -66,12 +66,7 @@ module _ (key : List ℕ) where
 
 -- ---- rules
 pub makes-rule : (before : List ℕ) (r : Rule) → ofRule (verbOf (ruleVerb before r)) ≡ true
-unfolding verbOf verbs numberFrom same
-makes-rule before r = by (isIn (ruleSpot r) before)
-  where
-    by : (b : Bool) → ofRule (verbOf (cond b (bytes "also") (bytes "rule"))) ≡ true
-    by true = refl
-    by false = refl
+makes-rule before r = rule-verb ofRule before r refl refl
 
 module _ (key : List ℕ) (sets : List (List (List ℕ))) (few : length sets ≤ setLimit) where
   abbrev bound : Kind → ℕ → List ℕ

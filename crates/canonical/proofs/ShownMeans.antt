@@ -13,13 +13,15 @@ use Rattle.grade.specs.Encoding.{each, wellFormed}
 use Rattle.booktext.specs.Lines.{Statement, numberFrom, verbs, verbOf, aSet, aSection, aUse, statements}
 use Rattle.booktext.specs.Meaning.{body, from, expand}
 use Rattle.booktext.specs.Contents.{listed, codesAt, codesOf, contentsOf, sectionsIn, meaning}
+use Rattle.booktext.proofs.Preceding.{among-append}
 use Rattle.canonical.specs.Shown.{printed, setName, codeLine, setLines, setNames, sectionLines, bookLines, shown}
 use Rattle.canonical.proofs.Printing.{placed, statements-printed, placed-append}
 use Rattle.canonical.proofs.ReadBack.{other-key}
 use Rattle.canonical.proofs.ShownWords.{book-words}
-use Rattle.canonical.proofs.Paging.{among-append, distinct-append, isNot, noHead, nextAt, body-block, skip-sections, expand-none, namesAt, names-at-append, names-at-none, from-there}
+use Rattle.canonical.proofs.Paging.{distinct-append, isNot, noHead, nextAt, body-block, skip-sections, expand-none, namesAt, names-at-append, names-at-none, from-there}
 use Rattle.canonical.proofs.Showable.{highFits, Fits, AllFit, Formed, formed, Lines, setLine, sectionLine, bookLine, allLines, pageLines, page-verbs, code-verbs, set-verbs}
 use Rattle.canonical.proofs.Showing.{names-apart, names-distinct, page-names, page-rules}
+use Rattle.canonical.proofs.ShownPlain.{contents-plain, page-plain}
 
 -- ---- the lines of a book
 -- what follows is a head, or nothing
@@ -106,10 +108,11 @@ module _ (c : Contents) (cs : List Contents) where
     section-sets = sets-back all pre (c .key) 1 (c .sets) (sectionLine (c .key) ∷ after) d (e ∙ ap (λ (l : Lines). pre ++ l) book-parted) (section-ends (c .key) after)
 
     pub section-back : (at : ℕ) → Fits c → contentsOf (placed 0 all) (c .key) (expand (placed 0 all) (body (placed at after))) ≡ c
-    unfolding contentsOf
     section-back at fits =
         let held = ap (map (codesOf (placed 0 all))) (page-names c fits at) ∙ section-sets in
-        ap (contentsOf (placed 0 all) (c .key)) (page-whole (placed 0 all) at) ∙ (λ i. record { key = c .key; rules = page-rules c fits at i; sets = held i })
+        ap (contentsOf (placed 0 all) (c .key)) (page-whole (placed 0 all) at)
+        ∙ contents-plain (placed 0 all) (placed at (pageLines c)) (page-plain c at) (c .key)
+        ∙ (λ i. record { key = c .key; rules = page-rules c fits at i; sets = held i })
 
 -- one section further
 pub next-section : (all pre : Lines) (c : Contents) (cs : List Contents) → all ≡ pre ++ bookLines (c ∷ cs) → all ≡ (pre ++ sectionLines c) ++ bookLines cs

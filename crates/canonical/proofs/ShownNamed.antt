@@ -23,10 +23,11 @@ use Rattle.booktext.specs.Words.{kindNumber, aCodeKind}
 use Rattle.booktext.specs.Meaning.{from}
 use Rattle.booktext.specs.Faults.{nothing}
 use Rattle.booktext.specs.Refusals.{atOf, isThere, isSet, lacks, nameFault, firstNameFault}
+use Rattle.booktext.proofs.Preceding.{among-append}
 use Rattle.canonical.specs.Shown.{printed, setName, codeLine, setLines, setNames, pinLines, placeWord, kindWord, boundWords, ruleSpot, ruleLines, sectionLines, bookLines}
 use Rattle.canonical.proofs.Printing.{placed, printed-line, printed-append}
 use Rattle.canonical.proofs.ReadBack.{kind-back}
-use Rattle.canonical.proofs.Paging.{each-append, same-turned, among-append, lineVerb, verbsPass, isNot, lineAt, nextAt, namesAt, names-at-append, names-at-none, from-there}
+use Rattle.canonical.proofs.Paging.{each-append, same-turned, lineVerb, verbsPass, isNot, lineAt, nextAt, namesAt, names-at-append, names-at-none, from-there}
 use Rattle.canonical.proofs.Showable.{isShown, AllFit, Formed, shown-kind, within-bounds, Lines, sectionLine, allLines, pageLines, page-verbs, set-verbs}
 use Rattle.canonical.proofs.Showing.{name-among}
 use Rattle.canonical.proofs.ShownMeans.{sets, after, book-parted, sets-differ, allNames, book-named}

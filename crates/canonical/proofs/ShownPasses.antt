@@ -1,32 +1,34 @@
 -- No row refuses the canonical text of a book: a section uses nothing, its rules say `also` where they must, and its sizes are a book's (rows 46 to 56).
 -- Assumes nothing.
-use mathlib.Core.Path.{_≡_, refl, sym, ap, ap₂, _∙_}
-use mathlib.Core.Bool.{Bool, true, false, cond, _||_, or-assoc}
+use mathlib.Core.Path.{_≡_, refl, ap, ap₂, _∙_}
+use mathlib.Core.Bool.{Bool, true, false, cond, _&&_}
 use mathlib.Core.List.{List, [], _∷_, _++_, map, head-eq-of-cons-eq, tail-eq-of-cons-eq}
 use Prim.Native.Nat.{ℕ, suc, _+_, _≤_}
 use native.Mathlib.Omega.{arith}
 use lib.Dec.{eqb, ltb}
-use lib.ListN.{length, length-append}
-use borrow.Author.Tests.{ne-eqb, not-true, le-ltb}
+use lib.ListN.{length, drop, length-append}
+use borrow.Author.Tests.{not-true, le-ltb}
 use Rattle.hl7.specs.Text.{bytes}
 use Rattle.hl7.specs.Bytes.{within, isIn, same}
 use Rattle.hl7.proofs.Comparing.{and-both}
 use Rattle.grade.specs.Book.{Contents, distinct}
-use Rattle.grade.specs.Encoding.{each, textFits, setFits, kindByte, spellAll, sectionBytes, bookBytes, wellFormed}
+use Rattle.grade.specs.Encoding.{each, textFits, setFits, spellAll, sectionBytes, bookBytes, wellFormed}
 use Rattle.grade.specs.Limits.{bookLimit, codeLimit, codeCountLimit, ruleLimit, setLimit}
-use Rattle.grade.specs.declared.rule.Kind.{Kind}
 use Rattle.grade.specs.declared.rule.Rule.{Rule}
-use Rattle.booktext.specs.Lines.{Statement, textLimit, numberFrom, verbs, verbOf, lineOf, aSet, aSection, aUse}
-use Rattle.booktext.specs.Contents.{codesOf}
+use Rattle.booktext.specs.Lines.{Statement, textLimit, numberFrom, verbs, verbOf, lineOf, makesRule, ofPlace, aSet, aSection, aUse}
+use Rattle.booktext.specs.Changes.{spotOf, settled}
+use Rattle.booktext.specs.Contents.{namesOf, held}
 use Rattle.booktext.specs.Faults.{nothing, firstly, firstFault}
-use Rattle.booktext.specs.Refusals.{firstNameFault, usedTwice, statementLimit, spotOf, stands, ruleFault, firstRuleFault, firstBadSet, over, sizesTold, sectionTold, sectionsTold, beginning, refusal}
-use Rattle.canonical.specs.Shown.{printed, setNames, pinLines, ruleSpot, ruleVerb, ruleLine, ruleLines, sectionLines, bookLines, shown}
+use Rattle.booktext.specs.Refusals.{firstNameFault, usedTwice, statementLimit, stands, ruleFault, firstRuleFault, firstBadSet, over, sizesTold, sectionTold, sectionsTold, beginning, refusal}
+use Rattle.canonical.specs.Shown.{printed, setNames, pinLines, ruleSpot, ruleLine, ruleLines, sectionLines, bookLines, shown}
 use Rattle.booktext.specs.declared.told.Told.{Told}
+use Rattle.booktext.proofs.Preceding.{spotsOf}
 use Rattle.canonical.proofs.Printing.{placed, placed-append}
 use Rattle.canonical.proofs.ReadBack.{place-back, kind-back}
-use Rattle.canonical.proofs.Paging.{lineVerb, verbsPass, isNot, lineAt, nextAt, namesAt}
-use Rattle.canonical.proofs.Showable.{highFits, isShown, Fits, AllFit, Formed, formed, shown-place, Lines, sectionLine, bookLine, allLines, pageLines, page-verbs, set-verbs}
+use Rattle.canonical.proofs.Paging.{each-append, lineVerb, verbsPass, isNot, lineAt, nextAt, namesAt}
+use Rattle.canonical.proofs.Showable.{highFits, isShown, Fits, AllFit, Formed, formed, shown-place, Lines, sectionLine, bookLine, allLines, pageLines, rule-verb, page-verbs, set-verbs}
 use Rattle.canonical.proofs.Showing.{makes-rule, page-names}
+use Rattle.canonical.proofs.ShownPlain.{plainVerb, isPlain, settled-plain, stands-plain, stray-plain, sets-plain, page-plain}
 use Rattle.canonical.proofs.ShownMeans.{sets, after, book-parted, page-body, page-whole, section-back, section-sets, next-section, sets-differ, shown-statements}
 use Rattle.canonical.proofs.ShownRight.{bytes-right, lines-right}
 use Rattle.canonical.proofs.ShownNamed.{book-names-pass}
@@ -56,68 +58,65 @@ page-short c = omega (arith, length-append (pinLines (c .key) (c .sets)) (ruleLi
     pins [] = omega arith
     pins (set ∷ sets) = omega arith
 
--- ---- rows 47 and 48
-in-append : (n : ℕ) (xs ys : List ℕ) → isIn n (xs ++ ys) ≡ (isIn n xs || isIn n ys)
-unfolding isIn
-in-append n [] ys = refl
-in-append n (x ∷ xs) ys = ap (λ (b : Bool). eqb n x || b) (in-append n xs ys) ∙ sym (or-assoc (eqb n x) (isIn n xs) (isIn n ys))
-
-spots-append : (xs ys : List Statement) → map spotOf (xs ++ ys) ≡ map spotOf xs ++ map spotOf ys
+-- ---- rows 47 to 49
+spots-append : (xs ys : List Statement) → spotsOf (xs ++ ys) ≡ spotsOf xs ++ spotsOf ys
+unfolding spotsOf
 spots-append [] ys = refl
-spots-append (x ∷ xs) ys = ap (λ (l : List ℕ). spotOf x ∷ l) (spots-append xs ys)
+spots-append (x ∷ xs) ys = by (makesRule x) (spots-append xs ys)
+  where
+    by : (b : Bool) → spotsOf (xs ++ ys) ≡ spotsOf xs ++ spotsOf ys → cond b (spotOf x ∷ spotsOf (xs ++ ys)) (spotsOf (xs ++ ys)) ≡ cond b (spotOf x ∷ spotsOf xs) (spotsOf xs) ++ spotsOf ys
+    by true e = ap (λ (l : List ℕ). spotOf x ∷ l) e
+    by false e = e
 
-kind-some : (k : Kind) → 1 ≤ kindByte k
-kind-some Kind.Required = omega arith
-kind-some (Kind.Length low high) = omega arith
-kind-some Kind.Number = omega arith
-kind-some Kind.Date = omega arith
-kind-some (Kind.Time digits) = omega arith
-kind-some (Kind.Code set) = omega arith
+-- a rule that says `also` where one stands before it, and only there
+verb-right : (all before : List Statement) (at : ℕ) (b : Bool) (ws : List (List ℕ)) → stands (spotOf (lineAt at (cond b (bytes "also") (bytes "rule") ∷ ws))) before ≡ b
+    → ruleFault all before (lineAt at (cond b (bytes "also") (bytes "rule") ∷ ws)) ≡ 0
+unfolding ruleFault verbOf verbs numberFrom same
+verb-right all before at true ws e = rw e
+verb-right all before at false ws e = rw e
 
--- the statements before have the places and kinds of the rules before
-abbrev Alike : List Statement → List ℕ → Type 0
-Alike before spots = (n : ℕ) → 1 ≤ n → isIn n (map spotOf before) ≡ isIn n spots
-
-verb-right : (b : Bool) → eqb (ruleFault (verbOf (cond b (bytes "also") (bytes "rule"))) b) 0 ≡ true
-unfolding verbOf verbs numberFrom same
-verb-right true = refl
-verb-right false = refl
-
-module _ (key : List ℕ) (sets : ℕ) (t : List ℕ) (line : ℕ) where
+module _ (key : List ℕ) (sets : ℕ) (t : List ℕ) (all : List Statement) (line : ℕ) where
   spot-back : (at : ℕ) (spots : List ℕ) (r : Rule) → isShown sets r ≡ true → spotOf (lineAt at (ruleLine key spots r)) ≡ ruleSpot r
   unfolding spotOf
-  spot-back at spots r e = rw (makes-rule spots r, place-back (r .place) (shown-place sets r e), kind-back (r .kind))
+  spot-back at spots r e = rw (rule-verb ofPlace spots r refl refl, place-back (r .place) (shown-place sets r e), kind-back (r .kind))
 
-  rules-stand : (before : List Statement) (spots : List ℕ) (at : ℕ) (rules : List Rule) → Alike before spots → each (isShown sets) rules ≡ true → firstRuleFault t line before (placed at (ruleLines key spots rules)) ≡ nothing
+  spots-back : (at : ℕ) (spots : List ℕ) (r : Rule) → isShown sets r ≡ true → spotsOf (lineAt at (ruleLine key spots r) ∷ []) ≡ ruleSpot r ∷ []
+  unfolding spotsOf
+  spots-back at spots r e = rw (makes-rule spots r) (ap (λ (n : ℕ). n ∷ []) (spot-back at spots r e))
+
+  -- after statements that make rules of these places and kinds
+  rules-stand : (before : List Statement) (spots : List ℕ) (at : ℕ) (rules : List Rule) → each isPlain before ≡ true → spotsOf before ≡ spots → each (isShown sets) rules ≡ true
+      → firstRuleFault t all line before (placed at (ruleLines key spots rules)) ≡ nothing
   unfolding firstRuleFault placed ruleLines
-  rules-stand before spots at [] alike e = refl
-  rules-stand before spots at (r ∷ rules) alike e =
+  rules-stand before spots at [] plain noted e = refl
+  rules-stand before spots at (r ∷ rules) plain noted e =
       let both = and-both (isShown sets r) (each (isShown sets) rules) e in
       let s = lineAt at (ruleLine key spots r) in
-      let spot = spot-back at spots r (both .0) in
-      let stood : stands before s ≡ isIn (ruleSpot r) spots = ap (λ (n : ℕ). isIn n (map spotOf before)) spot ∙ alike (ruleSpot r) (omega (arith, kind-some (r .kind))) in
-      let more : Alike (before ++ (s ∷ [])) (spots ++ (ruleSpot r ∷ [])) =
-      λ n h. ap (isIn n) (spots-append before (s ∷ [])) ∙ in-append n (map spotOf before) (spotOf s ∷ []) ∙ ap₂ _||_ (alike n h) (ap (λ (m : ℕ). isIn n (m ∷ [])) spot) ∙ sym (in-append n spots (ruleSpot r ∷ [])) in
-      let right = ap (λ (b : Bool). eqb (ruleFault (verbOf (ruleVerb spots r)) b) 0) stood ∙ verb-right (isIn (ruleSpot r) spots) in
-      rw right (rules-stand (before ++ (s ∷ [])) (spots ++ (ruleSpot r ∷ [])) (nextAt at (ruleLine key spots r)) rules more (both .1))
+      let stood : stands (spotOf s) before ≡ isIn (ruleSpot r) spots = stands-plain (spotOf s) before plain ∙ ap₂ isIn (spot-back at spots r (both .0)) noted in
+      let right = verb-right all before at (isIn (ruleSpot r) spots) (drop 1 (ruleLine key spots r)) stood in
+      rw right
+      (rules-stand (before ++ (s ∷ [])) (spots ++ (ruleSpot r ∷ [])) (nextAt at (ruleLine key spots r)) rules
+      (each-append isPlain before (s ∷ []) plain (ap₂ _&&_ (rule-verb plainVerb spots r refl refl) refl))
+      (spots-append before (s ∷ []) ∙ ap₂ _++_ noted (spots-back at spots r (both .0)))
+      (both .1))
 
-page-stands : (key : List ℕ) (t : List ℕ) (line : ℕ) (sets : List (List (List ℕ))) (at : ℕ) (rules : List Rule) → each (isShown (length sets)) rules ≡ true
-    → firstRuleFault t line [] (placed at (pinLines key sets ++ ruleLines key [] rules)) ≡ nothing
-unfolding firstRuleFault placed isIn spotOf verbOf verbs numberFrom same
-page-stands key t line [] at rules e = rules-stand key 0 t line [] [] at rules (λ n h. refl) e
-page-stands key t line (set ∷ sets) at rules e =
+page-stands : (key : List ℕ) (t : List ℕ) (all : List Statement) (line : ℕ) (sets : List (List (List ℕ))) (at : ℕ) (rules : List Rule) → each (isShown (length sets)) rules ≡ true
+    → firstRuleFault t all line [] (placed at (pinLines key sets ++ ruleLines key [] rules)) ≡ nothing
+unfolding firstRuleFault ruleFault placed spotsOf verbOf verbs numberFrom same
+page-stands key t all line [] at rules e = rules-stand key 0 t all line [] [] at rules refl refl e
+page-stands key t all line (set ∷ sets) at rules e =
     let names = bytes "sets" ∷ setNames key 1 (set ∷ sets) in
-    rules-stand key (length (set ∷ sets)) t line (lineAt at names ∷ []) [] (nextAt at names) rules (λ n h. rw (ne-eqb n 0 (λ z. absurd (omega arith)))) e
+    rules-stand key (length (set ∷ sets)) t all line (lineAt at names ∷ []) [] (nextAt at names) rules refl refl e
 
 -- ---- rows 50 to 54
-bad-none : (t : List ℕ) (line : ℕ) (all : List Statement) (names : List (List ℕ)) (sets : List (List (List ℕ))) → map (codesOf all) names ≡ sets → each setFits sets ≡ true → firstBadSet t line all names ≡ nothing
+bad-none : (t : List ℕ) (line : ℕ) (all ss : List Statement) (names : List (List ℕ)) (sets : List (List (List ℕ))) → map (held all ss) names ≡ sets → each setFits sets ≡ true → firstBadSet t line all ss names ≡ nothing
 unfolding firstBadSet
-bad-none t line all [] sets e f = refl
-bad-none t line all (name ∷ names) [] e f = absurd (omega (arith, ap length e))
-bad-none t line all (name ∷ names) (set ∷ sets) e f =
+bad-none t line all ss [] sets e f = refl
+bad-none t line all ss (name ∷ names) [] e f = absurd (omega (arith, ap length e))
+bad-none t line all ss (name ∷ names) (set ∷ sets) e f =
     let both = and-both (setFits set) (each setFits sets) f in
     let count = and-both (within 1 codeCountLimit (length set)) (each (textFits codeLimit) set) (both .0) .0 in
-    rw (ap (λ (l : List (List ℕ)). within 1 codeCountLimit (length l)) (head-eq-of-cons-eq e) ∙ count) (bad-none t line all names sets (tail-eq-of-cons-eq e) (both .1))
+    rw (ap (λ (l : List (List ℕ)). within 1 codeCountLimit (length l)) (head-eq-of-cons-eq e) ∙ count) (bad-none t line all ss names sets (tail-eq-of-cons-eq e) (both .1))
 
 firstly-none : (a b : Told) → a ≡ nothing → b ≡ nothing → firstly a b ≡ nothing
 firstly-none a b e f = rw (e, f)
@@ -132,10 +131,15 @@ module _ (t : List ℕ) (c : Contents) (cs : List Contents) (fits : Fits c) (all
 
   sizes-none : (size line at : ℕ) → size + length (sectionBytes c) ≤ bookLimit → sizesTold t whole size line c (placed at (pageLines c)) ≡ nothing
   sizes-none size line at h =
+      let ss = placed at (pageLines c) in
+      let plain = page-plain c at in
+      let names = setNames (c .key) 1 (c .sets) in
+      let named = ap namesOf (settled-plain ss plain) ∙ page-names c fits at in
       firstly-none _ _ (over-none 50 line ruleLimit (length (c .rules)) (fits .fewRules))
       (firstly-none _ _ (over-none 51 line setLimit (length (c .sets)) (fits .fewSets))
-      (firstly-none _ _ (ap (firstBadSet t line whole) (page-names c fits at) ∙ bad-none t line whole (setNames (c .key) 1 (c .sets)) (c .sets) (section-sets c cs all pre d e) (fits .sets))
-      (over-none 54 line bookLimit (size + length (sectionBytes c)) h)))
+      (firstly-none _ _ (stray-plain t line (namesOf (settled ss)) ss plain)
+      (firstly-none _ _ (ap (firstBadSet t line whole ss) named ∙ bad-none t line whole ss names (c .sets) (sets-plain whole ss plain names ∙ section-sets c cs all pre d e) (fits .sets))
+      (over-none 54 line bookLimit (size + length (sectionBytes c)) h))))
 
   section-passes : (size here at : ℕ) → size + length (sectionBytes c) ≤ bookLimit → sectionTold t whole size (lineAt here (sectionLine (c .key))) (placed at (after c cs)) ≡ nothing
   unfolding sectionTold
@@ -145,7 +149,7 @@ module _ (t : List ℕ) (c : Contents) (cs : List Contents) (fits : Fits c) (all
       let short : length (placed at (pageLines c)) ≤ statementLimit = omega (arith, placed-length at (pageLines c), page-short c, fits .fewRules) in
       firstly-none _ _ (ap (usedTwice t line (placed at (after c cs))) (page-body c cs at) ∙ used-none t line (placed at (after c cs)) at (pageLines c) (page-verbs (isNot aUse) c refl refl refl))
       (firstly-none _ _ (ap (λ (l : List Statement). over 56 line (ltb statementLimit (length l))) page ∙ over-none 56 line statementLimit (length (placed at (pageLines c))) short)
-      (firstly-none _ _ (ap (firstRuleFault t line []) page ∙ page-stands (c .key) t line (c .sets) at (c .rules) (fits .rules))
+      (firstly-none _ _ (ap (firstRuleFault t whole line []) page ∙ page-stands (c .key) t whole line (c .sets) at (c .rules) (fits .rules))
       (ap₂ (λ (x : Contents) (l : List Statement). sizesTold t whole size line x l) (section-back c cs all pre d e at fits) page ∙ sizes-none size line at h)))
 
 -- ---- all of them

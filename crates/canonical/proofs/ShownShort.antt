@@ -50,7 +50,7 @@ place-short p e = omega (arith, ap length (place-spelled p e), length-append (de
     last-short true = omega arith
     last-short false = omega (arith, two-digits (p .component) (omega (arith, place-bounds p e .2)))
 
-kind-short : (k : Kind) → length (kindWord k) ≤ 8
+pub kind-short : (k : Kind) → length (kindWord k) ≤ 8
 unfolding kindNames
 kind-short Kind.Required = omega arith
 kind-short (Kind.Length low high) = omega arith
@@ -72,15 +72,15 @@ last-three (Kind.Time digits) = refl
 last-three (Kind.Code set) = refl
 
 -- ---- words of a line
-marked-line : (w : List ℕ) (ws : List (List ℕ)) → length (marked 32 (w ∷ ws)) ≡ 1 + length w + length (marked 32 ws)
+pub marked-line : (w : List ℕ) (ws : List (List ℕ)) → length (marked 32 (w ∷ ws)) ≡ 1 + length w + length (marked 32 ws)
 unfolding marked
 marked-line w ws = omega (arith, length-append w (marked 32 ws))
 
-joined-line : (w : List ℕ) (ws : List (List ℕ)) → length (joined 32 (w ∷ ws)) ≡ length w + length (marked 32 ws)
+pub joined-line : (w : List ℕ) (ws : List (List ℕ)) → length (joined 32 (w ∷ ws)) ≡ length w + length (marked 32 ws)
 unfolding joined
 joined-line w ws = length-append w (marked 32 ws)
 
-marked-none : length (marked 32 []) ≡ 0
+pub marked-none : length (marked 32 []) ≡ 0
 unfolding marked
 marked-none = refl
 

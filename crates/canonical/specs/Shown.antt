@@ -18,7 +18,8 @@ use Rattle.ack.specs.Layout.{joined}
 use Rattle.booktext.specs.Lines.{lineFeed}
 use Rattle.booktext.specs.Words.{kindNames}
 use Rattle.booktext.specs.Faults.{tell, nothing}
-use Rattle.booktext.specs.Refusals.{spotNumber, Outcome, unlessRefused}
+use Rattle.booktext.specs.Changes.{spotNumber}
+use Rattle.booktext.specs.Refusals.{Outcome, unlessRefused}
 use Rattle.booktext.specs.declared.told.Told.{Told}
 
 -- ---- lines

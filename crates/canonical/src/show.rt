@@ -4,7 +4,7 @@ use ack::layout::put_name;
 use ack::output::put;
 use ack::output::put_byte;
 use ack::output::put_number;
-use booktext::rules::is_in;
+use booktext::cell::spot_number;
 use booktext::told::Told;
 use booktext::told::tell;
 use grade::book::Indexed;
@@ -28,7 +28,7 @@ ghost use mathlib.Core.List.{[], _∷_, map};
 ghost use Prim.Native.Nat.{_≤_, _<_};
 ghost use lib.ListN.{length, getD, take, set};
 ghost use Rattle.hl7.specs.Text.{bytes};
-ghost use Rattle.hl7.specs.Bytes.{all};
+ghost use Rattle.hl7.specs.Bytes.{all, isIn};
 ghost use Rattle.grade.specs.Reader.{isFound, itemsOf, times};
 ghost use Rattle.grade.specs.Book.{text, decoded, malformed, otherVersion};
 ghost use Rattle.grade.specs.Limits.{codeLimit, ruleLimit};
@@ -151,7 +151,7 @@ fn put_verb(out: &mut [u8], at: usize, again: bool) -> usize
     put(out, at, b"rule")
 }
 
-fn put_place(out: &mut [u8], at: usize, place: Place) -> usize
+pub fn put_place(out: &mut [u8], at: usize, place: Place) -> usize
     ensures { λ r. ⌜ Wrote (now (out .entry)) at (32 ∷ placeWord place) (now (out .exit)) r ⌝ }
 {
     let second = put_byte(out, at, b' ');
@@ -160,7 +160,7 @@ fn put_place(out: &mut [u8], at: usize, place: Place) -> usize
     put_component(out, fourth, b'.', place.component)
 }
 
-fn put_kind(out: &mut [u8], at: usize, kind: Kind) -> usize
+pub fn put_kind(out: &mut [u8], at: usize, kind: Kind) -> usize
     ensures { λ r. ⌜ Wrote (now (out .entry)) at (32 ∷ kindWord kind) (now (out .exit)) r ⌝ }
 {
     match kind {
@@ -173,7 +173,7 @@ fn put_kind(out: &mut [u8], at: usize, kind: Kind) -> usize
     }
 }
 
-fn put_severity(out: &mut [u8], at: usize, severity: Severity) -> usize
+pub fn put_severity(out: &mut [u8], at: usize, severity: Severity) -> usize
     ensures { λ r. ⌜ Wrote (now (out .entry)) at (32 ∷ severityLetter severity ∷ []) (now (out .exit)) r ⌝ }
 {
     match severity {
@@ -184,7 +184,7 @@ fn put_severity(out: &mut [u8], at: usize, severity: Severity) -> usize
 }
 
 // Two numbers.
-fn put_range(out: &mut [u8], at: usize, low: u8, high: u8) -> usize
+pub fn put_range(out: &mut [u8], at: usize, low: u8, high: u8) -> usize
     ensures { λ r. ⌜ Wrote (now (out .entry)) at (marked 32 (boundWords [] (Kind.Length low high))) (now (out .exit)) r ⌝ }
 {
     let second = put_number(out, at, b' ', low as usize);
@@ -221,7 +221,7 @@ fn put_rule(out: &mut [u8], at: usize, key: &[u8], again: bool, rule: Rule) -> u
 }
 
 // A kind's number in a book.
-fn kind_byte(kind: Kind) -> usize
+fn kind_byte(kind: Kind) -> u8
     ensures { λ r. ⌜ (r ≡ kindByte kind) × (r ≤ 6) ⌝ }
 {
     match kind {
@@ -235,13 +235,25 @@ fn kind_byte(kind: Kind) -> usize
 }
 
 // Place and kind as one number.
-fn spot_of(rule: Rule) -> usize
+pub fn spot_of(rule: Rule) -> usize
     ensures { λ r. ⌜ r ≡ ruleSpot rule ⌝ }
 {
     let place = rule.place;
     let kind = rule.kind;
-    let field = (place.segment as usize) * 100 + place.field as usize;
-    (field * 21 + place.component as usize) * 7 + kind_byte(kind)
+    spot_number(place.segment, place.field, place.component, kind_byte(kind))
+}
+
+// Whether a number is among some.
+fn is_in(spots: &[usize], x: usize) -> bool
+    ensures { λ r. ⌜ r ≡ isIn x (now (spots .entry)) ⌝ }
+{
+    let mut any = false;
+    let mut i = 0;
+    while i < spots.len() {
+        any = any | (x == spots[i]);
+        i += 1;
+    }
+    any
 }
 
 // The line of the rule with a number; spots are noted of those before it, and then of it.

@@ -6,12 +6,16 @@ use mathlib.Core.List.{List, [], _∷_}
 use Rattle.hl7.specs.Text.{bytes}
 use Rattle.hl7.specs.Bytes.{all, same}
 use Rattle.hl7.specs.Cut.{ahead, cut}
+use Rattle.hl7.specs.Number.{valueAfter}
+use Rattle.grade.specs.Rule.{segmentNames, nameBytes, numberFrom as nameFrom, nameOfLetters}
 use Rattle.ack.specs.Decimal.{lastDigits, decimal}
 use Rattle.ack.specs.Layout.{joined, marked}
 use Rattle.booktext.specs.Lines.{cutAt, filled, wordsIn, unlessSilent, statementsFrom, statements, numberFrom, verbs, verbOf}
 use Rattle.booktext.specs.Meaning.{body, from, taken, expand}
+use Rattle.booktext.specs.Words.{isNumber, numberIn, placeIn, kindNames, kindNumber}
+use Rattle.booktext.specs.Changes.{spotOf, amended, dropped}
 use Rattle.legend.specs.People.{unled, untrailed, people}
-use Rattle.legend.specs.Legend.{ruleLegend, rulesLegend, sectionLegend, legendIn, legend}
+use Rattle.legend.specs.Legend.{laterRemarks, ruleLegend, rulesLegend, sectionLegend, legendIn, legend}
 
 -- a text and its legend
 data Sample : Type 0 where
@@ -34,8 +38,12 @@ samples =
     ∷ tells
     "book 1\ncommon c | words of a common\nrule PID-8 CODE E s | sex\nrule RXA-15 LENGTH W 1 16\nset s F M\nsection A | one\nuse c I | words of a use\nsection BB\nrule PID-3.1 REQUIRED E | id\nsets s\nuse c\n"
     "A 0 | one\nA 1 PID-8 CODE I s | sex\nA 2 RXA-15 LENGTH I 1 16\nBB 0\nBB 1 PID-3.1 REQUIRED E | id\nBB 2 PID-8 CODE E s | sex\nBB 3 RXA-15 LENGTH W 1 16\n"
+    -- a rule as a section changes it: its last severity and bound, and behind its own words those of each line that changes it; what is dropped has no line
+    ∷ tells
+    "book 1\nset s F M\nset u U\ncommon c\nrule PID-3.1 REQUIRED E | id\nrule PID-8 CODE E s | sex\nrule RXA-15 LENGTH W 1 16\nsection A\nuse c\nseverity PID-8 CODE W | softer\ndrop PID-3.1 REQUIRED | gone\nbound PID-8 CODE u\nseverity PID-8 CODE I | a remark | now\nbound RXA-15 LENGTH 2 9 | shorter\nmore u X | more\n"
+    "A 0\nA 1 PID-8 CODE I u | sex | softer | a remark | now\nA 2 RXA-15 LENGTH W 2 9 | shorter\n"
     ∷ []
 
 samples-right : allRight samples ≡ true
-unfolding samples allRight right all same ahead cut lastDigits decimal joined marked cutAt filled wordsIn unlessSilent statementsFrom statements numberFrom verbs verbOf body from taken expand unled untrailed people ruleLegend rulesLegend sectionLegend legendIn legend
+unfolding samples allRight right all same ahead cut valueAfter segmentNames nameBytes nameFrom nameOfLetters lastDigits decimal joined marked cutAt filled wordsIn unlessSilent statementsFrom statements numberFrom verbs verbOf body from taken expand unled untrailed people isNumber numberIn placeIn kindNames kindNumber spotOf amended dropped laterRemarks ruleLegend rulesLegend sectionLegend legendIn legend
 samples-right = refl

@@ -17,8 +17,9 @@ use Rattle.grade.specs.Rule.{ruleFits}
 use Rattle.grade.specs.Limits.{keyLimit, ruleLimit, setLimit, sectionLimit, bookLimit}
 use Rattle.ack.specs.Layout.{joined, marked}
 use Rattle.ack.proofs.Decimals.{decimal-short}
-use Rattle.booktext.specs.Lines.{Statement, word, says, makesRule, lineFeed, bar, blank, said, cutAt, filled, wordsIn, unlessSilent, statementsFrom, statements, textLimit, aCommon, aSection, aUse}
+use Rattle.booktext.specs.Lines.{Statement, word, says, lineFeed, bar, blank, said, cutAt, filled, wordsIn, unlessSilent, statementsFrom, statements, textLimit, aCommon, aSection, aUse, aSeverity, aBound}
 use Rattle.booktext.specs.Meaning.{body, from, under, give, taken, expand}
+use Rattle.booktext.specs.Changes.{spotOf, saysOf, bind, amend, amended, settled}
 use Rattle.booktext.specs.Contents.{made, rulesOf, namesOf, contentsOf, sectionOf, sectionsIn, meaning}
 use Rattle.booktext.specs.Faults.{firstly, firstFault}
 use Rattle.booktext.specs.Refusals.{bytesTold, firstNameFault, sectionTold, sectionsTold, namedTold, beginning, refusal, statementLimit}
@@ -27,8 +28,9 @@ use Rattle.booktext.proofs.Forming.{firstly-both, section-passed}
 use Rattle.booktext.proofs.Compiling.{text-short}
 use Rattle.booktext.proofs.Promises.{never-7}
 use Rattle.legend.specs.People.{unled, untrailed, trimmed, lineAt, people}
-use Rattle.legend.specs.Legend.{ending, ruleLegend, rulesLegend, sectionLegend, legendIn, legend}
-use Rattle.legend.specs.Roomy.{roomy}
+use Rattle.legend.specs.Legend.{remark, remarkOf, changes, laterRemarks, ruleLegend, stays, lineOfRule, rulesLegend, sectionLegend, legendIn, legend}
+use Rattle.legend.specs.Standing.{roomy}
+use Rattle.legend.proofs.Promises.{rules-settled}
 
 -- ---- what is not refused
 passed : (t : List ℕ) → refusal t .number ≡ 0 → (bytesTold t .number ≡ 0) × (sectionsTold t (statements t) beginning (statements t) .number ≡ 0)
@@ -161,71 +163,115 @@ untrailed-size (x ∷ s) = by (all blank (x ∷ s)) (untrailed-size s)
     by true ih = omega arith
     by false ih = omega arith
 
-ending-size : (words : List ℕ) → length (ending words) ≤ 4 + length words
-ending-size [] = omega arith
-ending-size (x ∷ words) = omega (arith, length-append (x ∷ words) (lineFeed ∷ []))
+remark-size : (words : List ℕ) → length (remark words) ≤ 3 + length words
+remark-size [] = omega arith
+remark-size (x ∷ words) = omega arith
 
-line-ends : (t : List ℕ) (at : ℕ) → length (ending (people (lineAt t at))) ≤ 4 + length t
-unfolding people
-line-ends t at =
-    let line = lineAt t at in
-    let behind = drop (suc (length (said line))) line in
-    omega (arith, ending-size (trimmed behind), untrailed-size (unled behind), unled-size behind, length-drop (suc (length (said line))) line, part-short lineFeed (drop at t) 0, length-drop at t)
+-- ---- a rule that later statements amend
+-- each part that its line shows has at most one byte more than the longest text
+record Short (s : Statement) : Type 0 where
+  place : length (word s 1) ≤ 1048577
+  kind : length (word s 2) ≤ 1048577
+  bound : length (marked 32 (drop 4 (s .words))) ≤ 1048577
 
--- ---- lines, rules, sections: a line has at most five times the longest text and 40 bytes, a section 257 lines, a text 64 sections
+brief-short : (s : Statement) → brief s ≡ true → Short s
+brief-short s h =
+    let words = leb-true (length (marked 32 (s .words))) 1048577 h in
+    record { place = omega (arith, words, part-size 32 (s .words) 1); kind = omega (arith, words, part-size 32 (s .words) 2); bound = omega (arith, words, rest-size 32 4 (s .words)) }
+
+amend-short : (spot : ℕ) (s x : Statement) → Short s → brief x ≡ true → Short (amend spot s x)
+amend-short spot s x f h = by (saysOf aSeverity spot x) (saysOf aBound spot x)
+  where
+    by : (a b : Bool) → Short (cond a (give (getD (word x 3) 0 0) s) (cond b (bind (drop 3 (x .words)) s) s))
+    by true b = record { place = f .place; kind = f .kind; bound = f .bound }
+    by false true = record { place = f .place; kind = f .kind; bound = omega (arith, leb-true (length (marked 32 (x .words))) 1048577 h, rest-size 32 3 (x .words)) }
+    by false false = f
+
+amended-short : (spot : ℕ) (s : Statement) (ss : List Statement) → Short s → each brief ss ≡ true → Short (amended spot s ss)
+unfolding amended
+amended-short spot s [] f e = f
+amended-short spot s (x ∷ ss) f e = let both = and-both (brief x) (each brief ss) e in amended-short spot (amend spot s x) ss (amend-short spot s x f (both .0)) (both .1)
+
+-- ---- lines, rules, sections: a line has at most 2,053 times the bytes of the longest text, a section 257 lines, a text 64 sections
+abbrev lineMost : ℕ
+lineMost = 2152726528
+
+abbrev sectionMost : ℕ
+sectionMost = 553250717696
+
 module _ (t : List ℕ) (short : length t ≤ textLimit) where
-  rule-size : (key : List ℕ) (n : ℕ) (s : Statement) → length key ≤ 1048577 → brief s ≡ true → length (ruleLegend t key n s) ≤ 5242920
-  unfolding ruleLegend joined marked
-  rule-size key n s k h =
-      let words = leb-true (length (marked 32 (s .words))) 1048577 h in
-      simp length-append
-      (omega (arith, words, decimal-short n, part-size 32 (s .words) 1, part-size 32 (s .words) 2, rest-size 32 4 (s .words), line-ends t (s .at)))
+  own-remark : (s : Statement) → length (remarkOf t s) ≤ 1048579
+  unfolding people
+  own-remark s =
+      let line = lineAt t (s .at) in
+      let behind = drop (suc (length (said line))) line in
+      omega (arith, short, remark-size (trimmed behind), untrailed-size (unled behind), unled-size behind, length-drop (suc (length (said line))) line, part-short lineFeed (drop (s .at) t) 0, length-drop (s .at) t)
 
-  rules-size : (names : List (List ℕ)) (key : List ℕ) (n : ℕ) (ss : List Statement) → length key ≤ 1048577 → each brief ss ≡ true → length (rulesLegend t key n ss) ≤ length (rulesOf names ss) * 5242920
-  unfolding rulesLegend rulesOf
-  rules-size names key n [] k e = omega arith
-  rules-size names key n (s ∷ ss) k e =
-      let both = and-both (brief s) (each brief ss) e in
-      by (makesRule s) (rule-size key n s k (both .0)) (rules-size names key n ss k (both .1)) (rules-size names key (suc n) ss k (both .1))
+  later-remarks : (spot : ℕ) (ss : List Statement) → length (laterRemarks t spot ss) ≤ length ss * 1048579
+  unfolding laterRemarks
+  later-remarks spot [] = omega arith
+  later-remarks spot (x ∷ ss) = by (changes spot x) (later-remarks spot ss)
     where
-      by : (b : Bool) → length (ruleLegend t key n s) ≤ 5242920 → length (rulesLegend t key n ss) ≤ length (rulesOf names ss) * 5242920 → length (rulesLegend t key (suc n) ss) ≤ length (rulesOf names ss) * 5242920
-          → length (cond b (ruleLegend t key n s ++ rulesLegend t key (suc n) ss) (rulesLegend t key n ss)) ≤ length (cond b (made names s ∷ rulesOf names ss) (rulesOf names ss)) * 5242920
-      by true one here next = omega (arith, one, next, length-append (ruleLegend t key n s) (rulesLegend t key (suc n) ss))
+      by : (b : Bool) → length (laterRemarks t spot ss) ≤ length ss * 1048579 → length (cond b (remarkOf t x ++ laterRemarks t spot ss) (laterRemarks t spot ss)) ≤ suc (length ss) * 1048579
+      by true ih = omega (arith, ih, own-remark x, length-append (remarkOf t x) (laterRemarks t spot ss))
+      by false ih = omega (arith, ih)
+
+  rule-size : (key : List ℕ) (n : ℕ) (s : Statement) (remarks : List ℕ) → length key ≤ 1048577 → Short s → length remarks ≤ 2147489792 → length (ruleLegend t key n s remarks) ≤ lineMost
+  unfolding ruleLegend joined marked
+  rule-size key n s remarks k f r = simp length-append (omega (arith, k, f .place, f .kind, f .bound, r, decimal-short n))
+
+  line-size : (key : List ℕ) (n : ℕ) (s : Statement) (ss : List Statement) → length key ≤ 1048577 → suc (length ss) ≤ statementLimit → brief s ≡ true → each brief ss ≡ true → length (lineOfRule t key n s ss) ≤ lineMost
+  line-size key n s ss k few h e =
+      let remarks = length-append (remarkOf t s) (laterRemarks t (spotOf s) ss) in
+      rule-size key n (amended (spotOf s) s ss) (remarkOf t s ++ laterRemarks t (spotOf s) ss) k (amended-short (spotOf s) s ss (brief-short s h) e) (omega (arith, few, remarks, own-remark s, later-remarks (spotOf s) ss))
+
+  rules-size : (names : List (List ℕ)) (key : List ℕ) (n : ℕ) (ss : List Statement) → length key ≤ 1048577 → length ss ≤ statementLimit → each brief ss ≡ true → length (rulesLegend t key n ss) ≤ length (rulesOf names (settled ss)) * lineMost
+  unfolding rulesLegend
+  rules-size names key n [] k few e = omega arith
+  rules-size names key n (s ∷ ss) k few e =
+      let both = and-both (brief s) (each brief ss) e in
+      let less : length ss ≤ statementLimit = omega (arith, few) in
+      rw (rules-settled t names s ss)
+      (by (stays s ss) (line-size key n s ss k few (both .0) (both .1)) (rules-size names key n ss k less (both .1)) (rules-size names key (suc n) ss k less (both .1)))
+    where
+      by : (b : Bool) → length (lineOfRule t key n s ss) ≤ lineMost → length (rulesLegend t key n ss) ≤ length (rulesOf names (settled ss)) * lineMost → length (rulesLegend t key (suc n) ss) ≤ length (rulesOf names (settled ss)) * lineMost
+          → length (cond b (lineOfRule t key n s ss ++ rulesLegend t key (suc n) ss) (rulesLegend t key n ss)) ≤ length (cond b (made names (amended (spotOf s) s ss) ∷ rulesOf names (settled ss)) (rulesOf names (settled ss))) * lineMost
+      by true one here next = omega (arith, one, next, length-append (lineOfRule t key n s ss) (rulesLegend t key (suc n) ss))
       by false one here next = here
 
-  section-size : (all : List Statement) (s : Statement) (after : List Statement) → each brief all ≡ true → brief s ≡ true → each brief after ≡ true → length (sectionOf all s after .rules) ≤ ruleLimit
-      → length (sectionLegend t all s after) ≤ 1347430440
+  section-size : (all : List Statement) (s : Statement) (after : List Statement) → each brief all ≡ true → brief s ≡ true → each brief after ≡ true → length (expand all (body after)) ≤ statementLimit → length (sectionOf all s after .rules) ≤ ruleLimit
+      → length (sectionLegend t all s after) ≤ sectionMost
   unfolding sectionLegend contentsOf joined marked
-  section-size all s after every h later few =
+  section-size all s after every h later few rules =
       let ss = expand all (body after) in
-      let words = leb-true (length (marked 32 (s .words))) 1048577 h in
-      let key : length (word s 1) ≤ 1048577 = omega (arith, part-size 32 (s .words) 1, words) in
-      let rules = rules-size (namesOf ss) (word s 1) 1 ss key (expand-brief all (body after) every (each-body brief after later)) in
-      simp length-append (omega (arith, key, rules, few, line-ends t (s .at)))
+      let key = brief-short s h .place in
+      let lines = rules-size (namesOf (settled ss)) (word s 1) 1 ss key few (expand-brief all (body after) every (each-body brief after later)) in
+      simp length-append (omega (arith, key, lines, rules, own-remark s))
 
-  sections-size : (all ss : List Statement) → each brief all ≡ true → each brief ss ≡ true → each sectionFits (sectionsIn all ss) ≡ true → length (legendIn t all ss) ≤ length (sectionsIn all ss) * 1347430440
-  unfolding legendIn sectionsIn
-  sections-size all [] every e f = omega arith
-  sections-size all (s ∷ ss) every e f =
+  sections-size : (all ss : List Statement) → each brief all ≡ true → each brief ss ≡ true → roomy all ss ≡ true → each sectionFits (sectionsIn all ss) ≡ true → length (legendIn t all ss) ≤ length (sectionsIn all ss) * sectionMost
+  unfolding legendIn sectionsIn roomy
+  sections-size all [] every e r f = omega arith
+  sections-size all (s ∷ ss) every e r f =
       let both = and-both (brief s) (each brief ss) e in
-      by (says aSection s) f (section-size all s ss every (both .0) (both .1)) (λ g. sections-size all ss every (both .1) g)
+      let room = and-both (not (says aSection s) || leb (length (expand all (body ss))) statementLimit) (roomy all ss) r in
+      by (says aSection s) (room .0) f (section-size all s ss every (both .0) (both .1)) (λ g. sections-size all ss every (both .1) (room .1) g)
     where
-      by : (b : Bool) → each sectionFits (cond b (sectionOf all s ss ∷ sectionsIn all ss) (sectionsIn all ss)) ≡ true
-          → (length (sectionOf all s ss .rules) ≤ ruleLimit → length (sectionLegend t all s ss) ≤ 1347430440)
-          → (each sectionFits (sectionsIn all ss) ≡ true → length (legendIn t all ss) ≤ length (sectionsIn all ss) * 1347430440)
-          → length (cond b (sectionLegend t all s ss ++ legendIn t all ss) (legendIn t all ss)) ≤ length (cond b (sectionOf all s ss ∷ sectionsIn all ss) (sectionsIn all ss)) * 1347430440
-      by true g own ih =
+      by : (b : Bool) → (not b || leb (length (expand all (body ss))) statementLimit) ≡ true → each sectionFits (cond b (sectionOf all s ss ∷ sectionsIn all ss) (sectionsIn all ss)) ≡ true
+          → (length (expand all (body ss)) ≤ statementLimit → length (sectionOf all s ss .rules) ≤ ruleLimit → length (sectionLegend t all s ss) ≤ sectionMost)
+          → (each sectionFits (sectionsIn all ss) ≡ true → length (legendIn t all ss) ≤ length (sectionsIn all ss) * sectionMost)
+          → length (cond b (sectionLegend t all s ss ++ legendIn t all ss) (legendIn t all ss)) ≤ length (cond b (sectionOf all s ss ∷ sectionsIn all ss) (sectionsIn all ss)) * sectionMost
+      by true room g own ih =
           let c = sectionOf all s ss in
           let both = and-both (sectionFits c) (each sectionFits (sectionsIn all ss)) g in
           let counts = and-both (textFits keyLimit (c .key)) (leb (length (c .rules)) ruleLimit && leb (length (c .sets)) setLimit)
           (and-both (textFits keyLimit (c .key) && (leb (length (c .rules)) ruleLimit && leb (length (c .sets)) setLimit)) (each (ruleFits (length (c .sets))) (c .rules))
           (and-both (textFits keyLimit (c .key) && (leb (length (c .rules)) ruleLimit && leb (length (c .sets)) setLimit) && each (ruleFits (length (c .sets))) (c .rules)) (each setFits (c .sets)) (both .0) .0) .0) .1 in
           let few = leb-true (length (c .rules)) ruleLimit (and-both (leb (length (c .rules)) ruleLimit) (leb (length (c .sets)) setLimit) counts .0) in
-          omega (arith, own few, ih (both .1), length-append (sectionLegend t all s ss) (legendIn t all ss))
-      by false g own ih = ih g
+          omega (arith, own (leb-true (length (expand all (body ss))) statementLimit room) few, ih (both .1), length-append (sectionLegend t all s ss) (legendIn t all ss))
+      by false room g own ih = ih g
 
 -- a legend has at most so many bytes
-pub legend-short : (t : List ℕ) → refusal t .number ≡ 0 → length (legend t) ≤ 86235548160
+pub legend-short : (t : List ℕ) → refusal t .number ≡ 0 → length (legend t) ≤ 35408045932544
 unfolding legend wellFormed meaning
 legend-short t h =
     let cs = meaning t in
@@ -234,4 +280,4 @@ legend-short t h =
     let c = and-both (within 1 sectionLimit (length cs)) (each sectionFits cs) b in
     let few = leb-true (length cs) sectionLimit (and-both (leb 1 (length cs)) (leb (length cs) sectionLimit) (c .0) .1) in
     let words = text-brief t (text-fits t h) in
-    omega (arith, few, sections-size t (text-fits t h) (statements t) (statements t) words words (c .1))
+    omega (arith, few, sections-size t (text-fits t h) (statements t) (statements t) words words (text-roomy t h) (c .1))

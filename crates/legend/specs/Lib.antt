@@ -1,3 +1,3 @@
 pub mod People
 pub mod Legend
-pub mod Roomy
+pub mod Standing

@@ -1,10 +1,9 @@
 -- `booktext::fault::all_codes` meets its contract. The invariant of its loop: all words are codes if all from i on are. Assumes nothing.
-use mathlib.Core.Path.{_≡_, refl, sym, _∙_}
+use mathlib.Core.Path.{_≡_, refl, ap, _∙_}
 use lib.ListN.{length}
 use Rattle.grade.specs.Encoding.{each, textFits}
 use Rattle.booktext.specs.Standing.{wordsFrom}
-use Rattle.booktext.proofs.Words.{words-fewer}
-use Rattle.booktext.proofs.Faulting.{codes-done, codes-wrong, codes-more}
+use Rattle.booktext.proofs.Words.{words-fewer, words-all, words-not, words-later}
 use Rattle.booktext.proofs.fault.all_codes.Statement.{statement}
 use Rattle.booktext.proofs.fault.all_codes.Tie as tie
 
@@ -20,13 +19,13 @@ loop-holds c = refl
 returns : tie.Need-returns Inv-loop μ-loop
 returns c =
     let at-word = c .before .before in
-    codes-done _ _ (at-word .next-word .ensures) (c .if1 .taken) ∙ sym (at-word .before .loop .inv)
+    words-all (textFits 20) _ (at-word .before .loop .i) (at-word .before .loop .inv) (at-word .next-word .ensures) (c .if1 .taken)
 
 returns-2 : tie.Need-returns-2 Inv-loop μ-loop
 returns-2 c =
     let at-if1 = c .before .before .before in
     let at-word = at-if1 .before .before in
-    codes-wrong _ _ (at-word .next-word .ensures) (at-if1 .if1 .left) (c .before .before .part .ensures) (c .before .is-text .ensures) (c .if2 .taken) ∙ sym (at-word .before .loop .inv)
+    words-not (textFits 20) _ (at-word .before .loop .i) (at-word .before .loop .inv) (at-word .next-word .ensures) (at-if1 .if1 .left) (c .before .is-text .ensures ∙ ap (textFits 20) (c .before .before .part .ensures)) (c .if2 .taken)
 
 loop-less : tie.Need-loop-less Inv-loop μ-loop
 loop-less c =
@@ -37,7 +36,7 @@ loop-again : tie.Need-loop-again Inv-loop μ-loop
 loop-again c =
     let at-if1 = c .before .before .before in
     let at-word = at-if1 .before .before in
-    at-word .before .loop .inv ∙ codes-more _ _ (at-word .next-word .ensures) (at-if1 .if1 .left) (c .before .before .part .ensures) (c .before .is-text .ensures) (c .if2 .left)
+    words-later (textFits 20) _ (at-word .before .loop .i) (at-word .before .loop .inv) (at-word .next-word .ensures) (at-if1 .if1 .left) (c .before .is-text .ensures ∙ ap (textFits 20) (c .before .before .part .ensures)) (c .if2 .left)
 
 pub all-codes-spec : {M : Type 1} → statement M
 all-codes-spec =

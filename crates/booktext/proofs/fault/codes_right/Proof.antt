@@ -9,10 +9,10 @@ returns c = codes-code _ (c .before .before .if1 .taken) (c .before .skip-words 
 returns-2 : tie.Need-returns-2
 returns-2 c =
     let at-if2 = c .before .before in
-    codes-set _ (at-if2 .before .if1 .left) (at-if2 .if2 .taken) (c .before .skip-words2 .ensures) (c .all-codes2 .ensures)
+    codes-set _ (at-if2 .before .before .if1 .left) (at-if2 .before .is-codes .ensures) (at-if2 .if2 .taken) (c .before .skip-words2 .ensures) (c .all-codes2 .ensures)
 
 returns-3 : tie.Need-returns-3
-returns-3 c = codes-others _ (c .before .if1 .left) (c .if2 .left)
+returns-3 c = codes-others _ (c .before .before .if1 .left) (c .before .is-codes .ensures) (c .if2 .left)
 
 pub codes-right-spec : {M : Type 1} → statement M
 codes-right-spec =
@@ -21,6 +21,7 @@ codes-right-spec =
     (λ c κs. tt)
     (λ c κs. tt)
     returns
+    (λ c κs. tt)
     (λ c κs. tt)
     (λ c κs. tt)
     returns-2

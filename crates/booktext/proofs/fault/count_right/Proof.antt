@@ -3,7 +3,9 @@ use Rattle.booktext.proofs.fault.count_right.Statement.{statement}
 use Rattle.booktext.proofs.fault.count_right.Tie as tie
 
 returns : tie.Need-returns
-returns c = rw (c .either3 .ensures, c .before .is-rule .ensures, c .before .before .either2 .ensures, c .before .before .before .either .ensures)
+returns c =
+    let at-named = c .before .before .before in
+    rw (c .either3 .ensures, c .before .is-rule .ensures, c .before .before .either2 .ensures, at-named .either .ensures, at-named .before .change-right .ensures)
 
 pub count-right-spec : {M : Type 1} → statement M
-count-right-spec = tie.close (tie.spec (λ c κs. tt) (λ c κs. tt) (λ c κs. tt) (λ c κs. tt) returns)
+count-right-spec = tie.close (tie.spec (λ c κs. tt) (λ c κs. tt) (λ c κs. tt) (λ c κs. tt) (λ c κs. tt) returns)

@@ -1,7 +1,12 @@
 -- `booktext::fault::late_fault` meets its contract: one row after the other. Assumes nothing.
+use native.Mathlib.Omega.{arith}
+use native.Mathlib.Numerals.{add-one}
 use Rattle.booktext.specs.Standing.{lateFault}
 use Rattle.booktext.proofs.fault.late_fault.Statement.{statement}
 use Rattle.booktext.proofs.fault.late_fault.Tie as tie
+
+add-word-of : tie.Need-add-word-of
+add-word-of c = omega (arith, c .before .before-bound .ensures .1)
 
 returns : tie.Need-returns
 unfolding lateFault
@@ -10,7 +15,9 @@ returns c =
     let at-codes = at-place .before .before in
     let at-kind = at-codes .before .before .before .before in
     let at-bound = at-kind .before in
-    let at-severity = at-bound .before .before .before in
+    let at-high = at-bound .before in
+    let at-start = at-high .before .before in
+    let at-severity = at-start .before in
     rw (
       c .pick5 .ensures .0,
       c .before .pick4 .ensures .0,
@@ -23,8 +30,10 @@ returns c =
       at-severity .severity-right .ensures,
       at-bound .bound-right .ensures,
       at-place .before .word-of5 .ensures,
-      at-bound .before .word-of4 .ensures,
-      at-bound .before .before .word-of3 .ensures,
+      at-high .word-of4 .ensures,
+      at-high .before .word-of3 .ensures,
+      add-one,
+      at-start .before-bound .ensures .0,
       at-severity .before .word-of2 .ensures,
       at-severity .before .before .word-of .ensures,
     )
@@ -37,6 +46,8 @@ late-fault-spec =
     (λ c κs. tt)
     (λ c κs. tt)
     (λ c κs. tt)
+    (λ c κs. tt)
+    add-word-of
     (λ c κs. tt)
     (λ c κs. tt)
     (λ c κs. tt)

@@ -1,13 +1,12 @@
 -- `booktext::refer::are_sets` meets its contract. The invariant of its loop: the words passed are names of sets. Assumes nothing.
-use mathlib.Core.Path.{_≡_, refl}
+use mathlib.Core.Path.{_≡_, refl, ap, _∙_}
 use borrow.Author.Needs.{needs}
 use lib.ListN.{length}
 use Rattle.grade.specs.Encoding.{each}
 use Rattle.booktext.specs.Lines.{statements}
 use Rattle.booktext.specs.Refusals.{isSet}
 use Rattle.booktext.specs.Standing.{wordsFrom}
-use Rattle.booktext.proofs.Words.{words-fewer}
-use Rattle.booktext.proofs.Referring.{sets-all, sets-not, sets-on}
+use Rattle.booktext.proofs.Words.{words-fewer, words-all, words-not, words-later}
 use Rattle.booktext.proofs.refer.are_sets.Statement.{statement}
 use Rattle.booktext.proofs.refer.are_sets.Tie as tie
 
@@ -22,7 +21,7 @@ returns c =
     let at-word = c .before .before in
     let at-loop = at-word .before in
     let a = at-loop .before .before .before .args in
-    sets-all (a .t .now) (a .at) (at-loop .loop .i) (statements (a .t .now)) (at-loop .loop .inv) (at-word .next-word .result) (at-word .next-word .ensures) (c .if1 .taken)
+    words-all (isSet (statements (a .t .now))) (a .t .now) (at-loop .loop .i) (at-loop .loop .inv) (at-word .next-word .ensures) (c .if1 .taken)
 
 is-there-requires : tie.Need-is-there-requires Inv-loop μ-loop
 is-there-requires c κs = (c .before .before .before .before .before .before .before .pre, refl)
@@ -33,7 +32,7 @@ returns-2 c =
     let at-word = at-if .before .before in
     let at-loop = at-word .before in
     let a = at-loop .before .before .before .args in
-    sets-not (a .t .now) (a .at) (at-loop .loop .i) (statements (a .t .now)) (at-loop .loop .inv) (at-word .next-word .result) (at-word .next-word .ensures) (at-if .if1 .left) (c .before .before .part .ensures) (c .before .is-there .ensures) (c .if2 .taken)
+    words-not (isSet (statements (a .t .now))) (a .t .now) (at-loop .loop .i) (at-loop .loop .inv) (at-word .next-word .ensures) (at-if .if1 .left) (c .before .is-there .ensures ∙ ap (isSet (statements (a .t .now))) (c .before .before .part .ensures)) (c .if2 .taken)
 
 loop-less : tie.Need-loop-less Inv-loop μ-loop
 loop-less c =
@@ -48,7 +47,7 @@ loop-again c =
     let at-word = at-if .before .before in
     let at-loop = at-word .before in
     let a = at-loop .before .before .before .args in
-    sets-on (a .t .now) (a .at) (at-loop .loop .i) (statements (a .t .now)) (at-loop .loop .inv) (at-word .next-word .result) (at-word .next-word .ensures) (at-if .if1 .left) (c .before .before .part .ensures) (c .before .is-there .ensures) (c .if2 .left)
+    words-later (isSet (statements (a .t .now))) (a .t .now) (at-loop .loop .i) (at-loop .loop .inv) (at-word .next-word .ensures) (at-if .if1 .left) (c .before .is-there .ensures ∙ ap (isSet (statements (a .t .now))) (c .before .before .part .ensures)) (c .if2 .left)
 
 pub are-sets-spec : {M : Type 1} → statement M
 are-sets-spec =

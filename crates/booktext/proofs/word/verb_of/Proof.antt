@@ -1,8 +1,7 @@
 -- `booktext::word::verb_of` meets its contract: one name after the other. Assumes nothing.
 use mathlib.Core.Path.{refl}
-use Prim.Native.Nat.{zero-le}
 use borrow.Author.Needs.{needs}
-use Rattle.booktext.proofs.Reading.{picked-few, asked-verb}
+use Rattle.booktext.proofs.Reading.{picked-few, change-few, asked-verb}
 use Rattle.booktext.proofs.word.verb_of.Statement.{statement}
 use Rattle.booktext.proofs.word.verb_of.Tie as tie
 
@@ -19,7 +18,7 @@ short-requires c κs =
     (picked-few 6 refl (at-common .before .before .before .pick4 .ensures .1)
     (picked-few 7 refl (at-common .before .before .before .before .pick3 .ensures .1)
     (picked-few 8 refl (at-code .before .before .pick2 .ensures .1)
-    (picked-few 9 refl (at-code .before .before .before .pick .ensures .1) zero-le))))))))
+    (picked-few 9 refl (at-code .before .before .before .pick .ensures .1) (change-few _ (at-code .before .before .before .before .change-of .ensures))))))))))
 
 returns : tie.Need-returns
 returns c =
@@ -30,7 +29,7 @@ returns c =
     let at-sets = at-common .before .before .before .before .before in
     let at-use = at-sets .before .before in
     let at-code = at-use .before .before in
-    let at-also = at-code .before .before .before .before in
+    let at-also = at-code .before .before .before .before .before in
     let at-rule = at-also .before .before in
     asked-verb _
     (at-book .same-bytes8 .ensures)
@@ -52,6 +51,7 @@ returns c =
     (at-common .before .before .before .before .pick3 .ensures .0)
     (at-code .before .before .pick2 .ensures .0)
     (at-code .before .before .before .pick .ensures .0)
+    (at-code .before .before .before .before .change-of .ensures)
 
 pub verb-of-spec : {M : Type 1} → statement M
 verb-of-spec =
@@ -60,6 +60,7 @@ verb-of-spec =
     (λ c. search needs)
     (λ c κs. tt)
     (λ c. search needs)
+    (λ c κs. tt)
     (λ c κs. tt)
     (λ c κs. tt)
     (λ c κs. tt)
