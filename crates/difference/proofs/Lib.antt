@@ -1,0 +1,12 @@
+pub mod Counting
+pub mod Coding
+pub mod Lining
+pub mod Sections
+pub mod Bounds
+pub mod Answering
+pub mod Alike
+pub mod Silent
+pub mod Speaking
+pub mod Together
+pub mod Promises
+pub mod Samples
