@@ -19,8 +19,8 @@ use Rattle.book.specs.declared.command.Command.{Command}
 use Rattle.book.specs.declared.counts.Counts.{Counts}
 use Rattle.book.specs.Command.{commandOf}
 use Rattle.book.specs.Counts.{sectionsIn}
-use Rattle.book.specs.Words.{laterWords, wordsFor}
-use Rattle.book.specs.Reply.{lineText, refusedText, sourceRefusedText, compiledText, made, toldText, bookRefusedText, shownText, legendText}
+use Rattle.book.specs.Words.{lastWords, laterWords, wordsFor}
+use Rattle.book.specs.Reply.{lineText, refusedText, sourceRefusedText, compiledText, made, toldText, bookRefusedText, shownText, legendText, diffText}
 use Rattle.book.specs.Standing.{countsOf}
 
 -- ---- the command line, by the tests of the code
@@ -44,18 +44,29 @@ module _ (count : ℕ) (verb : List ℕ) {first : Bool} (e : first ≡ same verb
         unfolding commandOf
         command-legend t = rw (← e, f, ← g, h, ← i, j, ← k, t)
 
-        pub command-unknown : (eqb count 3 && fourth) ≡ false → Command.Unknown ≡ commandOf count verb
-        unfolding commandOf
-        command-unknown t = rw (← e, f, ← g, h, ← i, j, ← k, t)
+        module _ (l : (eqb count 3 && fourth) ≡ false) {fifth : Bool} (m : fifth ≡ same verb (bytes "diff")) where
+          pub command-diff : (eqb count 4 && fifth) ≡ true → Command.Diff ≡ commandOf count verb
+          unfolding commandOf
+          command-diff t = rw (← e, f, ← g, h, ← i, j, ← k, l, ← m, t)
+
+          pub command-unknown : (eqb count 4 && fifth) ≡ false → Command.Unknown ≡ commandOf count verb
+          unfolding commandOf
+          command-unknown t = rw (← e, f, ← g, h, ← i, j, ← k, l, ← m, t)
 
 -- ---- a refusal
 pub words-none : (n : ℕ) →
-    (n ≡ 43 → ⊥) → (n ≡ 44 → ⊥) → (n ≡ 45 → ⊥) → (n ≡ 46 → ⊥) → (n ≡ 47 → ⊥) → (n ≡ 48 → ⊥) →
-    (n ≡ 50 → ⊥) → (n ≡ 51 → ⊥) → (n ≡ 53 → ⊥) → (n ≡ 54 → ⊥) → (n ≡ 55 → ⊥) → (n ≡ 56 → ⊥) →
-    laterWords n ≡ []
+    (n ≡ 50 → ⊥) → (n ≡ 51 → ⊥) → (n ≡ 52 → ⊥) → (n ≡ 53 → ⊥) → (n ≡ 54 → ⊥) → (n ≡ 55 → ⊥) → (n ≡ 56 → ⊥) →
+    lastWords n ≡ []
+unfolding lastWords
+words-none n h50 h51 h52 h53 h54 h55 h56 =
+    rw (ne-eqb n 50 h50, ne-eqb n 51 h51, ne-eqb n 52 h52, ne-eqb n 53 h53, ne-eqb n 54 h54, ne-eqb n 55 h55, ne-eqb n 56 h56)
+
+pub words-last : (n : ℕ) →
+    (n ≡ 43 → ⊥) → (n ≡ 44 → ⊥) → (n ≡ 45 → ⊥) → (n ≡ 46 → ⊥) → (n ≡ 47 → ⊥) → (n ≡ 48 → ⊥) → (n ≡ 49 → ⊥) →
+    laterWords n ≡ lastWords n
 unfolding laterWords
-words-none n h43 h44 h45 h46 h47 h48 h50 h51 h53 h54 h55 h56 =
-    rw (ne-eqb n 43 h43, ne-eqb n 44 h44, ne-eqb n 45 h45, ne-eqb n 46 h46, ne-eqb n 47 h47, ne-eqb n 48 h48, ne-eqb n 50 h50, ne-eqb n 51 h51, ne-eqb n 53 h53, ne-eqb n 54 h54, ne-eqb n 55 h55, ne-eqb n 56 h56)
+words-last n h43 h44 h45 h46 h47 h48 h49 =
+    rw (ne-eqb n 43 h43, ne-eqb n 44 h44, ne-eqb n 45 h45, ne-eqb n 46 h46, ne-eqb n 47 h47, ne-eqb n 48 h48, ne-eqb n 49 h49)
 
 pub words-later : (n : ℕ) →
     (n ≡ 31 → ⊥) → (n ≡ 32 → ⊥) → (n ≡ 33 → ⊥) → (n ≡ 34 → ⊥) → (n ≡ 35 → ⊥) → (n ≡ 36 → ⊥) →
@@ -111,7 +122,7 @@ module _ (t : Told) (output : List ℕ) where
   unfolding shownText
   shown-made e = rw (eq-eqb (t .number) 0 e)
 
-  pub shown-refused : (t .number ≡ 0 → ⊥) → bookRefusedText (t .number) ≡ shownText t output
+  pub shown-refused : (t .number ≡ 0 → ⊥) → bookRefusedText (t .number) [] ≡ shownText t output
   unfolding shownText
   shown-refused e = rw (ne-eqb (t .number) 0 e)
 
@@ -122,3 +133,21 @@ module _ (t : Told) (output : List ℕ) where
   pub legend-refused : (t .number ≡ 0 → ⊥) → sourceRefusedText t ≡ legendText t output
   unfolding legendText
   legend-refused e = rw (ne-eqb (t .number) 0 e)
+
+  pub diff-made : t .number ≡ 0 → made t output ≡ diffText t output
+  unfolding diffText
+  diff-made e = rw (eq-eqb (t .number) 0 e)
+
+  module _ (some : t .number ≡ 0 → ⊥) where
+    pub diff-long : t .number ≡ 55 → sourceRefusedText t ≡ diffText t output
+    unfolding diffText
+    diff-long e = rw (ne-eqb (t .number) 0 some, eq-eqb (t .number) 55 e)
+
+    module _ (short : t .number ≡ 55 → ⊥) where
+      pub diff-old : t .detail ≡ 1 → bookRefusedText (t .number) (bytes " old") ≡ diffText t output
+      unfolding diffText
+      diff-old e = rw (ne-eqb (t .number) 0 some, ne-eqb (t .number) 55 short, eq-eqb (t .detail) 1 e)
+
+      pub diff-new : (t .detail ≡ 1 → ⊥) → bookRefusedText (t .number) (bytes " new") ≡ diffText t output
+      unfolding diffText
+      diff-new e = rw (ne-eqb (t .number) 0 some, ne-eqb (t .number) 55 short, ne-eqb (t .detail) 1 e)

@@ -13,4 +13,5 @@ commandOf count verb =
     cond (eqb count 4 && same verb (bytes "compile")) Command.Compile
     (cond (eqb count 3 && same verb (bytes "check")) Command.Check
     (cond (eqb count 3 && same verb (bytes "show")) Command.Show
-    (cond (eqb count 3 && same verb (bytes "legend")) Command.Legend Command.Unknown)))
+    (cond (eqb count 3 && same verb (bytes "legend")) Command.Legend
+    (cond (eqb count 4 && same verb (bytes "diff")) Command.Diff Command.Unknown))))

@@ -20,7 +20,7 @@ unfoldable pub refusedText : (number line section : ℕ) → List ℕ
 refusedText number line section =
     bytes "refused " ++ (decimal number ++ (lineText (bytes " line") line ++ (lineText (bytes " section") section ++ (bytes ": " ++ (wordsFor number ++ bytes "\n")))))
 
--- why a source is refused; the detail of 55 is a length and no line
+-- why a source is refused, or what is to be printed is too long: the detail of 55 is a length and no line
 unfoldable pub sourceRefusedText : Told → List ℕ
 sourceRefusedText t = refusedText (t .number) (cond (eqb (t .number) 55) 0 (t .detail)) (t .section)
 
@@ -40,16 +40,23 @@ toldText t output =
     (compiledText (t .detail) (length (sectionsIn (made t output))) (ruleTotal (sectionsIn (made t output))) (setTotal (sectionsIn (made t output))))
     (sourceRefusedText t)
 
-unfoldable pub bookRefusedText : ℕ → List ℕ
-bookRefusedText number = bytes "book refused " ++ (decimal number ++ bytes "\n")
+-- which says which book it is, where there are two
+unfoldable pub bookRefusedText : ℕ → (which : List ℕ) → List ℕ
+bookRefusedText number which = bytes "book refused " ++ (decimal number ++ (which ++ bytes "\n"))
 
 -- by what showing a book told, and the output afterwards: the text itself
 unfoldable pub shownText : Told → (output : List ℕ) → List ℕ
-shownText t output = cond (eqb (t .number) 0) (made t output) (bookRefusedText (t .number))
+shownText t output = cond (eqb (t .number) 0) (made t output) (bookRefusedText (t .number) [])
 
 -- by what asking for a legend told, and the output afterwards: the legend itself
 unfoldable pub legendText : Told → (output : List ℕ) → List ℕ
 legendText t output = cond (eqb (t .number) 0) (made t output) (sourceRefusedText t)
+
+-- by what comparing two books told, and the output afterwards: the lines themselves, or that there is no room for them, or which book is refused
+unfoldable pub diffText : Told → (output : List ℕ) → List ℕ
+diffText t output =
+    cond (eqb (t .number) 0) (made t output)
+    (cond (eqb (t .number) 55) (sourceRefusedText t) (bookRefusedText (t .number) (cond (eqb (t .detail) 1) (bytes " old") (bytes " new"))))
 
 -- ---- files, and the command line
 -- a file that cannot be read, or written
@@ -57,4 +64,4 @@ unfoldable pub fileText : (what path : List ℕ) → List ℕ
 fileText what path = bytes "file cannot be " ++ (what ++ (bytes ": " ++ (path ++ bytes "\n")))
 
 abbrev pub usageText : List ℕ
-usageText = bytes "usage: book compile SOURCE BOOK | check SOURCE | show BOOK | legend SOURCE\n"
+usageText = bytes "usage: book compile SOURCE BOOK | check SOURCE | show BOOK | legend SOURCE | diff OLD NEW\n"

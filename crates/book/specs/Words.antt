@@ -5,7 +5,18 @@ use mathlib.Core.List.{List, []}
 use lib.Dec.{eqb}
 use Rattle.hl7.specs.Text.{bytes}
 
--- of those that look at more than the text's bytes and a statement by itself
+-- of those that look at a whole section, or at all that is made
+unfoldable pub lastWords : ℕ → List ℕ
+lastWords n =
+    cond (eqb n 50) (bytes "the section has over 256 rules")
+    (cond (eqb n 51) (bytes "the section holds over 64 sets")
+    (cond (eqb n 52) (bytes "the section does not hold this set")
+    (cond (eqb n 53) (bytes "the set has no code, or over 1,024")
+    (cond (eqb n 54) (bytes "the book has over 65,536 bytes, counted up to this section")
+    (cond (eqb n 55) (bytes "what is to be printed has over 4,194,304 bytes")
+    (cond (eqb n 56) (bytes "the section has over 2,048 statements, with those it takes over") []))))))
+
+-- of those that look at other statements
 unfoldable pub laterWords : ℕ → List ℕ
 laterWords n =
     cond (eqb n 43) (bytes "an earlier one has this name or key")
@@ -13,13 +24,8 @@ laterWords n =
     (cond (eqb n 45) (bytes "it names a set or common that there is not")
     (cond (eqb n 46) (bytes "the section has used this common before")
     (cond (eqb n 47) (bytes "the section has a rule of this place and kind: write also for a further one")
-    (cond (eqb n 48) (bytes "the section has no rule of this place and kind yet: write rule")
-    (cond (eqb n 50) (bytes "the section has over 256 rules")
-    (cond (eqb n 51) (bytes "the section holds over 64 sets")
-    (cond (eqb n 53) (bytes "the set has no code, or over 1,024")
-    (cond (eqb n 54) (bytes "the book has over 65,536 bytes, counted up to this section")
-    (cond (eqb n 55) (bytes "the output is too short")
-    (cond (eqb n 56) (bytes "the section has over 2,048 statements, with those it takes over") [])))))))))))
+    (cond (eqb n 48) (bytes "the section has no rule of this place and kind")
+    (cond (eqb n 49) (bytes "a code that more adds is there, or one that less takes is not") (lastWords n)))))))
 
 unfoldable pub wordsFor : ℕ → List ℕ
 wordsFor n =

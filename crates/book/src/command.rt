@@ -8,6 +8,7 @@ pub enum Command {
     Check,
     Show,
     Legend,
+    Diff,
     Unknown,
 }
 
@@ -26,6 +27,9 @@ pub(crate) fn command_of(count: usize, verb: &[u8]) -> Command
     }
     if (count == 3) & same_bytes(verb, b"legend") {
         return Command::Legend;
+    }
+    if (count == 4) & same_bytes(verb, b"diff") {
+        return Command::Diff;
     }
     Command::Unknown
 }

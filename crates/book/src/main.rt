@@ -1,5 +1,5 @@
-// Makes a rule book of a text, or only checks the text, and prints what the book holds; prints a book as a text, or the legend of a text. Else it prints
-// one line: a refusal, a file that cannot be used, or how to call it.
+// Makes a rule book of a text, or only checks the text, and prints what the book holds; prints a book as a text, the legend of a text, or what differs
+// between two books. Else it prints one line: a refusal, a file that cannot be used, or how to call it.
 mod command;
 mod counts;
 mod reply;
@@ -10,9 +10,11 @@ use booktext::told::Told;
 use canonical::show::show;
 use command::Command;
 use command::command_of;
+use difference::difference::difference;
 use hl7::bytes::front;
 use hl7::bytes::same_bytes;
 use legend::legend::legend;
+use reply::put_diff;
 use reply::put_file;
 use reply::put_legend;
 use reply::put_new_name;
@@ -97,11 +99,11 @@ fn keep(told: Told, output: &mut [u8]) -> usize {
     put_told(output, told)
 }
 
-// Reads the file that the command line names first; or puts the line which tells that it cannot be read, and answers the length of that. A path has room
-// for the longest that can be opened: a longer one is taken for an empty one, which cannot.
-fn read_first(input: &mut [u8], output: &mut [u8]) -> Read {
+// Reads the file that a word of the command line names; or puts the line which tells that it cannot be read, and answers the length of that. A path has
+// room for the longest that can be opened: a longer one is taken for an empty one, which cannot.
+fn read_named(word: usize, input: &mut [u8], output: &mut [u8]) -> Read {
     let mut path = [0u8; 4096];
-    let length = os::arg(2, &mut path);
+    let length = os::arg(word, &mut path);
     let read = read_whole(front(&path, length), input);
     if read.good {
         return read;
@@ -114,7 +116,7 @@ fn read_first(input: &mut [u8], output: &mut [u8]) -> Read {
 
 // Compiles the source, and puts what is to be printed; with `kept` the book is written.
 fn make(input: &mut [u8], output: &mut [u8], kept: bool) -> usize {
-    let read = read_first(input, output);
+    let read = read_named(2, input, output);
     if !read.good {
         return read.length;
     }
@@ -127,7 +129,7 @@ fn make(input: &mut [u8], output: &mut [u8], kept: bool) -> usize {
 
 // The same for the book that is shown.
 fn show_first(input: &mut [u8], output: &mut [u8]) -> usize {
-    let read = read_first(input, output);
+    let read = read_named(2, input, output);
     if !read.good {
         return read.length;
     }
@@ -137,7 +139,7 @@ fn show_first(input: &mut [u8], output: &mut [u8]) -> usize {
 
 // The same for the source whose legend is asked for.
 fn explain_first(input: &mut [u8], output: &mut [u8]) -> usize {
-    let read = read_first(input, output);
+    let read = read_named(2, input, output);
     if !read.good {
         return read.length;
     }
@@ -145,8 +147,22 @@ fn explain_first(input: &mut [u8], output: &mut [u8]) -> usize {
     put_legend(output, told)
 }
 
+// The same for the two books that are compared.
+fn compare_both(input: &mut [u8], second: &mut [u8], output: &mut [u8]) -> usize {
+    let old = read_named(2, input, output);
+    if !old.good {
+        return old.length;
+    }
+    let new = read_named(3, second, output);
+    if !new.good {
+        return new.length;
+    }
+    let told = difference(front(input, old.length), front(second, new.length), output);
+    put_diff(output, told)
+}
+
 // What the command line asks for: what is to be printed stands at the output's front. Further commands have their arms here, and their words in command.rt.
-fn answer(input: &mut [u8], output: &mut [u8]) -> usize {
+fn answer(input: &mut [u8], second: &mut [u8], output: &mut [u8]) -> usize {
     let mut verb = [0u8; 8];
     let length = os::arg(1, &mut verb);
     match command_of(os::arg_count(), front(&verb, length)) {
@@ -154,18 +170,19 @@ fn answer(input: &mut [u8], output: &mut [u8]) -> usize {
         Command::Check => make(input, output, false),
         Command::Show => show_first(input, output),
         Command::Legend => explain_first(input, output),
+        Command::Diff => compare_both(input, second, output),
         Command::Unknown => put_usage(output),
     }
 }
 
 // The rooms come as arrays, whose lengths stand in their types: no proof has to count so many bytes.
-fn run(input: &mut [u8; 1048577], output: &mut [u8; 4194304]) {
-    let length = answer(input, output);
+fn run(input: &mut [u8; 1048577], second: &mut [u8; 65537], output: &mut [u8; 4194304]) {
+    let length = answer(input, second, output);
     io::write_all(libc::STDOUT_FILENO, front(output, length));
 }
 
-// A source has room for one byte more than it may have, so that a longer one is seen to be longer; so has a book, which may have fewer. Of all that is
-// printed only a legend may have no room.
+// A source has room for one byte more than it may have, so that a longer one is seen to be longer; so has a book, which may have fewer, and the second of
+// two has a room of its own. Of all that is printed only a legend or a difference may have no room.
 fn main() {
-    run(&mut [0u8; 1048577], &mut [0u8; 4194304]);
+    run(&mut [0u8; 1048577], &mut [0u8; 65537], &mut [0u8; 4194304]);
 }

@@ -9,7 +9,7 @@ use booktext::told::Told;
 use hl7::bytes::front;
 use hl7::bytes::pick;
 ghost use Rattle.ack.specs.Splice.{Wrote};
-ghost use Rattle.book.specs.Reply.{lineText, refusedText, sourceRefusedText, compiledText, made, toldText, bookRefusedText, shownText, legendText, fileText, usageText};
+ghost use Rattle.book.specs.Reply.{lineText, refusedText, sourceRefusedText, compiledText, made, toldText, bookRefusedText, shownText, legendText, diffText, fileText, usageText};
 ghost use Rattle.book.specs.Standing.{newName};
 
 // A word, and the number of a line after it, where there is one.
@@ -35,7 +35,7 @@ fn put_refused(out: &mut [u8], number: usize, line: usize, section: usize) -> us
     put_byte(out, f, b'\n')
 }
 
-// A source that is refused; the detail of 55 is a length.
+// A source that is refused, or a text that is too long to print; the detail of 55 is a length.
 fn put_source_refused(out: &mut [u8], told: Told) -> usize
     ensures { λ r. ⌜ Wrote (now (out .entry)) 0 (sourceRefusedText told) (now (out .exit)) r ⌝ }
 {
@@ -68,12 +68,13 @@ pub(crate) fn put_told(out: &mut [u8], told: Told) -> usize
     put_source_refused(out, told)
 }
 
-fn put_book_refused(out: &mut [u8], number: usize) -> usize
-    ensures { λ r. ⌜ Wrote (now (out .entry)) 0 (bookRefusedText number) (now (out .exit)) r ⌝ }
+fn put_book_refused(out: &mut [u8], number: usize, which: &[u8]) -> usize
+    ensures { λ r. ⌜ Wrote (now (out .entry)) 0 (bookRefusedText number (now (which .entry))) (now (out .exit)) r ⌝ }
 {
     let a = put(out, 0, b"book refused");
     let b = put_number(out, a, b' ', number);
-    put_byte(out, b, b'\n')
+    let c = put(out, b, which);
+    put_byte(out, c, b'\n')
 }
 
 // The text that stands in the output already.
@@ -90,7 +91,7 @@ pub(crate) fn put_shown(out: &mut [u8], told: Told) -> usize
     if told.number == 0 {
         return put_made(out, told);
     }
-    put_book_refused(out, told.number)
+    put_book_refused(out, told.number, b"")
 }
 
 // What asking for a legend told, over the output that it had.
@@ -101,6 +102,22 @@ pub(crate) fn put_legend(out: &mut [u8], told: Told) -> usize
         return put_made(out, told);
     }
     put_source_refused(out, told)
+}
+
+// What comparing two books told, over the output that it had; the detail of a book that is refused is 1 for the old one.
+pub(crate) fn put_diff(out: &mut [u8], told: Told) -> usize
+    ensures { λ r. ⌜ Wrote (now (out .entry)) 0 (diffText told (now (out .entry))) (now (out .exit)) r ⌝ }
+{
+    if told.number == 0 {
+        return put_made(out, told);
+    }
+    if told.number == 55 {
+        return put_source_refused(out, told);
+    }
+    if told.detail == 1 {
+        return put_book_refused(out, told.number, b" old");
+    }
+    put_book_refused(out, told.number, b" new")
 }
 
 // A file by its path, and what cannot be done with it.
@@ -120,7 +137,7 @@ pub(crate) fn put_usage(out: &mut [u8]) -> usize
     put(
         out,
         0,
-        b"usage: book compile SOURCE BOOK | check SOURCE | show BOOK | legend SOURCE\n",
+        b"usage: book compile SOURCE BOOK | check SOURCE | show BOOK | legend SOURCE | diff OLD NEW\n",
     )
 }
 

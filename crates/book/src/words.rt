@@ -1,9 +1,33 @@
 // The words for a refusal's number.
 use ack::output::put;
 ghost use Rattle.ack.specs.Splice.{Wrote};
-ghost use Rattle.book.specs.Words.{laterWords, wordsFor};
+ghost use Rattle.book.specs.Words.{lastWords, laterWords, wordsFor};
 
-// Of those that look at more than the text's bytes and a statement by itself.
+// Of those that look at a whole section, or at all that is made.
+fn put_last_words(out: &mut [u8], at: usize, number: usize) -> usize
+    ensures { λ r. ⌜ Wrote (now (out .entry)) at (lastWords number) (now (out .exit)) r ⌝ }
+{
+    match number {
+        50 => put(out, at, b"the section has over 256 rules"),
+        51 => put(out, at, b"the section holds over 64 sets"),
+        52 => put(out, at, b"the section does not hold this set"),
+        53 => put(out, at, b"the set has no code, or over 1,024"),
+        54 => put(
+            out,
+            at,
+            b"the book has over 65,536 bytes, counted up to this section",
+        ),
+        55 => put(out, at, b"what is to be printed has over 4,194,304 bytes"),
+        56 => put(
+            out,
+            at,
+            b"the section has over 2,048 statements, with those it takes over",
+        ),
+        _ => put(out, at, b""),
+    }
+}
+
+// Of those that look at other statements.
 fn put_later_words(out: &mut [u8], at: usize, number: usize) -> usize
     ensures { λ r. ⌜ Wrote (now (out .entry)) at (laterWords number) (now (out .exit)) r ⌝ }
 {
@@ -17,26 +41,13 @@ fn put_later_words(out: &mut [u8], at: usize, number: usize) -> usize
             at,
             b"the section has a rule of this place and kind: write also for a further one",
         ),
-        48 => put(
+        48 => put(out, at, b"the section has no rule of this place and kind"),
+        49 => put(
             out,
             at,
-            b"the section has no rule of this place and kind yet: write rule",
+            b"a code that more adds is there, or one that less takes is not",
         ),
-        50 => put(out, at, b"the section has over 256 rules"),
-        51 => put(out, at, b"the section holds over 64 sets"),
-        53 => put(out, at, b"the set has no code, or over 1,024"),
-        54 => put(
-            out,
-            at,
-            b"the book has over 65,536 bytes, counted up to this section",
-        ),
-        55 => put(out, at, b"the output is too short"),
-        56 => put(
-            out,
-            at,
-            b"the section has over 2,048 statements, with those it takes over",
-        ),
-        _ => put(out, at, b""),
+        _ => put_last_words(out, at, number),
     }
 }
 

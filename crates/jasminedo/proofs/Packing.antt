@@ -20,6 +20,8 @@ use Rattle.booktext.specs.declared.told.Told.{Told as BookTold}
 use Rattle.booktext.proofs.Bounds.{Packs, isLength, compile-packs}
 use Rattle.canonical.specs.Shown.{showOf}
 use Rattle.canonical.proofs.Bounds.{show-packs}
+use Rattle.difference.specs.Difference.{diffOf}
+use Rattle.difference.proofs.Bounds.{diff-packs}
 use Rattle.legend.specs.Legend.{legendOf}
 use Rattle.legend.proofs.Answering.{legend-packs}
 use Rattle.grade.proofs.Encoded.{Bytes}
@@ -118,10 +120,14 @@ legend-unpacked t out = unpacks (legend-packs t out)
 pub show-unpacked : (b : List ℕ) → Bytes b → (out : List ℕ) → Unpacks (showOf b out .told)
 show-unpacked b is out = unpacks (show-packs b is out)
 
+-- the line of a refused book is which of the two it is
+pub diff-unpacked : (old new : List ℕ) → Bytes old → Bytes new → (out : List ℕ) → Unpacks (diffOf old new out .told)
+diff-unpacked old new is are out = unpacks (diff-packs old new is are out)
+
 -- in the words of the code
 module _ (o : BookOutcome) (p : Packs (o .told)) {r : BookTold} {after : List ℕ} (w : (r ≡ o .told) × (after ≡ o .output)) where
-  pub told-small : (r .number ≤ 56) × (r .detail ≤ 2 ^ 40) × (r .section ≤ 1048577)
-  told-small = subst (λ (x : BookTold). (x .number ≤ 56) × (x .detail ≤ 2 ^ 40) × (x .section ≤ 1048577)) (sym (w .0)) (p .number, p .detail, p .section)
+  pub told-small : (r .number ≤ 56) × (r .detail ≤ 2 ^ 48) × (r .section ≤ 1048577)
+  told-small = subst (λ (x : BookTold). (x .number ≤ 56) × (x .detail ≤ 2 ^ 48) × (x .section ≤ 1048577)) (sym (w .0)) (p .number, p .detail, p .section)
 
   pub told-packed : {code : ℕ} → code ≡ packedTold r → (code ≡ packedTold (o .told)) × (after ≡ o .output)
   told-packed e = (e ∙ ap packedTold (w .0), w .1)

@@ -6,6 +6,7 @@ use batchfile::batch::answer_batch;
 use booktext::compile::compile;
 use booktext::told::Told;
 use canonical::show::show;
+use difference::difference::difference;
 use hl7::cut::Span;
 use hl7::locate::locate_span;
 use hl7::refusal::check;
@@ -17,6 +18,7 @@ ghost use Rattle.ack.specs.Answers.{answerOf, paper};
 ghost use Rattle.batchfile.specs.Batch.{batchOf};
 ghost use Rattle.booktext.specs.Refusals.{compileOf};
 ghost use Rattle.canonical.specs.Shown.{showOf};
+ghost use Rattle.difference.specs.Difference.{diffOf};
 ghost use Rattle.legend.specs.Legend.{legendOf};
 ghost use Rattle.jasminedo.specs.Packed.{packed, packedSpan, packedPlace, packedTold};
 
@@ -30,7 +32,7 @@ fn pack(answer: Answer) -> u64
 
 // The number in the low byte, the detail above, and above four bytes of it the section's line, which a length never has.
 fn pack_told(told: Told) -> u64
-    requires { ⌜ (told .number ≤ 56) × (told .detail ≤ 2 ^ 40) × (told .section ≤ 1048577) ⌝ }
+    requires { ⌜ (told .number ≤ 56) × (told .detail ≤ 2 ^ 48) × (told .section ≤ 1048577) ⌝ }
     ensures { λ r. ⌜ r ≡ packedTold told ⌝ }
 {
     (told.section as u64) * 1099511627776 + (told.detail as u64) * 256 + (told.number as u64)
@@ -102,6 +104,13 @@ pub extern "C" fn jasminedo_show(book: &[u8], output: &mut [u8]) -> u64
     ensures { λ r. ⌜ (r ≡ packedTold (showOf (now (book .entry)) (now (output .entry)) .told)) × (now (output .exit) ≡ showOf (now (book .entry)) (now (output .entry)) .output) ⌝ }
 {
     pack_told(show(book, output))
+}
+
+#[no_mangle]
+pub extern "C" fn jasminedo_diff(old: &[u8], new: &[u8], output: &mut [u8]) -> u64
+    ensures { λ r. ⌜ (r ≡ packedTold (diffOf (now (old .entry)) (now (new .entry)) (now (output .entry)) .told)) × (now (output .exit) ≡ diffOf (now (old .entry)) (now (new .entry)) (now (output .entry)) .output) ⌝ }
+{
+    pack_told(difference(old, new, output))
 }
 
 #[no_mangle]

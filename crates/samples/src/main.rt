@@ -3,13 +3,15 @@
 // A number has four bytes, the high byte first. A case is its kind (1 a message, 2 a batch file), the length of the message or file, its
 // bytes, book length, book, stamp length, stamp, control number, output length. A message's case goes on with a place: segment, field,
 // repetition, component. A case of kind 3 is a text that is compiled, of kind 4 a book that is shown, of kind 5 a text whose legend is asked for: its
-// length, its bytes, output length.
+// length, its bytes, output length. A case of kind 6 is two books of which the difference is asked for: length and bytes of the old one, of the new one,
+// output length.
 use ack::answer::answer;
 use ack::refusal::Answer;
 use batchfile::batch::answer_batch;
 use booktext::compile::compile;
 use booktext::told::Told;
 use canonical::show::show;
+use difference::difference::difference;
 use hl7::bytes::front;
 use hl7::bytes::pick;
 use hl7::bytes::wide;
@@ -29,6 +31,8 @@ const TEXT: u32 = 3;
 const BOOK: u32 = 4;
 
 const LEGEND: u32 = 5;
+
+const DIFFERENCE: u32 = 6;
 
 // A number of the pack: how many of its bytes there were, and its value.
 struct Number {
@@ -211,17 +215,32 @@ fn told_of(kind: u32, input: &[u8], out: &mut [u8]) -> Told {
     compile(input, out)
 }
 
+// Prints what is told, and what was made if nothing was refused.
+fn print_result(told: Told, out: &[u8]) {
+    print_told(told);
+    if told.number == 0 {
+        io::write_all(STDOUT_FILENO, front(out, told.detail));
+        io::write_all(STDOUT_FILENO, b"\n");
+    }
+}
+
 // Makes what is asked for with the first so many bytes of out lent, and prints the answer and what was made. Answers whether there are so many.
 fn print_made(kind: u32, input: &[u8], out: &mut [u8], length: usize) -> bool {
     if out.len() < length {
         return false;
     }
     let told = told_of(kind, input, &mut out[0..length]);
-    print_told(told);
-    if told.number == 0 {
-        io::write_all(STDOUT_FILENO, front(out, told.detail));
-        io::write_all(STDOUT_FILENO, b"\n");
+    print_result(told, out);
+    true
+}
+
+// The same for what differs between two books.
+fn print_difference(old: &[u8], new: &[u8], out: &mut [u8], length: usize) -> bool {
+    if out.len() < length {
+        return false;
     }
+    let told = difference(old, new, &mut out[0..length]);
+    print_result(told, out);
     true
 }
 
@@ -241,10 +260,31 @@ fn run_text(fd: i32, kind: u32) -> bool {
     false
 }
 
+// The case of two books. Answers whether it is whole.
+fn run_books(fd: i32) -> bool {
+    let mut old = [0u8; 65537];
+    let old_part = read_part(fd, &mut old);
+    let mut new = [0u8; 65537];
+    let new_part = read_part(fd, &mut new);
+    let length = read_number(fd);
+    if old_part.whole & new_part.whole & (length.count == 4) {
+        return print_difference(
+            front(&old, old_part.length),
+            front(&new, new_part.length),
+            &mut [0u8; 131072],
+            length.value as usize,
+        );
+    }
+    false
+}
+
 // A case of any kind. Answers whether it is whole, and of a kind that there is.
 fn run_kind(fd: i32, kind: u32) -> bool {
     if (kind == TEXT) | (kind == BOOK) | (kind == LEGEND) {
         return run_text(fd, kind);
+    }
+    if kind == DIFFERENCE {
+        return run_books(fd);
     }
     ((kind == MESSAGE) | (kind == BATCH)) && run_case(fd, kind)
 }

@@ -1,6 +1,6 @@
 -- `book::command::command_of` meets its contract. Assumes nothing.
 use borrow.Author.Needs.{needs}
-use Rattle.book.proofs.Replying.{command-compile, command-check, command-show, command-legend, command-unknown}
+use Rattle.book.proofs.Replying.{command-compile, command-check, command-show, command-legend, command-diff, command-unknown}
 use Rattle.book.proofs.command.command_of.Statement.{statement}
 use Rattle.book.proofs.command.command_of.Tie as tie
 
@@ -27,10 +27,19 @@ returns-4 c =
 
 returns-5 : tie.Need-returns-5
 returns-5 c =
-    let third = c .before .before .before in
+    let fourth = c .before .before .before in
+    let third = fourth .before .before .before in
     let second = third .before .before .before in
     let first = second .before .before .before in
-    command-unknown _ _ (first .before .same-bytes .ensures) (first .if1 .left) (second .before .same-bytes2 .ensures) (second .if2 .left) (third .before .same-bytes3 .ensures) (third .if3 .left) (c .before .same-bytes4 .ensures) (c .if4 .left)
+    command-diff _ _ (first .before .same-bytes .ensures) (first .if1 .left) (second .before .same-bytes2 .ensures) (second .if2 .left) (third .before .same-bytes3 .ensures) (third .if3 .left) (fourth .before .same-bytes4 .ensures) (fourth .if4 .left) (c .before .same-bytes5 .ensures) (c .if5 .taken)
+
+returns-6 : tie.Need-returns-6
+returns-6 c =
+    let fourth = c .before .before .before in
+    let third = fourth .before .before .before in
+    let second = third .before .before .before in
+    let first = second .before .before .before in
+    command-unknown _ _ (first .before .same-bytes .ensures) (first .if1 .left) (second .before .same-bytes2 .ensures) (second .if2 .left) (third .before .same-bytes3 .ensures) (third .if3 .left) (fourth .before .same-bytes4 .ensures) (fourth .if4 .left) (c .before .same-bytes5 .ensures) (c .if5 .left)
 
 pub command-of-spec : {M : Type 1} → statement M
 command-of-spec =
@@ -48,4 +57,7 @@ command-of-spec =
     (λ c. search needs)
     (λ c κs. tt)
     returns-4
-    returns-5)
+    (λ c. search needs)
+    (λ c κs. tt)
+    returns-5
+    returns-6)

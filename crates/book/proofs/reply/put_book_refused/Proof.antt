@@ -9,10 +9,12 @@ returns : tie.Need-returns
 unfolding bookRefusedText
 returns c =
     let at-put-byte = c .before .before in
-    let at-put-number = at-put-byte .before .before .before .before in
+    let at-put2 = at-put-byte .before .before .before .before in
+    let at-put-number = at-put2 .before .before .before .before in
     let at-put = at-put-number .before .before .before .before in
     at-put .put .ensures
     then at-put-number .put-number .ensures
+    then at-put2 .put2 .ensures
     then at-put-byte .put-byte .ensures
 
 same-length : tie.Need-same-length
@@ -23,6 +25,7 @@ put-book-refused-spec =
     tie.close
     (tie.spec
     (λ c. search needs) (λ c κs. tt)
+    (λ c κs. tt)
     (λ c κs. tt)
     (λ c κs. tt)
     same-length

@@ -13,7 +13,7 @@ returns c =
 returns-2 : tie.Need-returns-2
 returns-2 c =
     let at-refused = c .before .before in
-    wrote-as (at-refused .put-book-refused .ensures) (shown-refused _ _ (at-refused .before .before .if1 .left))
+    wrote-as (at-refused .put-book-refused .ensures) (shown-refused _ _ (at-refused .before .before .before .if1 .left))
 
 pub put-shown-spec : {M : Type 1} → statement M
 put-shown-spec =
@@ -22,6 +22,6 @@ put-shown-spec =
     (λ c κs. tt)
     (λ c. search needs)
     returns
-    (λ c κs. tt)
+    (λ c. search needs) (λ c κs. tt)
     (λ c. search needs)
     returns-2)

@@ -3,16 +3,16 @@ use mathlib.Core.Path.{sym}
 use borrow.Author.Needs.{needs}
 use Rattle.ack.proofs.Writing.{wrote-as}
 use Rattle.book.specs.Words.{laterWords}
-use Rattle.book.proofs.Replying.{words-none}
+use Rattle.book.proofs.Replying.{words-last}
 use Rattle.book.proofs.words.put_later_words.Statement.{statement}
 use Rattle.book.proofs.words.put_later_words.Tie as tie
 
-returns-13 : tie.Need-returns-13
-returns-13 c =
+returns-8 : tie.Need-returns-8
+returns-8 c =
     let at-put = c .before .before in
-    let others = at-put .before .before .before .match .rest in
-    wrote-as (at-put .put13 .ensures)
-    (sym (words-none _ (others .0 .0 .0 .0 .0 .0 .0 .0 .0 .0 .0 .1) (others .0 .0 .0 .0 .0 .0 .0 .0 .0 .0 .1) (others .0 .0 .0 .0 .0 .0 .0 .0 .0 .1) (others .0 .0 .0 .0 .0 .0 .0 .0 .1) (others .0 .0 .0 .0 .0 .0 .0 .1) (others .0 .0 .0 .0 .0 .0 .1) (others .0 .0 .0 .0 .0 .1) (others .0 .0 .0 .0 .1) (others .0 .0 .0 .1) (others .0 .0 .1) (others .0 .1) (others .1)))
+    let others = at-put .before .before .match .rest in
+    wrote-as (at-put .put-last-words .ensures)
+    (sym (words-last _ (others .0 .0 .0 .0 .0 .0 .1) (others .0 .0 .0 .0 .0 .1) (others .0 .0 .0 .0 .1) (others .0 .0 .0 .1) (others .0 .0 .1) (others .0 .1) (others .1)))
 
 pub put-later-words-spec : {M : Type 1} → statement M
 unfolding laterWords
@@ -26,12 +26,7 @@ put-later-words-spec =
     (λ c. search needs) (λ c κs. tt)
     (λ c. search needs) (λ c κs. tt)
     (λ c. search needs) (λ c κs. tt)
-    (λ c. search needs) (λ c κs. tt)
-    (λ c. search needs) (λ c κs. tt)
-    (λ c. search needs) (λ c κs. tt)
-    (λ c. search needs) (λ c κs. tt)
-    (λ c. search needs) (λ c κs. tt)
-    (λ c. search needs) (λ c κs. tt)
+    (λ c κs. tt)
     (λ c. search needs) (λ c. rw (c .before .before .before .before .before .match .keys1) (c .before .before .put .ensures))
     (λ c. search needs) (λ c. rw (c .before .before .before .before .before .match .keys2) (c .before .before .put2 .ensures))
     (λ c. search needs) (λ c. rw (c .before .before .before .before .before .match .keys3) (c .before .before .put3 .ensures))
@@ -39,9 +34,4 @@ put-later-words-spec =
     (λ c. search needs) (λ c. rw (c .before .before .before .before .before .match .keys5) (c .before .before .put5 .ensures))
     (λ c. search needs) (λ c. rw (c .before .before .before .before .before .match .keys6) (c .before .before .put6 .ensures))
     (λ c. search needs) (λ c. rw (c .before .before .before .before .before .match .keys7) (c .before .before .put7 .ensures))
-    (λ c. search needs) (λ c. rw (c .before .before .before .before .before .match .keys8) (c .before .before .put8 .ensures))
-    (λ c. search needs) (λ c. rw (c .before .before .before .before .before .match .keys9) (c .before .before .put9 .ensures))
-    (λ c. search needs) (λ c. rw (c .before .before .before .before .before .match .keys10) (c .before .before .put10 .ensures))
-    (λ c. search needs) (λ c. rw (c .before .before .before .before .before .match .keys11) (c .before .before .put11 .ensures))
-    (λ c. search needs) (λ c. rw (c .before .before .before .before .before .match .keys12) (c .before .before .put12 .ensures))
-    (λ c. search needs) returns-13)
+    (λ c. search needs) returns-8)
