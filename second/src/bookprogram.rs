@@ -1,13 +1,15 @@
 //! The program for books as text: its command line, its files and what it prints.
 
 use crate::book::BOOK_LIMIT;
-use crate::booktext::{self, Told, TEXT_LIMIT};
+use crate::booktext::{self, Told, TEXT_LIMIT, TOO_SHORT};
 use std::ffi::OsString;
 use std::fs::{self, File};
 use std::io::{self, Read};
 use std::os::unix::ffi::OsStrExt;
 use std::path::Path;
 
+/// What the program lends to a legend.
+const ROOM: usize = 4_194_304;
 const USAGE: &str = "usage: book compile SOURCE BOOK | check SOURCE | show BOOK | legend SOURCE\n";
 
 /// What is printed, and the status with which the program ends.
@@ -94,14 +96,16 @@ pub fn shown(book: &[u8]) -> Printed {
 }
 
 pub fn legend(text: &[u8]) -> Printed {
-    match booktext::legend_of(text) {
+    match booktext::legend_of(text, ROOM) {
         Ok(legend) => Printed::new(legend, 0),
         Err(told) => refused(told),
     }
 }
 
-fn refused(Told { number, detail: line, section }: Told) -> Printed {
+fn refused(Told { number, detail, section }: Told) -> Printed {
     let mut text = format!("refused {number}");
+    // The detail of 55 is no line.
+    let line = if number == TOO_SHORT { 0 } else { detail };
     for (name, at) in [("line", line), ("section", section)] {
         if at != 0 {
             text += &format!(" {name} {at}");
@@ -129,11 +133,14 @@ fn reason(number: u8) -> &'static str {
         45 => "it names a set or common that there is not",
         46 => "the section has used this common before",
         47 => "the section has a rule of this place and kind: write also for a further one",
-        48 => "the section has no rule of this place and kind yet: write rule",
+        48 => "the section has no rule of this place and kind",
+        49 => "a code that more adds is there, or one that less takes is not",
         50 => "the section has over 256 rules",
         51 => "the section holds over 64 sets",
+        52 => "the section does not hold this set",
         53 => "the set has no code, or over 1,024",
         54 => "the book has over 65,536 bytes, counted up to this section",
+        55 => "what is to be printed has over 4,194,304 bytes",
         56 => "the section has over 2,048 statements, with those it takes over",
         _ => unreachable!("no refusal has the number {number}"),
     }
@@ -161,7 +168,7 @@ mod tests {
         assert_eq!(compiled(b"").0.text, b"refused 44: there are no sections, or over 64\n");
         assert_eq!(compiled(b"\nbook").0.text, b"refused 35 line 2: too few or too many words\n");
         let text = b"book 1\nsection A\nsection B\nalso PID-3 DATE E\n";
-        let expected = "refused 48 line 4 section 3: the section has no rule of this place and kind yet: write rule\n";
+        let expected = "refused 48 line 4 section 3: the section has no rule of this place and kind\n";
         assert_eq!(compiled(text).0.text, expected.as_bytes());
         assert_eq!(legend(text).text, expected.as_bytes());
         assert_eq!(shown(b""), Printed::new("book refused 7\n", 3));

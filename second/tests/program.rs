@@ -110,7 +110,7 @@ fn book(folder: &Path, arguments: &[&str]) -> (String, i32) {
 #[test]
 fn books_as_text() {
     let text = "book 1\nset s x\nsection A | words\nrule PID-3 CODE E s\n";
-    let folder = folder_with("book", [("a", Some(text.as_bytes())), ("b", Some(b"old"))]);
+    let folder = folder_with("book-text", [("a", Some(text.as_bytes())), ("b", Some(b"old"))]);
     let run = |arguments: &[&str]| book(&folder, arguments);
     let told = |text: &str, status: i32| (text.to_string(), status);
     let compiled = told("compiled 25 bytes, 1 sections, 1 rules, 1 sets\n", 0);

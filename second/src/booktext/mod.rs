@@ -63,7 +63,7 @@ pub fn show(book: &[u8], out: &mut [u8]) -> Told {
 
 /// One line for each section of the text and each of its rules.
 pub fn legend(text: &[u8], out: &mut [u8]) -> Told {
-    written(legend_of(text), out)
+    written(legend_of(text, out.len()), out)
 }
 
 pub fn compiled(text: &[u8]) -> Result<Compiled, Told> {
@@ -79,8 +79,10 @@ pub fn shown(book: &[u8]) -> Result<Vec<u8>, Told> {
     Ok(show::text(&Book::read(book)?))
 }
 
-pub fn legend_of(text: &[u8]) -> Result<Vec<u8>, Told> {
-    understood(text, |meaning| legend::text(&meaning.contents))
+/// The legend, or 55 where it has more bytes than there is room for.
+pub fn legend_of(text: &[u8], room: usize) -> Result<Vec<u8>, Told> {
+    understood(text, |meaning| legend::text(&meaning.contents, room))?
+        .map_err(|needed| Told { number: TOO_SHORT, detail: needed, section: 0 })
 }
 
 /// What is made of a text's meaning, or the first refusal of 31 to 54 and 56.

@@ -56,7 +56,7 @@ fn sets<'b>(section: &Section<'b>) -> impl Iterator<Item = Vec<&'b [u8]>> {
 
 /// The text is one that is not refused.
 pub fn of_legend(text: &[u8]) -> Vec<Trait> {
-    let legend = booktext::legend_of(text).unwrap_or_default();
+    let legend = booktext::legend_of(text, usize::MAX).unwrap_or_default();
     let lines: Vec<(Vec<&[u8]>, &[u8])> = legend.split(|b| *b == b'\n').map(parted).collect();
     let any = |holds: fn(&[u8]) -> bool| lines.iter().any(|(_, people)| holds(people));
     let mut severities = HashMap::new();

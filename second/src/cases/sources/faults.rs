@@ -83,7 +83,7 @@ pub fn put_bytes(random: &mut Random, text: &mut Vec<u8>, row: u8) {
 
 fn unknown(random: &mut Random, draft: &mut Draft) {
     let verbs = [
-        "Rule", "rules", "ruled", "RULE", "drop", "severity", "bound", "more", "less", "end", "sets,", "Book", "1",
+        "Rule", "rules", "ruled", "RULE", "dropped", "Severity", "bounds", "mores", "les", "end", "sets,", "Book", "1",
         "-", "use:", "sections", "com", "codes", "when", "#",
     ];
     let mut statement = Statement::new([random.pick(&verbs)]);

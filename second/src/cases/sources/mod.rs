@@ -315,7 +315,7 @@ mod tests {
             let compiled = compiled.unwrap_or_else(|told| panic!("{told:?} {}", text.escape_ascii()));
             let shown = booktext::shown(&compiled.book).unwrap_or_else(|told| panic!("{told:?}"));
             assert!(booktext::compiled(&shown).is_ok_and(|again| again.book == compiled.book));
-            let legend = booktext::legend_of(&text).unwrap_or_else(|told| panic!("{told:?}"));
+            let legend = booktext::legend_of(&text, usize::MAX).unwrap_or_else(|told| panic!("{told:?}"));
             let lines = legend.iter().filter(|b| **b == b'\n').count();
             assert_eq!(lines, compiled.sections + compiled.rules);
         }
@@ -353,7 +353,7 @@ mod tests {
         let mut accepted = 0;
         for index in 0..generator.firsts() + 1_500 {
             let given = generator.case(index).0.given;
-            let (compiled, legend) = (booktext::compiled(&given), booktext::legend_of(&given));
+            let (compiled, legend) = (booktext::compiled(&given), booktext::legend_of(&given, usize::MAX));
             assert_eq!(compiled.as_ref().err(), legend.as_ref().err());
             if let Ok(compiled) = compiled {
                 let shown = booktext::shown(&compiled.book).unwrap_or_else(|told| panic!("{told:?}"));
