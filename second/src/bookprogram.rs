@@ -8,9 +8,9 @@ use std::io::{self, Read};
 use std::os::unix::ffi::OsStrExt;
 use std::path::Path;
 
-/// What the program lends to a legend.
+/// What the program lends to a legend or a difference.
 const ROOM: usize = 4_194_304;
-const USAGE: &str = "usage: book compile SOURCE BOOK | check SOURCE | show BOOK | legend SOURCE\n";
+const USAGE: &str = "usage: book compile SOURCE BOOK | check SOURCE | show BOOK | legend SOURCE | diff OLD NEW\n";
 
 /// What is printed, and the status with which the program ends.
 #[derive(Clone, Debug, PartialEq, Eq)]
@@ -35,6 +35,9 @@ pub fn run(arguments: &[OsString]) -> Printed {
         }
         [b"check", _] => read(path(1), TEXT_LIMIT).map(|text| compiled(&text).0),
         [b"show", _] => read(path(1), BOOK_LIMIT).map(|book| shown(&book)),
+        [b"diff", _, _] => {
+            read(path(1), BOOK_LIMIT).and_then(|old| read(path(2), BOOK_LIMIT).map(|new| difference(&old, &new)))
+        }
         [b"legend", _] => read(path(1), TEXT_LIMIT).map(|text| legend(&text)),
         _ => Ok(usage()),
     };
@@ -92,6 +95,18 @@ pub fn shown(book: &[u8]) -> Printed {
     match booktext::shown(book) {
         Ok(text) => Printed::new(text, 0),
         Err(Told { number, .. }) => Printed::new(format!("book refused {number}\n"), 3),
+    }
+}
+
+/// The status says whether there is a difference.
+pub fn difference(old: &[u8], new: &[u8]) -> Printed {
+    match booktext::difference(old, new) {
+        Ok(text) if text.len() > ROOM => refused((TOO_SHORT, text.len() as u64).into()),
+        Ok(text) => Printed { status: u8::from(!text.is_empty()), text },
+        Err(Told { number, detail, .. }) => {
+            let which = if detail == 1 { "old" } else { "new" };
+            Printed::new(format!("book refused {number} {which}\n"), 3)
+        }
     }
 }
 

@@ -22,8 +22,7 @@ fn write_section(legend: &mut Legend, contents: &Contents) {
     legend.line(&[key, b"0"], people);
     for (number, made) in (1..).zip(&contents.rules) {
         let number: String = u32::to_string(&number);
-        let mut words =
-            vec![key, number.as_bytes(), made.rule.place_word, made.rule.kind_word, made.severity.letter()];
+        let mut words = vec![key, number.as_bytes(), made.rule.place_word, made.rule.kind_word, made.severity.letter()];
         words.extend(&made.bounded.words);
         legend.line(&words, contents.people(made));
     }
