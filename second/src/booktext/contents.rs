@@ -295,3 +295,29 @@ fn rule_bytes(Made { rule, severity, bounded, .. }: &Made, sets: &[Held]) -> Rul
     let [set, low, high] = uses;
     [n0, n1, n2, place.field, place.component, kind, severity.letter()[0], set, low, high]
 }
+
+#[cfg(test)]
+mod tests {
+    use super::super::{lines, pages, statements};
+    use super::*;
+
+    #[test]
+    fn codes_so_far_are_those_that_would_be_held() {
+        let text = b"book 1\nset s a b a\ncommon c\nless s a\nmore s a d d\nsection A\nuse c\nless s d a\nmore s d e\n\
+            less s b\nmore s b\nless s d e b\nmore s a\n";
+        let statements = lines::read(text).and_then(statements::read).unwrap_or_else(|told| panic!("{told:?}"));
+        let pages = pages::read(&statements).unwrap_or_else(|told| panic!("{told:?}"));
+        let included = expand(&pages, &pages.sections[0]);
+        let mut codes = CodesSoFar { pages: &pages, sets: HashMap::new() };
+        for (at, Included { statement, .. }) in included.iter().enumerate() {
+            let before = held(b"s", &pages.sets[b"s".as_slice()], &included[..at]).codes;
+            assert_eq!(*codes.of(b"s"), before.into_iter().collect(), "{at}");
+            assert!(match &statement.says {
+                Says::More { name, codes: more } => codes.add(name, more),
+                Says::Less { name, codes: less } => codes.take(name, less),
+                _ => false,
+            });
+        }
+        assert_eq!(held(b"s", &pages.sets[b"s".as_slice()], &included).codes, [b"a"]);
+    }
+}
