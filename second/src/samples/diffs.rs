@@ -179,6 +179,11 @@ fn changes() -> Vec<DiffSample> {
             "A ~ 1 PID-8 CODE W -> E\nA ~ 1 PID-8 CODE -F +M\nA # 1 -> 2 PID-8 CODE\nA + 1 PID-7.1 REQUIRED E\n",
         ),
         told(
+            "severity and number of one rule",
+            [of(&[SEX, BORN], &["F"]), of(&[b"PID\x07\x01\x01W\0\0\0"], &[])],
+            "A - 1 PID-8 CODE W -F\nA ~ 2 PID-7.1 REQUIRED E -> W\nA # 2 -> 1 PID-7.1 REQUIRED\n",
+        ),
+        told(
             "severity, bound and number of one rule",
             [
                 of(&[BORN, b"PID\x07\x01\x05E\0\x08\0"], &[]),
