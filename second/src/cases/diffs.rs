@@ -116,8 +116,13 @@ fn random_case(random: &mut Random) -> DiffCase {
     case
 }
 
+/// Small sections, or some of the registries'.
 fn sections(random: &mut Random) -> Vec<SectionPlan> {
-    plans::sections(random).0
+    if random.one_in(12) {
+        vec![books::section("NJDOH", "NJ"), books::section("IZG", "IZG")]
+    } else {
+        plans::sections(random).0
+    }
 }
 
 /// Two books that differ, and the length of what is told of them.

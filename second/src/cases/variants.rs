@@ -53,7 +53,7 @@ fn with_set(random: &mut Random, section: &mut SectionPlan, change: impl Fn(&mut
 /// A few things are other ones.
 pub fn varied(random: &mut Random, sections: &[SectionPlan]) -> Vec<SectionPlan> {
     let mut sections = sections.to_vec();
-    for _ in 0..random.pick(&[1, 1, 2, 4]) {
+    for _ in 0..random.pick(&[1, 2, 4, 8]) {
         let count = sections.len();
         let at = random.below(count);
         match random.below(10) {

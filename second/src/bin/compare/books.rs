@@ -28,7 +28,7 @@ const TRAITS: [&str; 10] = [
 ];
 /// Rows of statements with the verbs for which they can hold.
 const VERBS_OF_ROWS: [(u8, &[&str]); 12] = [
-    (34, &["book", "code", "use", "rule", "also", "severity", "bound", "drop", "more", "less", "sets"]),
+    (34, &VERBS),
     (35, &VERBS),
     (38, &["set", "code", "more", "less"]),
     (39, &["rule", "also", "severity", "bound", "drop"]),

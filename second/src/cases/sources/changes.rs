@@ -1,4 +1,4 @@
-//! Statements that change what a section has: sound ones.
+//! Statements about what a section has: sound ones.
 
 use super::drafts::{rule_of_kind, severity, Statement, Word};
 use super::state::{Ruled, State};
@@ -21,10 +21,11 @@ pub fn changes(random: &mut Random, state: &State, sets: &[Word]) -> Vec<Stateme
 
 fn of_rule(random: &mut Random, ruled: &Ruled, sets: &[Word]) -> Vec<Statement> {
     let rule = of_kind(random, ruled, sets);
-    match random.below(5) {
+    match random.below(7) {
         0 | 1 => vec![changed(&rule, "severity")],
         2 | 3 if rule.words.len() > 4 => vec![changed(&rule, "bound")],
         2 | 3 => vec![changed(&rule, "severity"), changed(&of_kind(random, ruled, sets), "severity")],
+        4 | 5 => vec![further(&rule)],
         _ if random.one_in(3) => vec![changed(&rule, "drop"), rule],
         _ => vec![changed(&rule, "drop")],
     }
@@ -36,6 +37,11 @@ pub fn of_kind(random: &mut Random, ruled: &Ruled, sets: &[Word]) -> Statement {
     let mut rule = rule_of_kind(random, kind, sets);
     rule.words[1] = ruled.place.clone();
     rule
+}
+
+/// The same as an `also`.
+pub fn further(rule: &Statement) -> Statement {
+    Statement::new([&[b"also".to_vec()], &rule.words[1..]].concat())
 }
 
 /// What a `severity`, `bound` or `drop` says with a rule's words.

@@ -4,7 +4,7 @@ use super::drafts::{severity, Draft, Statement, HEADS};
 use crate::booktext;
 use crate::cases::{near, Random};
 
-/// Both sources are sound.
+/// Both sources are sound, and their books have other bytes.
 pub fn edited_books(random: &mut Random) -> [Vec<u8>; 2] {
     loop {
         let mut draft = Draft::sound(random);
@@ -12,7 +12,9 @@ pub fn edited_books(random: &mut Random) -> [Vec<u8>; 2] {
         edit(random, &mut draft);
         let new = book(random, &draft);
         if let (Some(old), Some(new)) = (old, new) {
-            return [old, new];
+            if old != new {
+                return [old, new];
+            }
         }
     }
 }
@@ -38,7 +40,7 @@ fn reword(random: &mut Random, statement: &mut Statement) {
         b"rule" | b"also" | b"severity" => words[3] = severity(random),
         b"bound" if words[2] == b"TIME" => words[3] = random.pick(&["4", "8", "14"]).into(),
         b"bound" if words[2] == b"LENGTH" => words[4] = b"255".into(),
-        b"use" => words.extend([severity(random)]),
+        b"use" if last == 1 => words.push(severity(random)),
         b"set" | b"code" | b"more" | b"less" | b"section" if last > 0 => words[last] = near::word(random),
         _ => {}
     }

@@ -14,7 +14,7 @@ pub fn samples() -> Vec<BookSample> {
 
 /// Rows 33 to 42, one statement alone.
 fn bad_statements() -> Vec<BookSample> {
-    let in_section: [(&str, usize); 108] = [
+    let in_section: [(&str, usize); 110] = [
         ("Rule PID-3 DATE E", 33),
         ("rules PID-3 DATE E", 33),
         ("x", 33),
@@ -64,8 +64,10 @@ fn bad_statements() -> Vec<BookSample> {
         ("rule PID-3 Date E", 40),
         ("rule PID-3 SINCE-BIRTH E", 40),
         ("rule PID-3 4 E", 40),
+        ("also PID-3 Time E 8", 40),
         ("rule PID-3 DATE e", 41),
         ("rule PID-3 DATE EW", 41),
+        ("also PID-3 DATE e", 41),
         ("use c A", 41),
         ("use c 8", 41),
         ("rule PID-3 DATE E 8", 42),

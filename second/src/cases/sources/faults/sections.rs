@@ -1,6 +1,6 @@
 //! What is wrong with names or with a section as a whole: rows 43 to 54, and 56.
 
-use super::super::changes::{changed, of_kind};
+use super::super::changes::{changed, further, of_kind};
 use super::super::drafts::{rule, rule_of_kind, severity, using, Draft, Statement, Word, HEADS};
 use super::super::state::State;
 use super::statements::insert_statement;
@@ -140,7 +140,7 @@ pub fn nothing_to_change(random: &mut Random, draft: &mut Draft) {
         }
     };
     let change = match random.pick(&["also", "severity", "bound", "drop"]) {
-        "also" => Statement::new([&[b"also".to_vec()], &rule.words[1..]].concat()),
+        "also" => further(&rule),
         "bound" if rule.words.len() == 4 => changed(&rule, "severity"),
         verb => changed(&rule, verb),
     };
