@@ -127,7 +127,7 @@ impl Books {
         if case.call == BookCall::Legend {
             add(&mut self.meant, traits::of_legend(text));
         }
-        let said: Vec<Vec<&[u8]>> = says(text).collect();
+        let said: Vec<Words> = says(text).collect();
         for (verb, count) in VERBS.iter().zip(&mut self.verbs) {
             *count += u64::from(said.iter().any(|words| words.first() == Some(&verb.as_bytes())));
         }
@@ -214,20 +214,23 @@ fn add(counts: &mut BTreeMap<&'static str, u64>, traits: Vec<Trait>) {
     }
 }
 
-/// The words of each line that has some.
-fn says(text: &[u8]) -> impl Iterator<Item = Vec<&[u8]>> {
+/// What a line says.
+type Words<'t> = Vec<&'t [u8]>;
+
+/// The words of each line, none where it says nothing.
+fn says(text: &[u8]) -> impl Iterator<Item = Words<'_>> {
     let lines = text.split(|b| *b == b'\n').map(|line| line.split(|b| *b == b'|').next().unwrap_or_default());
     lines.map(|said| said.split(u8::is_ascii_whitespace).filter(|word| !word.is_empty()).collect())
 }
 
 /// Whether a line with the one verb is followed by one with the other that goes with it, as far as the text's order says.
-fn follows(said: &[Vec<&[u8]>], one: &[u8], other: &[u8], fits: fn(&[&[u8]], &[&[u8]]) -> bool) -> bool {
-    let with = |verb: &[u8], words: &[&[u8]]| words.first() == Some(&verb);
+fn follows(said: &[Words], one: &[u8], other: &[u8], fits: fn(&Words, &Words) -> bool) -> bool {
+    let with = |verb: &[u8], words: &Words| words.first() == Some(&verb);
     let mut firsts = said.iter().enumerate().filter(|(_, words)| with(one, words));
     firsts.any(|(at, first)| said[at..].iter().any(|words| with(other, words) && fits(first, words)))
 }
 
-fn share_a_code(one: &[&[u8]], other: &[&[u8]]) -> bool {
+fn share_a_code(one: &Words, other: &Words) -> bool {
     one[1] == other[1] && one[2..].iter().any(|code| other[2..].contains(code))
 }
 

@@ -133,20 +133,19 @@ fn about(line: &str) -> &'static str {
     let [first, second, ..] = words[..] else {
         return "";
     };
-    let label = match (first, second, &words[2..]) {
+    match (first, second, &words[2..]) {
         ("-", "section", [_]) => "a section gone",
         ("+", "section", [_]) => "a section new",
-        (_, "-", [_, _, kind, ..]) => return gone_or_new(kind, "gone"),
-        (_, "+", [_, _, kind, ..]) => return gone_or_new(kind, "new"),
+        (_, "-", [_, _, kind, ..]) => gone_or_new(kind, "gone"),
+        (_, "+", [_, _, kind, ..]) => gone_or_new(kind, "new"),
         // Without zeros in front, so that the longer one is the higher.
         (_, "#", [old, _, new, ..]) if (old.len(), old) < (new.len(), new) => "a higher number",
         (_, "#", _) => "a lower number",
-        (_, _, [_, _, "CODE", codes @ ..]) if codes[0].starts_with(['-', '+']) => return changed_codes(codes),
+        (_, _, [_, _, "CODE", codes @ ..]) if codes[0].starts_with(['-', '+']) => changed_codes(codes),
         (_, _, [_, _, "LENGTH", _, _, "->", ..]) => "a length",
         (_, _, [_, _, "TIME", digits, ..]) if digits.parse::<u8>().is_ok() => "a time",
         _ => "a severity",
-    };
-    label
+    }
 }
 
 fn gone_or_new(kind: &str, which: &str) -> &'static str {
