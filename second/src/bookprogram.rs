@@ -186,6 +186,11 @@ mod tests {
         let expected = "refused 48 line 4 section 3: the section has no rule of this place and kind\n";
         assert_eq!(compiled(text).0.text, expected.as_bytes());
         assert_eq!(legend(text).text, expected.as_bytes());
+        let text = b"book 1\nset s x\nsection A\nmore s x\n";
+        let expected = b"refused 49 line 4 section 3: a code that more adds is there, or one that less takes is not\n";
+        assert_eq!(compiled(text).0.text, expected);
+        let text = b"book 1\nset s x\nsection A\nless s x\n";
+        assert_eq!(compiled(text).0.text, b"refused 52 line 4 section 3: the section does not hold this set\n");
         assert_eq!(shown(b""), Printed::new("book refused 7\n", 3));
         assert_eq!(shown(b"VXB\0\x02"), Printed::new("book refused 8\n", 3));
     }
