@@ -58,6 +58,11 @@ uint64_t jasminedo_compile(const uint8_t *text, size_t text_length, uint8_t *out
  * than 1, or 55. No line and no section is told with 7 and 8. */
 uint64_t jasminedo_show(const uint8_t *book, size_t book_length, uint8_t *output, size_t output_length);
 
+/* What a new book changes in an old one, a line for each thing, or 7 or 8 of a book, or 55. jasminedo_line of 7 and 8 is 1
+ * where it is told of the old book, 2 of the new one, and no section is told. The length is 0 where there is no difference. */
+uint64_t jasminedo_diff(const uint8_t *old_book, size_t old_length, const uint8_t *new_book, size_t new_length,
+                        uint8_t *output, size_t output_length);
+
 /* A line for each section that a text has and each of its rules: what the rule numbers of the text's book mean. Refused
  * as jasminedo_compile refuses the text; then 55. */
 uint64_t jasminedo_legend(const uint8_t *text, size_t text_length, uint8_t *output, size_t output_length);

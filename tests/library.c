@@ -1,6 +1,7 @@
 /* The library as a program, for machines whose own programs cannot be linked with it. Takes packed cases (second/README.md
  * says how they look) from standard input until it ends. Gives for each the answer and the whole lent output, for a message
- * also the check and the place; numbers have eight bytes, the high byte first. A case is a message, a batch, a text or a book. */
+ * also the check and the place; numbers have eight bytes, the high byte first. A case is a message, a batch, a text, a book or two
+ * books. */
 #include "../include/jasminedo.h"
 
 #include <stdio.h>
@@ -70,7 +71,7 @@ static void write_output(const uint8_t *output, size_t length) {
 }
 
 /* What a case begins with. */
-enum { MESSAGE = 1, BATCH = 2, COMPILE = 3, SHOW = 4, LEGEND = 5 };
+enum { MESSAGE = 1, BATCH = 2, COMPILE = 3, SHOW = 4, LEGEND = 5, DIFF = 6 };
 
 /* A message or a batch. */
 static void run_answer(uint32_t kind) {
@@ -110,12 +111,28 @@ static void run_book(uint32_t kind) {
     free(output);
 }
 
+/* Two books, the old one first. */
+static void run_diff(void) {
+    struct bytes old = read_bytes(), new = read_bytes();
+    size_t length = read_number();
+    uint8_t *output = lent(length);
+
+    write_number(jasminedo_diff(old.start, old.length, new.start, new.length, output, length));
+    write_output(output, length);
+
+    free(old.start);
+    free(new.start);
+    free(output);
+}
+
 static void run_case(void) {
     uint32_t kind = read_number();
     if (kind == MESSAGE || kind == BATCH)
         run_answer(kind);
     else if (kind == COMPILE || kind == SHOW || kind == LEGEND)
         run_book(kind);
+    else if (kind == DIFF)
+        run_diff();
     else
         fail("a case begins with another number");
 }

@@ -1,14 +1,16 @@
 //! The program for books as text: its command line, its files and what it prints.
 
 use crate::book::BOOK_LIMIT;
-use crate::booktext::{self, Told, TEXT_LIMIT};
+use crate::booktext::{self, Told, TEXT_LIMIT, TOO_SHORT};
 use std::ffi::OsString;
 use std::fs::{self, File};
 use std::io::{self, Read};
 use std::os::unix::ffi::OsStrExt;
 use std::path::Path;
 
-const USAGE: &str = "usage: book compile SOURCE BOOK | check SOURCE | show BOOK | legend SOURCE\n";
+/// What the program lends to a legend or a difference.
+const ROOM: usize = 4_194_304;
+const USAGE: &str = "usage: book compile SOURCE BOOK | check SOURCE | show BOOK | legend SOURCE | diff OLD NEW\n";
 
 /// What is printed, and the status with which the program ends.
 #[derive(Clone, Debug, PartialEq, Eq)]
@@ -33,6 +35,9 @@ pub fn run(arguments: &[OsString]) -> Printed {
         }
         [b"check", _] => read(path(1), TEXT_LIMIT).map(|text| compiled(&text).0),
         [b"show", _] => read(path(1), BOOK_LIMIT).map(|book| shown(&book)),
+        [b"diff", _, _] => {
+            read(path(1), BOOK_LIMIT).and_then(|old| read(path(2), BOOK_LIMIT).map(|new| difference(&old, &new)))
+        }
         [b"legend", _] => read(path(1), TEXT_LIMIT).map(|text| legend(&text)),
         _ => Ok(usage()),
     };
@@ -93,15 +98,29 @@ pub fn shown(book: &[u8]) -> Printed {
     }
 }
 
+/// The status says whether there is a difference.
+pub fn difference(old: &[u8], new: &[u8]) -> Printed {
+    match booktext::difference(old, new) {
+        Ok(text) if text.len() > ROOM => refused((TOO_SHORT, text.len() as u64).into()),
+        Ok(text) => Printed { status: u8::from(!text.is_empty()), text },
+        Err(Told { number, detail, .. }) => {
+            let which = if detail == 1 { "old" } else { "new" };
+            Printed::new(format!("book refused {number} {which}\n"), 3)
+        }
+    }
+}
+
 pub fn legend(text: &[u8]) -> Printed {
-    match booktext::legend_of(text) {
+    match booktext::legend_of(text, ROOM) {
         Ok(legend) => Printed::new(legend, 0),
         Err(told) => refused(told),
     }
 }
 
-fn refused(Told { number, detail: line, section }: Told) -> Printed {
+fn refused(Told { number, detail, section }: Told) -> Printed {
     let mut text = format!("refused {number}");
+    // The detail of 55 is no line.
+    let line = if number == TOO_SHORT { 0 } else { detail };
     for (name, at) in [("line", line), ("section", section)] {
         if at != 0 {
             text += &format!(" {name} {at}");
@@ -129,11 +148,14 @@ fn reason(number: u8) -> &'static str {
         45 => "it names a set or common that there is not",
         46 => "the section has used this common before",
         47 => "the section has a rule of this place and kind: write also for a further one",
-        48 => "the section has no rule of this place and kind yet: write rule",
+        48 => "the section has no rule of this place and kind",
+        49 => "a code that more adds is there, or one that less takes is not",
         50 => "the section has over 256 rules",
         51 => "the section holds over 64 sets",
+        52 => "the section does not hold this set",
         53 => "the set has no code, or over 1,024",
         54 => "the book has over 65,536 bytes, counted up to this section",
+        55 => "what is to be printed has over 4,194,304 bytes",
         56 => "the section has over 2,048 statements, with those it takes over",
         _ => unreachable!("no refusal has the number {number}"),
     }
@@ -161,9 +183,14 @@ mod tests {
         assert_eq!(compiled(b"").0.text, b"refused 44: there are no sections, or over 64\n");
         assert_eq!(compiled(b"\nbook").0.text, b"refused 35 line 2: too few or too many words\n");
         let text = b"book 1\nsection A\nsection B\nalso PID-3 DATE E\n";
-        let expected = "refused 48 line 4 section 3: the section has no rule of this place and kind yet: write rule\n";
+        let expected = "refused 48 line 4 section 3: the section has no rule of this place and kind\n";
         assert_eq!(compiled(text).0.text, expected.as_bytes());
         assert_eq!(legend(text).text, expected.as_bytes());
+        let text = b"book 1\nset s x\nsection A\nmore s x\n";
+        let expected = b"refused 49 line 4 section 3: a code that more adds is there, or one that less takes is not\n";
+        assert_eq!(compiled(text).0.text, expected);
+        let text = b"book 1\nset s x\nsection A\nless s x\n";
+        assert_eq!(compiled(text).0.text, b"refused 52 line 4 section 3: the section does not hold this set\n");
         assert_eq!(shown(b""), Printed::new("book refused 7\n", 3));
         assert_eq!(shown(b"VXB\0\x02"), Printed::new("book refused 8\n", 3));
     }

@@ -1,6 +1,6 @@
 //! A second, independent program of 01 and of A1 and A4 in 02: reads a VXU message, grades it by a section
 //! of a rule book and answers with an ACK, or with the ACKs of a batch file's messages. It also compiles
-//! rule books from text and shows them as text.
+//! rule books from text, shows them as text and tells two of them apart.
 
 pub mod ack;
 pub mod batch;

@@ -1,4 +1,4 @@
-//! The main code's static library, by its seven C functions.
+//! The main code's static library, by its eight C functions.
 
 use second::booktext::Told;
 use second::cases::BookCall;
@@ -40,6 +40,14 @@ extern "C" {
     fn jasminedo_compile(text: *const u8, text_length: usize, output: *mut u8, output_length: usize) -> u64;
     fn jasminedo_show(book: *const u8, book_length: usize, output: *mut u8, output_length: usize) -> u64;
     fn jasminedo_legend(text: *const u8, text_length: usize, output: *mut u8, output_length: usize) -> u64;
+    fn jasminedo_diff(
+        old: *const u8,
+        old_length: usize,
+        new: *const u8,
+        new_length: usize,
+        output: *mut u8,
+        output_length: usize,
+    ) -> u64;
 }
 
 /// `jasminedo_answer` or `jasminedo_batch`.
@@ -80,6 +88,14 @@ pub fn told(call: BookCall, given: &[u8], out: &mut [u8]) -> Told {
     };
     // SAFETY: both pointers come with the length of their own slice, and only `out` is written.
     packing::told(unsafe { call(given.as_ptr(), given.len(), out.as_mut_ptr(), out.len()) })
+}
+
+/// What is told of two books.
+pub fn diff(old: &[u8], new: &[u8], out: &mut [u8]) -> Told {
+    // SAFETY: every pointer comes with the length of its own slice, and only `out` is written.
+    packing::told(unsafe {
+        jasminedo_diff(old.as_ptr(), old.len(), new.as_ptr(), new.len(), out.as_mut_ptr(), out.len())
+    })
 }
 
 pub fn check(m: &[u8]) -> (u8, u64) {

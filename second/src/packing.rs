@@ -2,7 +2,7 @@
 //! single numbers in which the library answers.
 
 use crate::booktext::{Told, TOO_SHORT};
-use crate::cases::{AnyCase, BatchCase, BookCall, BookCase, Case};
+use crate::cases::{AnyCase, BatchCase, BookCall, BookCase, Case, DiffCase};
 
 /// What a case begins with.
 const MESSAGE: u32 = 1;
@@ -10,6 +10,7 @@ const BATCH: u32 = 2;
 const COMPILE: u32 = 3;
 const SHOW: u32 = 4;
 const LEGEND: u32 = 5;
+const DIFF: u32 = 6;
 
 fn pack(case: &AnyCase, packed: &mut Vec<u8>) {
     match case {
@@ -32,6 +33,11 @@ fn pack(case: &AnyCase, packed: &mut Vec<u8>) {
             };
             pack_numbers(&[kind], packed);
             pack_bytes(&[given], packed);
+            pack_numbers(&[*output_length as u32], packed);
+        }
+        AnyCase::Diff(DiffCase { old, new, output_length }) => {
+            pack_numbers(&[DIFF], packed);
+            pack_bytes(&[old, new], packed);
             pack_numbers(&[*output_length as u32], packed);
         }
     }
@@ -66,6 +72,7 @@ pub fn unpack(mut packed: &[u8]) -> Option<Vec<AnyCase>> {
             COMPILE => AnyCase::Book(take_book(&mut packed, BookCall::Compile)?),
             SHOW => AnyCase::Book(take_book(&mut packed, BookCall::Show)?),
             LEGEND => AnyCase::Book(take_book(&mut packed, BookCall::Legend)?),
+            DIFF => AnyCase::Diff(take_diff(&mut packed)?),
             _ => return None,
         });
     }
@@ -89,6 +96,12 @@ fn take_book(packed: &mut &[u8], call: BookCall) -> Option<BookCase> {
     let given = take_bytes(packed)?;
     let output_length = take_number(packed)? as usize;
     Some(BookCase { call, given, output_length })
+}
+
+fn take_diff(packed: &mut &[u8]) -> Option<DiffCase> {
+    let [old, new] = [take_bytes(packed)?, take_bytes(packed)?];
+    let output_length = take_number(packed)? as usize;
+    Some(DiffCase { old, new, output_length })
 }
 
 fn take_numbers<const N: usize>(packed: &mut &[u8]) -> Option<[u32; N]> {
@@ -158,6 +171,10 @@ mod tests {
         assert_eq!((packed[19], packed[35]), (4, 5));
         assert_eq!(unpack(&packed), Some(books.to_vec()));
         assert_eq!(unpack(&packed[..47]), None);
+        let diff = [AnyCase::Diff(DiffCase { old: b"VXB".to_vec(), new: vec![], output_length: 513 })];
+        let packed = pack_all(&diff);
+        assert_eq!(packed, *b"\0\0\0\x06\0\0\0\x03VXB\0\0\0\0\0\0\x02\x01");
+        assert_eq!(unpack(&packed), Some(diff.to_vec()));
         let mut packed = pack_all(&[batch.clone(), case.clone(), case.clone()]);
         assert_eq!(packed[..12], [0, 0, 0, 2, 0, 0, 0, 4, b'F', b'H', b'S', b'\r']);
         assert_eq!(packed[26..41], [1, 1, 2, 3, 4, 0, 0, 0, 1, 0, 0, 0, 3, b'M', b'S']);
@@ -166,7 +183,7 @@ mod tests {
         packed.pop();
         assert_eq!(unpack(&packed), None);
         let mut other = pack_all(&[batch]);
-        other[3] = 6;
+        other[3] = 7;
         assert_eq!(unpack(&other), None);
     }
 

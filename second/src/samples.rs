@@ -3,6 +3,7 @@
 
 pub mod batches;
 mod delimiters;
+pub mod diffs;
 pub mod sources;
 
 use crate::book::BOOK_LIMIT;

@@ -110,7 +110,7 @@ fn book(folder: &Path, arguments: &[&str]) -> (String, i32) {
 #[test]
 fn books_as_text() {
     let text = "book 1\nset s x\nsection A | words\nrule PID-3 CODE E s\n";
-    let folder = folder_with("book", [("a", Some(text.as_bytes())), ("b", Some(b"old"))]);
+    let folder = folder_with("book-text", [("a", Some(text.as_bytes())), ("b", Some(b"old"))]);
     let run = |arguments: &[&str]| book(&folder, arguments);
     let told = |text: &str, status: i32| (text.to_string(), status);
     let compiled = told("compiled 25 bytes, 1 sections, 1 rules, 1 sets\n", 0);
@@ -146,8 +146,35 @@ fn books_as_text() {
     }
     fs::write(folder.join("a"), text).unwrap();
     assert_eq!(run(&["compile", "a", "nowhere/b"]), told("file cannot be written: nowhere/b\n", 4));
-    let usage = told("usage: book compile SOURCE BOOK | check SOURCE | show BOOK | legend SOURCE\n", 5);
-    for wrong in [["compile", "a"].as_slice(), &[], &["show"], &["legend"], &["check", "a", "b"], &["diff", "a", "b"]] {
+    let usage = told("usage: book compile SOURCE BOOK | check SOURCE | show BOOK | legend SOURCE | diff OLD NEW\n", 5);
+    for wrong in [
+        ["compile", "a"].as_slice(),
+        &[],
+        &["show"],
+        &["legend"],
+        &["check", "a", "b"],
+        &["diff", "a"],
+        &["diff", "a", "b", "c"],
+    ] {
         assert_eq!(run(wrong), usage);
     }
+}
+
+#[test]
+fn books_that_differ() {
+    let old = b"VXB\0\x01\x01\x01A\0\x01\x01PID\x03\0\x06E\x01\0\0\0\x02\x01x\x01y";
+    let new = b"VXB\0\x01\x01\x01A\0\x01\x01PID\x03\0\x06W\x01\0\0\0\x02\x01x\x01z";
+    let folder = folder_with("diff", [("old", Some(old)), ("new", Some(new))]);
+    fs::write(folder.join("8"), b"VXB\0\x02").unwrap();
+    fs::write(folder.join("7"), [b"VXB\0\x02".as_slice(), &[0; 65_532]].concat()).unwrap();
+    let run = |old: &str, new: &str| book(&folder, &["diff", old, new]);
+    let told = |text: &str, status: i32| (text.to_string(), status);
+    assert_eq!(run("old", "new"), told("A ~ 1 PID-3 CODE E -> W\nA ~ 1 PID-3 CODE -y +z\n", 1));
+    assert_eq!(run("new", "new"), told("", 0));
+    assert_eq!(run("7", "8"), told("book refused 7 old\n", 3));
+    assert_eq!(run("8", "7"), told("book refused 8 old\n", 3));
+    assert_eq!(run("old", "8"), told("book refused 8 new\n", 3));
+    assert_eq!(run("old", "7"), told("book refused 7 new\n", 3));
+    assert_eq!(run("none", "nothing"), told("file cannot be read: none\n", 4));
+    assert_eq!(run("7", "nothing"), told("file cannot be read: nothing\n", 4));
 }

@@ -5,16 +5,16 @@
 mod ours;
 
 use second::batch::FILE_LIMIT;
-use second::booktext::TEXT_LIMIT;
-use second::cases::{BookCall, BookCase};
+use second::booktext::{Told, TEXT_LIMIT, TOO_SHORT};
+use second::cases::{AnyCase, BookCall, BookCase, DiffCase};
 use second::line::BATCH;
 use second::samples::{self, STAMP};
 use second::{books, booktext, cases, hostile, limits, registries};
-use std::env;
 use std::hint::black_box;
 use std::io::Write;
 use std::process::{Command, ExitCode, Stdio};
 use std::time::{Duration, Instant};
+use std::{env, fs};
 
 /// Many short samples, since other work spoils some of them.
 const ROUNDS: usize = 25;
@@ -22,6 +22,9 @@ const ROUNDS: usize = 25;
 const SLOW_ROUNDS: usize = 7;
 const ONE_SAMPLE: Duration = Duration::from_millis(2);
 const OUTPUT_LENGTH: usize = 65_536;
+/// What is lent for books as text, and at the most where it depends on what is needed.
+const LENT: usize = 1_048_576;
+const MOST_LENT: u64 = 67_108_864;
 const USAGE: &str = "usage: bench [hostile [BYTES]]";
 
 struct Input {
@@ -146,59 +149,106 @@ fn measure_batch(file: &[u8], message: &[u8], count: u32) -> Result<[f64; 4], St
     ]))
 }
 
-/// The registries' source compiled, its book shown, and its legend.
+/// Seen from this folder.
+const REGISTRIES: &str = "../books/registries.txt";
+
+/// Sources of the registries' rules: one without changes, made from the data, and the project's own.
 fn sources() -> Result<(), String> {
     println!("\nBooks as text: the registries' rules in 24 sections, in microseconds\n");
-    println!("{:8} {:>9} {:>9} {:>11} {:>11}", "call", "bytes in", "bytes out", "ours", "second");
-    let source = registries::source().into_bytes();
-    let Ok(compiled) = booktext::compiled(&source) else {
-        return Err("the registries' source is refused".into());
-    };
-    let calls = [(BookCall::Compile, &source), (BookCall::Show, &compiled.book), (BookCall::Legend, &source)];
-    for (call, given) in calls {
-        let case = BookCase { call, given: given.clone(), output_length: 1_048_576 };
-        let (mut out_ours, mut out_second) = (vec![0; case.output_length], vec![0; case.output_length]);
-        let told = case.answer(&mut out_second);
-        if ours::told(call, given, &mut out_ours) != told || out_ours != out_second {
-            return Err(format!("{call:?}: ours and second answer differently"));
+    println!("{:24} {:8} {:>9} {:>9} {:>11} {:>11}", "source", "call", "bytes in", "bytes out", "ours", "second");
+    time_source("without changes", registries::source())?;
+    match fs::read_to_string(REGISTRIES) {
+        Ok(source) => time_source("books/registries.txt", source),
+        Err(e) => {
+            println!("{REGISTRIES} is not there: {e}");
+            Ok(())
         }
-        let [ours, second] = medians([&mut || ours::told(call, black_box(given), &mut out_ours).detail, &mut || {
+    }
+}
+
+/// It is compiled, its book is shown and compared with one in which many severities are others, and its legend is made.
+fn time_source(name: &str, source: String) -> Result<(), String> {
+    let book = |text: &str| match booktext::compiled(text.as_bytes()) {
+        Ok(compiled) => Ok(compiled.book),
+        Err(told) => Err(format!("{name} is refused: {told:?}")),
+    };
+    let (old, new) = (book(&source)?, book(&source.replace(" REQUIRED E", " REQUIRED W"))?);
+    let of_book = |call: BookCall, given: Vec<u8>| AnyCase::Book(BookCase { call, given, output_length: LENT });
+    let calls = [
+        ("compile", of_book(BookCall::Compile, source.clone().into())),
+        ("show", of_book(BookCall::Show, old.clone())),
+        ("legend", of_book(BookCall::Legend, source.into())),
+        ("diff", AnyCase::Diff(DiffCase { old, new, output_length: LENT })),
+    ];
+    for (call, case) in calls {
+        let (mut out_ours, mut out_second) = (vec![0; LENT], vec![0; LENT]);
+        let told = case.answer(&mut out_second);
+        if told_by_ours(&case, &mut out_ours) != told || out_ours != out_second {
+            return Err(format!("{name}, {call}: ours and second answer differently"));
+        }
+        let [ours, second] = medians([&mut || told_by_ours(black_box(&case), &mut out_ours).detail, &mut || {
             black_box(&case).answer(&mut out_second).detail
         }]);
-        let name = format!("{call:?}").to_lowercase();
         let (ours, second) = (ours / 1000.0, second / 1000.0);
-        println!("{name:8} {:>9} {:>9} {ours:>11.1} {second:>11.1}", given.len(), told.detail);
+        println!("{name:24} {call:8} {:>9} {:>9} {ours:>11.1} {second:>11.1}", bytes_in(&case), told.detail);
     }
     Ok(())
 }
 
-/// Texts that are slow on purpose, each once, since some take long.
+fn bytes_in(case: &AnyCase) -> usize {
+    match case {
+        AnyCase::Book(case) => case.given.len(),
+        AnyCase::Diff(case) => case.old.len() + case.new.len(),
+        AnyCase::Message(_) | AnyCase::Batch(_) => 0,
+    }
+}
+
+/// What the main code tells of books as text.
+fn told_by_ours(case: &AnyCase, out: &mut [u8]) -> Told {
+    match case {
+        AnyCase::Book(case) => ours::told(case.call, &case.given, out),
+        AnyCase::Diff(case) => ours::diff(&case.old, &case.new, out),
+        AnyCase::Message(case) => ours::answer(&case.message, &case.book, &case.stamp, case.control, out).into(),
+        AnyCase::Batch(case) => ours::batch(&case.file, &case.book, &case.stamp, case.control, out).into(),
+    }
+}
+
+/// Texts and books that are slow on purpose, each once, since some take long.
 fn hostile(length: usize) -> Result<(), String> {
     println!(
         "Texts of {length} bytes that are slow on purpose, in milliseconds, and what is told: 0, it is accepted\n"
     );
     println!(
-        "{:42} {:>9} {:>4} {:>11} {:>8} {:>11} {:>8}",
+        "{:48} {:>9} {:>4} {:>11} {:>8} {:>11} {:>8}",
         "text", "bytes", "told", "compile", "second", "legend", "second"
     );
     for (name, text) in hostile::texts(length) {
-        let (number, ours, second) = measure_once(name, BookCall::Compile, &text)?;
-        let (_, legend_ours, legend_second) = measure_once(name, BookCall::Legend, &text)?;
-        print!("{name:42} {:>9} {number:>4} {ours:>11.1} {second:>8.1}", text.len());
+        let case = |call| AnyCase::Book(BookCase { call, given: text.clone().into(), output_length: 0 });
+        let (number, ours, second) = measure_once(name, case(BookCall::Compile))?;
+        let (_, legend_ours, legend_second) = measure_once(name, case(BookCall::Legend))?;
+        print!("{name:48} {:>9} {number:>4} {ours:>11.1} {second:>8.1}", text.len());
         println!(" {legend_ours:>11.1} {legend_second:>8.1}");
+    }
+    println!("\nTwo books that are slow to compare, in milliseconds\n");
+    println!("{:48} {:>9} {:>11} {:>8}", "books", "bytes", "diff", "second");
+    for (name, [old, new]) in hostile::books() {
+        let bytes = old.len() + new.len();
+        let (_, ours, second) = measure_once(name, AnyCase::Diff(DiffCase { old, new, output_length: 0 }))?;
+        println!("{name:48} {bytes:>9} {ours:>11.1} {second:>8.1}");
     }
     Ok(())
 }
 
-/// The number told, and milliseconds of ours and second.
-fn measure_once(name: &str, call: BookCall, text: &str) -> Result<(u8, f64, f64), String> {
-    let mut case = BookCase { call, given: text.into(), output_length: 0 };
-    case.output_length = case.needed().unwrap_or_default() as usize;
-    let (mut out_ours, mut out_second) = (vec![0; case.output_length], vec![0; case.output_length]);
-    let (told, ours) = once(|| ours::told(call, text.as_bytes(), &mut out_ours));
+/// The number told, and milliseconds of ours and second. What is too long to be lent is only counted.
+fn measure_once(name: &str, case: AnyCase) -> Result<(u8, f64, f64), String> {
+    let told = case.answer(&mut []);
+    let needed = if told.number == TOO_SHORT { told.detail } else { 0 };
+    let length = if needed > MOST_LENT { 0 } else { needed as usize };
+    let (mut out_ours, mut out_second) = (vec![0; length], vec![0; length]);
+    let (told, ours) = once(|| told_by_ours(&case, &mut out_ours));
     let (expected, second) = once(|| case.answer(&mut out_second));
     if told != expected || out_ours != out_second {
-        return Err(format!("{name}, {call:?}: ours {told:?}, second {expected:?}"));
+        return Err(format!("{name}: ours {told:?}, second {expected:?}"));
     }
     Ok((told.number, ours, second))
 }

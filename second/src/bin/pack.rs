@@ -1,9 +1,12 @@
 //! Writes cases for the main code's own runner, and the text that it has to print for them.
 
 use second::book::BOOK_LIMIT;
-use second::cases::{number_of, AnyCase, BatchCase, BookCall, BookCase, BookGenerator, Case, Pair, BOOK_ROWS};
+use second::booktext::Told;
+use second::cases::{
+    number_of, AnyCase, BatchCase, BookCall, BookCase, BookGenerator, Case, DiffCase, DiffGenerator, Pair, BOOK_ROWS,
+};
 use second::cutting::MESSAGE_LIMIT;
-use second::samples::{self, batches, case, sources, PLACES, STAMP};
+use second::samples::{self, batches, case, diffs, sources, PLACES, STAMP};
 use second::{books, limits, packing};
 use std::process::ExitCode;
 use std::{env, fs};
@@ -14,6 +17,8 @@ const ROOM: [usize; 4] = [MESSAGE_LIMIT + 1, BOOK_LIMIT + 1, 1_024, 131_072];
 const BATCH_ROOM: [usize; 4] = [131_072, BOOK_LIMIT + 1, 1_024, 131_072];
 /// The same for a text or a book that is to become the other.
 const BOOK_ROOM: [usize; 4] = [131_072, 0, 0, 131_072];
+/// The same for two books.
+const DIFF_ROOM: [usize; 4] = [BOOK_LIMIT + 1, BOOK_LIMIT + 1, 0, 131_072];
 
 fn main() -> ExitCode {
     second::ending("pack", run())
@@ -27,6 +32,7 @@ fn run() -> Result<(), String> {
     let mut cases: Vec<AnyCase> = message_cases()?.into_iter().map(AnyCase::Message).collect();
     cases.extend(batch_cases()?.into_iter().map(AnyCase::Batch));
     cases.extend(book_cases()?.into_iter().map(AnyCase::Book));
+    cases.extend(diff_cases()?.into_iter().map(AnyCase::Diff));
     let mut text = Vec::new();
     for (number, case) in (1..).zip(&cases) {
         let (lengths, room) = match case {
@@ -43,6 +49,10 @@ fn run() -> Result<(), String> {
             AnyCase::Book(case) => {
                 text.extend(case.printed());
                 ([case.given.len(), 0, 0, case.output_length], BOOK_ROOM)
+            }
+            AnyCase::Diff(case) => {
+                text.extend(case.printed());
+                ([case.old.len(), case.new.len(), 0, case.output_length], DIFF_ROOM)
             }
         };
         if lengths.iter().zip(room).any(|(length, room)| *length > room) {
@@ -223,4 +233,27 @@ impl Chosen {
 /// What is asked for and the number that is told.
 fn told(case: &BookCase) -> (BookCall, u8) {
     (case.call, case.answer(&mut vec![0; case.output_length]).number)
+}
+
+/// The samples, what is generated for each refusal and output, and some more; of long ones one for each thing told.
+fn diff_cases() -> Result<Vec<DiffCase>, String> {
+    let mut cases = Vec::new();
+    for sample in diffs::samples() {
+        expect(&sample.name, sample.case.printed() == sample.expected)?;
+        cases.push(sample.case);
+    }
+    let generator = DiffGenerator::new(1);
+    cases.extend((cases.len() as u64..generator.firsts() + 30).map(|index| generator.case(index)));
+    let mut seen: Vec<Told> = Vec::new();
+    cases.retain(|case| {
+        let told = case.answer(&mut vec![0; case.output_length]);
+        let alike = Told { detail: if told.number == 0 { 0 } else { told.detail }, ..told };
+        let is_long = case.old.len() + case.new.len() > LONG;
+        let keep = case.output_length <= DIFF_ROOM[3] && !(is_long && seen.contains(&alike));
+        if is_long && keep {
+            seen.push(alike);
+        }
+        keep
+    });
+    Ok(cases)
 }

@@ -1,7 +1,8 @@
-//! Books as text: a source is compiled to a book, a book is shown as its canonical text, and a source's legend says
-//! what the numbers of its rules mean.
+//! Books as text: a source is compiled to a book, a book is shown as its canonical text, a source's legend says
+//! what the numbers of its rules mean, and two books are told apart rule by rule.
 
 mod contents;
+mod diff;
 mod legend;
 mod lines;
 mod pages;
@@ -17,7 +18,8 @@ use contents::Meaning;
 /// The refusal of an output that is too short, in place of 01's 11.
 pub const TOO_SHORT: u8 = 55;
 
-/// What is answered. Number 0 has the length of what was written, 55 the length needed, a refusal of the text its line.
+/// What is answered. Number 0 has the length of what was written, 55 the length needed, a refusal of the text its line,
+/// one of two books which of them it is.
 #[derive(Clone, Copy, Debug, PartialEq, Eq)]
 pub struct Told {
     pub number: u8,
@@ -63,7 +65,12 @@ pub fn show(book: &[u8], out: &mut [u8]) -> Told {
 
 /// One line for each section of the text and each of its rules.
 pub fn legend(text: &[u8], out: &mut [u8]) -> Told {
-    written(legend_of(text), out)
+    written(legend_of(text, out.len()), out)
+}
+
+/// What the new book changes, a line for each thing.
+pub fn diff(old: &[u8], new: &[u8], out: &mut [u8]) -> Told {
+    written(difference(old, new), out)
 }
 
 pub fn compiled(text: &[u8]) -> Result<Compiled, Told> {
@@ -79,8 +86,16 @@ pub fn shown(book: &[u8]) -> Result<Vec<u8>, Told> {
     Ok(show::text(&Book::read(book)?))
 }
 
-pub fn legend_of(text: &[u8]) -> Result<Vec<u8>, Told> {
-    understood(text, |meaning| legend::text(&meaning.contents))
+pub fn difference(old: &[u8], new: &[u8]) -> Result<Vec<u8>, Told> {
+    let old = Book::read(old).map_err(|(number, _)| (number, 1))?;
+    let new = Book::read(new).map_err(|(number, _)| (number, 2))?;
+    Ok(diff::text(&old, &new).into_bytes())
+}
+
+/// The legend, or 55 where it has more bytes than there is room for.
+pub fn legend_of(text: &[u8], room: usize) -> Result<Vec<u8>, Told> {
+    let legend = understood(text, |meaning| legend::text(&meaning.contents, room))?;
+    legend.map_err(|needed| (TOO_SHORT, needed).into())
 }
 
 /// What is made of a text's meaning, or the first refusal of 31 to 54 and 56.

@@ -1,6 +1,6 @@
 //! Sets, commons and sections with what belongs to them: rows 43 to 45, and that there is a section.
 
-use super::statements::{Says, Statement};
+use super::statements::{Rule, Says, Statement};
 use super::words::{Bound, Word};
 use super::Told;
 use std::collections::{HashMap, HashSet};
@@ -88,11 +88,13 @@ fn refuse(statements: &[Statement], pages: &Pages) -> Result<(), Told> {
 }
 
 fn names_are_given(says: &Says, pages: &Pages) -> bool {
+    let is_set = |name: Word| pages.sets.contains_key(name);
     match says {
         Says::Use { name, .. } => pages.commons.contains_key(name),
-        Says::Sets { names } => names.iter().all(|name| pages.sets.contains_key(name)),
-        Says::Rule(rule) => match rule.bound {
-            Bound::Code { set } => pages.sets.contains_key(set),
+        Says::Sets { names } => names.iter().all(|name| is_set(name)),
+        Says::More { name, .. } | Says::Less { name, .. } => is_set(name),
+        Says::Rule(Rule { bounded, .. }) | Says::Bound { bounded, .. } => match bounded.bound {
+            Bound::Code { set } => is_set(set),
             _ => true,
         },
         _ => true,

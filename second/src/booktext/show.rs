@@ -47,7 +47,7 @@ fn set_name(section: &Section, number: usize) -> Vec<u8> {
     [section.key, b"/", number.to_string().as_bytes()].concat()
 }
 
-fn place(rule: &Rule) -> String {
+pub fn place(rule: &Rule) -> String {
     let name = String::from_utf8_lossy(rule.name.bytes());
     match rule.component {
         0 => format!("{name}-{}", rule.field),
@@ -55,7 +55,7 @@ fn place(rule: &Rule) -> String {
     }
 }
 
-fn kind(kind: Kind) -> &'static str {
+pub fn kind(kind: Kind) -> &'static str {
     match kind {
         Kind::Required => "REQUIRED",
         Kind::Length { .. } => "LENGTH",

@@ -1,7 +1,7 @@
 //! Statements, and what can be wrong with one of them by itself: rows 33 to 42.
 
 use super::lines::Line;
-use super::words::{self, Bound, Place, Word};
+use super::words::{self, Bound, KindName, Spot, Word};
 use super::Told;
 use crate::book::Severity;
 use std::ops::RangeInclusive;
@@ -21,6 +21,11 @@ pub enum Says<'t> {
     Section { key: Word<'t> },
     Use { name: Word<'t>, severity: Option<Severity> },
     Rule(Rule<'t>),
+    Severity { spot: Spot, severity: Severity },
+    Bound { spot: Spot, bounded: Bounded<'t> },
+    Drop { spot: Spot },
+    More { name: Word<'t>, codes: Vec<Word<'t>> },
+    Less { name: Word<'t>, codes: Vec<Word<'t>> },
     Sets { names: Vec<Word<'t>> },
 }
 
@@ -28,13 +33,18 @@ pub enum Says<'t> {
 pub struct Rule<'t> {
     /// Whether it is an `also`.
     pub further: bool,
-    pub place: Place,
+    pub spot: Spot,
     pub severity: Severity,
-    pub bound: Bound<'t>,
-    /// As they are written.
+    pub bounded: Bounded<'t>,
+    /// Place and kind as they are written.
     pub place_word: Word<'t>,
     pub kind_word: Word<'t>,
-    pub bound_words: Vec<Word<'t>>,
+}
+
+/// A bound, and its words as they are written.
+pub struct Bounded<'t> {
+    pub bound: Bound<'t>,
+    pub words: Vec<Word<'t>>,
 }
 
 #[derive(Clone, Copy, PartialEq, Eq)]
@@ -47,6 +57,11 @@ enum Verb {
     Use,
     Rule,
     Also,
+    Severity,
+    Bound,
+    Drop,
+    More,
+    Less,
     Sets,
 }
 
@@ -71,6 +86,11 @@ impl Verb {
             b"use" => Verb::Use,
             b"rule" => Verb::Rule,
             b"also" => Verb::Also,
+            b"severity" => Verb::Severity,
+            b"bound" => Verb::Bound,
+            b"drop" => Verb::Drop,
+            b"more" => Verb::More,
+            b"less" => Verb::Less,
             b"sets" => Verb::Sets,
             _ => return None,
         })
@@ -82,7 +102,9 @@ impl Verb {
             Verb::Set | Verb::Common | Verb::Section => inside != Inside::Nothing,
             Verb::Code => inside == Inside::Set,
             Verb::Use | Verb::Sets => inside == Inside::Section,
-            Verb::Rule | Verb::Also => matches!(inside, Inside::Common | Inside::Section),
+            Verb::Rule | Verb::Also | Verb::Severity | Verb::Bound | Verb::Drop | Verb::More | Verb::Less => {
+                matches!(inside, Inside::Common | Inside::Section)
+            }
         }
     }
 
@@ -92,6 +114,10 @@ impl Verb {
             Verb::Book | Verb::Common | Verb::Section => 2..=2,
             Verb::Set | Verb::Code | Verb::Sets => 2..=usize::MAX,
             Verb::Use => 2..=3,
+            Verb::Drop => 3..=3,
+            Verb::More | Verb::Less => 3..=usize::MAX,
+            Verb::Severity => 4..=4,
+            Verb::Bound => 4..=5,
             Verb::Rule | Verb::Also => 4..=6,
         }
     }
@@ -144,11 +170,16 @@ fn said<'t>(verb: Verb, words: &[Word<'t>]) -> Result<Says<'t>, u8> {
         Verb::Common => Says::Common { name: first },
         Verb::Section if !words::is_key(first) => return Err(37),
         Verb::Section => Says::Section { key: first },
-        Verb::Use => {
-            let severity = words.get(1).map(|word| words::severity(word).ok_or(41)).transpose()?;
-            Says::Use { name: first, severity }
-        }
+        Verb::Use => Says::Use { name: first, severity: words.get(1).map(|word| severity(word)).transpose()? },
         Verb::Rule | Verb::Also => Says::Rule(rule(verb == Verb::Also, words)?),
+        Verb::Severity => Says::Severity { spot: spot(words)?, severity: severity(words[2])? },
+        Verb::Bound => {
+            let spot = spot(words)?;
+            Says::Bound { spot, bounded: bounded(spot.kind, &words[2..])? }
+        }
+        Verb::Drop => Says::Drop { spot: spot(words)? },
+        Verb::More => Says::More { name: first, codes: codes(&words[1..])? },
+        Verb::Less => Says::Less { name: first, codes: codes(&words[1..])? },
         Verb::Sets => Says::Sets { names: words.to_vec() },
     })
 }
@@ -162,10 +193,24 @@ fn codes<'t>(words: &[Word<'t>]) -> Result<Vec<Word<'t>>, u8> {
 }
 
 fn rule<'t>(further: bool, words: &[Word<'t>]) -> Result<Rule<'t>, u8> {
-    let (place_word, kind_word, bound_words) = (words[0], words[1], words[3..].to_vec());
-    let place = words::place(place_word).ok_or(39)?;
-    let kind = words::kind_name(kind_word).ok_or(40)?;
-    let severity = words::severity(words[2]).ok_or(41)?;
-    let bound = words::bound(kind, &bound_words).ok_or(42)?;
-    Ok(Rule { further, place, severity, bound, place_word, kind_word, bound_words })
+    let spot = spot(words)?;
+    let severity = severity(words[2])?;
+    let bounded = bounded(spot.kind, &words[3..])?;
+    Ok(Rule { further, spot, severity, bounded, place_word: words[0], kind_word: words[1] })
+}
+
+/// Rows 39 and 40, of the first two words.
+fn spot(words: &[Word]) -> Result<Spot, u8> {
+    let place = words::place(words[0]).ok_or(39)?;
+    let kind = words::kind_name(words[1]).ok_or(40)?;
+    Ok(Spot { place, kind })
+}
+
+fn severity(word: Word) -> Result<Severity, u8> {
+    words::severity(word).ok_or(41)
+}
+
+fn bounded<'t>(kind: KindName, words: &[Word<'t>]) -> Result<Bounded<'t>, u8> {
+    let bound = words::bound(kind, words).ok_or(42)?;
+    Ok(Bounded { bound, words: words.to_vec() })
 }

@@ -28,6 +28,13 @@ pub struct Place {
     pub component: u8,
 }
 
+/// What a rule is of and a change speaks of. Both can be written in one way only.
+#[derive(Clone, Copy, Debug, PartialEq, Eq)]
+pub struct Spot {
+    pub place: Place,
+    pub kind: KindName,
+}
+
 pub fn place(word: Word) -> Option<Place> {
     let (name, rest) = word.split_at_checked(3)?;
     let name = Name::of(name)?;

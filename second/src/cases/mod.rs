@@ -2,6 +2,7 @@
 
 mod batches;
 mod delimiters;
+mod diffs;
 mod drafts;
 mod faults;
 mod frames;
@@ -11,9 +12,11 @@ mod places;
 mod plans;
 mod random;
 mod sources;
+mod variants;
 
 pub use batches::{BatchCase, BatchGenerator, PAIRS as BATCH_PAIRS, ROWS};
 pub use delimiters::{exchange, Five, ALLOWED};
+pub use diffs::{DiffCase, DiffGenerator};
 #[cfg(test)]
 pub(crate) use faults::FAULTY_RULES;
 pub use places::place;
@@ -63,12 +66,26 @@ fn length_needed((number, detail): (u8, u64)) -> Option<u64> {
     (number == 11).then_some(detail)
 }
 
-/// What is asked of the main code: an answer to one message or to a batch, or a book or text to be made of the other.
+/// What a program that runs packed cases prints of books as text.
+fn printed_told(output_length: usize, answer: impl FnOnce(&mut [u8]) -> Told) -> Vec<u8> {
+    let mut out = vec![0; output_length];
+    let Told { number, detail, section } = answer(&mut out);
+    let mut printed = format!("{number} {detail} {section}\n").into_bytes();
+    if number == 0 {
+        printed.extend(&out[..detail as usize]);
+        printed.push(b'\n');
+    }
+    printed
+}
+
+/// What is asked of the main code: an answer to one message or to a batch, a book or text to be made of the other, or
+/// the difference of two books.
 #[derive(Clone, Debug, PartialEq, Eq)]
 pub enum AnyCase {
     Message(Case),
     Batch(BatchCase),
     Book(BookCase),
+    Diff(DiffCase),
 }
 
 impl AnyCase {
@@ -77,6 +94,7 @@ impl AnyCase {
             AnyCase::Message(case) => case.output_length,
             AnyCase::Batch(case) => case.output_length,
             AnyCase::Book(case) => case.output_length,
+            AnyCase::Diff(case) => case.output_length,
         }
     }
 
@@ -86,6 +104,7 @@ impl AnyCase {
             AnyCase::Message(case) => case.answer(out).into(),
             AnyCase::Batch(case) => case.answer(out).into(),
             AnyCase::Book(case) => case.answer(out),
+            AnyCase::Diff(case) => case.answer(out),
         }
     }
 }
@@ -93,34 +112,47 @@ impl AnyCase {
 /// Two refusals, the earlier one first, whose conditions are both to be true.
 pub type Pair = (u8, u8);
 
-/// Messages, batches and books by one index: the first ones of each, then four messages, a batch and a book in turn.
+/// Messages, batches, books and differences by one index: the first ones of each, then five messages, a batch, a book
+/// and a difference in turn.
 pub struct AllCases {
     messages: Generator,
     batches: BatchGenerator,
     books: BookGenerator,
+    diffs: DiffGenerator,
 }
 
 impl AllCases {
     pub fn new(seed: u64) -> Self {
-        AllCases { messages: Generator::new(seed), batches: BatchGenerator::new(seed), books: BookGenerator::new(seed) }
+        AllCases {
+            messages: Generator::new(seed),
+            batches: BatchGenerator::new(seed),
+            books: BookGenerator::new(seed),
+            diffs: DiffGenerator::new(seed),
+        }
     }
 
     /// How many come before the random ones.
     pub fn firsts(&self) -> u64 {
-        self.messages.firsts() + self.batches.firsts() + self.books.firsts()
+        self.firsts_of_each().iter().sum()
+    }
+
+    fn firsts_of_each(&self) -> [u64; 4] {
+        [self.messages.firsts(), self.batches.firsts(), self.books.firsts(), self.diffs.firsts()]
     }
 
     /// The case of an index and the pair that it aims at.
     pub fn case(&self, index: u64) -> (AnyCase, Option<Pair>) {
-        let (messages, batches, books) = (self.messages.firsts(), self.batches.firsts(), self.books.firsts());
+        let [messages, batches, books, diffs] = self.firsts_of_each();
         match index.checked_sub(self.firsts()) {
             None if index < messages => self.message(index),
             None if index < messages + batches => self.batch(index - messages),
-            None => self.book(index - messages - batches),
-            Some(later) => match later % 6 {
-                4 => self.batch(batches + later / 6),
-                5 => self.book(books + later / 6),
-                at => self.message(messages + later / 6 * 4 + at),
+            None if index < messages + batches + books => self.book(index - messages - batches),
+            None => self.diff(index - messages - batches - books),
+            Some(later) => match later % 8 {
+                5 => self.batch(batches + later / 8),
+                6 => self.book(books + later / 8),
+                7 => self.diff(diffs + later / 8),
+                at => self.message(messages + later / 8 * 5 + at),
             },
         }
     }
@@ -138,6 +170,10 @@ impl AllCases {
     fn book(&self, index: u64) -> (AnyCase, Option<Pair>) {
         let (case, pair) = self.books.case(index);
         (AnyCase::Book(case), pair)
+    }
+
+    fn diff(&self, index: u64) -> (AnyCase, Option<Pair>) {
+        (AnyCase::Diff(self.diffs.case(index)), None)
     }
 }
 
@@ -428,7 +464,7 @@ mod tests {
     #[test]
     fn all_cases_hold_those_of_each_generator_once() {
         let all = AllCases::new(3);
-        let (mut messages, mut batches, mut books) = (0, 0, 0);
+        let (mut messages, mut batches, mut books, mut diffs) = (0, 0, 0, 0);
         for index in 0..all.firsts() + 600 {
             let (case, _) = all.case(index);
             match &case {
@@ -444,10 +480,15 @@ mod tests {
                     assert!(*case == all.books.case(books).0, "{index}");
                     books += 1;
                 }
+                AnyCase::Diff(case) => {
+                    assert!(*case == all.diffs.case(diffs), "{index}");
+                    diffs += 1;
+                }
             }
         }
-        let firsts = [all.messages.firsts(), all.batches.firsts(), all.books.firsts()];
-        assert_eq!([messages - firsts[0], batches - firsts[1], books - firsts[2]], [400, 100, 100]);
+        let mut later = [messages, batches, books, diffs];
+        later.iter_mut().zip(all.firsts_of_each()).for_each(|(count, firsts)| *count -= firsts);
+        assert_eq!(later, [375, 75, 75, 75]);
     }
 
     #[test]

@@ -1,6 +1,8 @@
 //! Books as text. What is to be answered is written by hand: of a book its bytes, of a refusal number, line, section.
 
 mod borders;
+mod changes;
+mod idle;
 mod refusals;
 mod shown;
 
@@ -28,7 +30,9 @@ pub fn samples() -> Vec<BookSample> {
     all.extend(lines_and_bytes());
     all.extend(set_orders());
     all.extend(inclusions());
+    all.extend(changes::samples());
     all.extend(refusals::samples());
+    all.extend(idle::samples());
     all.extend(borders::samples());
     all.extend(shown::samples());
     all.extend(legends());
@@ -87,7 +91,7 @@ fn large_sets(count: usize) -> String {
     (1..=count).map(|number| format!("set large{number}{codes}\n")).collect()
 }
 
-/// The page's own example with the statements that there are.
+/// The page's own example without changes.
 const EXAMPLE: &str = "\
 | A line of words alone is a remark.
 book 1
@@ -198,10 +202,10 @@ NYCDOHMH 6 RXA-20 CODE W 0322-completion
 NYCDOHMH 7 PID-11.2 LENGTH W 1 10 | second address line is too long; 004:940
 ";
     vec![
-        book("the page's example", EXAMPLE, &bytes),
-        book("the page's example as it is shown", text, &bytes),
-        show("the page's example", &bytes, text),
-        legend("the page's example", EXAMPLE, meant),
+        book("the page's example without changes", EXAMPLE, &bytes),
+        book("the page's example without changes as it is shown", text, &bytes),
+        show("the page's example without changes", &bytes, text),
+        legend("the page's example without changes", EXAMPLE, meant),
     ]
 }
 

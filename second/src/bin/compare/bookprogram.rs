@@ -4,23 +4,34 @@
 use crate::program::{lay_files, shown};
 use second::book::BOOK_LIMIT;
 use second::bookprogram::{self, Printed};
-use second::cases::{BookCall, BookGenerator, Random};
+use second::cases::{BookCall, BookGenerator, DiffCase, DiffGenerator, Random};
 use std::path::{Path, PathBuf};
 use std::process::Command;
 use std::{env, fs, io, process};
 
 const SOURCE: &str = "source.txt";
 const BOOK: &str = "book.vxb";
+/// With which the book is compared.
+const OTHER: &str = "other.vxb";
 /// There is no such folder.
 const NOWHERE: &str = "nowhere/book.vxb";
-/// Longer legends are not asked for, since a program need not have room for them.
-const LONGEST_LEGEND: usize = 1_048_576;
+/// Longer legends and differences are not asked for, since a program need not have room for them.
+const LONGEST: usize = 1_048_576;
+/// Of so many cases one is a difference.
+const DIFFS: u64 = 4;
 
 /// What stands in the folder before anything is run; `None` where a file is missing.
 #[derive(Clone)]
 struct Files {
     source: Option<Vec<u8>>,
     book: Option<Vec<u8>>,
+    other: Option<Vec<u8>>,
+}
+
+/// Cases by one index.
+struct Generators {
+    books: BookGenerator,
+    diffs: DiffGenerator,
 }
 
 /// One command line, with what is to be printed and which book is to be there afterwards.
@@ -45,11 +56,11 @@ fn compare_in(
     seed: u64,
     cases: u64,
 ) -> Result<bool, String> {
-    let generator = BookGenerator::new(seed);
+    let generators = Generators { books: BookGenerator::new(seed), diffs: DiffGenerator::new(seed) };
     let mut runs = 0;
     for index in 0..cases {
         let random = &mut Random::new(seed + 2, index);
-        let files = files(random, &generator, index);
+        let files = files(random, &generators, index);
         let problem = |e: io::Error| format!("case {index} of seed {seed}: {e}");
         lay(folder, &files).map_err(problem)?;
         for step in steps(random, &files) {
@@ -75,21 +86,31 @@ fn told(book: &Option<Vec<u8>>) -> String {
     book.as_ref().map_or("nothing".into(), |book| shown(book))
 }
 
-/// The source of an index and, where the index is for `show`, its book.
-fn files(random: &mut Random, generator: &BookGenerator, index: u64) -> Files {
-    let case = generator.case(index).0;
+/// The source of an index or, where the index is for `show` or `diff`, its books.
+fn files(random: &mut Random, generators: &Generators, index: u64) -> Files {
+    let (round, at) = (index / DIFFS, index % DIFFS);
+    if at + 1 == DIFFS {
+        let DiffCase { old, new, .. } = generators.diffs.case(round);
+        let [book, other] = [old, new].map(|book| (!random.one_in(30)).then(|| lengthened(random, book)));
+        return Files { source: None, book, other };
+    }
+    let case = generators.books.case(round * (DIFFS - 1) + at).0;
     if case.call == BookCall::Show {
-        let mut book = case.given;
-        // A good book with more after its limit is no good.
-        if random.one_in(if book.len() == BOOK_LIMIT { 2 } else { 20 }) {
-            book.resize(BOOK_LIMIT + random.pick(&[0, 1, 4_096, 70_000]), 0);
-        }
-        return Files { source: None, book: Some(book) };
+        let book = lengthened(random, case.given);
+        return Files { source: None, book: Some(book), other: None };
     }
     // A book that is there already is longer or shorter than the one that is written, or is none.
     let length = random.pick(&[0, 5, 300, 70_000]);
     let book = random.one_in(2).then(|| random.text(b"VXB\0\x01", length));
-    Files { source: Some(case.given), book }
+    Files { source: Some(case.given), book, other: None }
+}
+
+/// A good book with more after its limit is no good.
+fn lengthened(random: &mut Random, mut book: Vec<u8>) -> Vec<u8> {
+    if random.one_in(if book.len() == BOOK_LIMIT { 2 } else { 20 }) {
+        book.resize(BOOK_LIMIT + random.pick(&[0, 1, 4_096, 70_000]), 0);
+    }
+    book
 }
 
 fn steps(random: &mut Random, files: &Files) -> Vec<Step> {
@@ -100,7 +121,7 @@ fn steps(random: &mut Random, files: &Files) -> Vec<Step> {
         book: files.book.clone(),
     };
     if random.one_in(20) {
-        let wrong: [&[&str]; 10] = [
+        let wrong: [&[&str]; 13] = [
             &[],
             &["compile"],
             &["compile", SOURCE],
@@ -109,10 +130,22 @@ fn steps(random: &mut Random, files: &Files) -> Vec<Step> {
             &["check", SOURCE, BOOK],
             &["show", BOOK, BOOK],
             &["legend"],
+            &["diff"],
+            &["diff", BOOK],
+            &["diff", BOOK, BOOK, BOOK],
             &["Show", BOOK],
             &["", SOURCE],
         ];
         steps.push(same(random.pick(&wrong), bookprogram::usage()));
+    }
+    // A book beside itself where there is no other one.
+    let (other, name) = match &files.other {
+        None if files.source.is_some() => (&files.book, BOOK),
+        other => (other, OTHER),
+    };
+    let difference = difference(&files.book, (other, name));
+    if difference.text.len() <= LONGEST {
+        steps.push(same(&["diff", BOOK, name], difference));
     }
     let Some(text) = &files.source else {
         let missing = bookprogram::cannot_read(Path::new(SOURCE));
@@ -124,7 +157,7 @@ fn steps(random: &mut Random, files: &Files) -> Vec<Step> {
     let (printed, book) = bookprogram::compiled(text);
     steps.push(same(&["check", SOURCE], printed.clone()));
     let legend = bookprogram::legend(text);
-    if legend.text.len() <= LONGEST_LEGEND {
+    if legend.text.len() <= LONGEST {
         steps.push(same(&["legend", SOURCE], legend));
     }
     if random.one_in(20) {
@@ -147,8 +180,20 @@ fn show(book: Option<Vec<u8>>) -> Step {
     Step { arguments: vec!["show", BOOK], printed: printed.text, book }
 }
 
+/// What `diff` prints of the book and another one with its name.
+fn difference(book: &Option<Vec<u8>>, (other, name): (&Option<Vec<u8>>, &str)) -> Printed {
+    match (book, other) {
+        (None, _) => bookprogram::cannot_read(Path::new(BOOK)),
+        (_, None) => bookprogram::cannot_read(Path::new(name)),
+        (Some(old), Some(new)) => bookprogram::difference(old, new),
+    }
+}
+
 fn lay(folder: &Path, files: &Files) -> io::Result<()> {
-    lay_files(folder, &[(SOURCE, files.source.as_deref()), (BOOK, files.book.as_deref())])
+    lay_files(
+        folder,
+        &[(SOURCE, files.source.as_deref()), (BOOK, files.book.as_deref()), (OTHER, files.other.as_deref())],
+    )
 }
 
 /// Keeps the files as they were before anything was run, beside this program.

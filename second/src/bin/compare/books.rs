@@ -9,10 +9,38 @@ use std::collections::{BTreeMap, HashMap};
 /// How much room an answered case had beyond what it needed.
 const ROOMS: [&str; 2] = ["just enough room", "more room"];
 /// Things that sources do, each with a line that begins so.
-const VERBS: [&str; 9] = ["book", "set", "code", "common", "section", "use", "rule", "also", "sets"];
+const VERBS: [&str; 14] = [
+    "book", "set", "code", "common", "section", "use", "rule", "also", "severity", "bound", "drop", "more", "less",
+    "sets",
+];
 /// What a text can have besides.
-const TRAITS: [&str; 6] =
-    ["CR LF", "a tab", "a remark", "no line end at the end", "a severity for a common", "1,048,576 bytes"];
+const TRAITS: [&str; 10] = [
+    "CR LF",
+    "a tab",
+    "a remark",
+    "no line end at the end",
+    "a severity for a common",
+    "1,048,576 bytes",
+    "a rule again after its drop",
+    "a further rule after a change",
+    "a code that less took and more adds",
+    "a code that more added and less takes",
+];
+/// Rows of statements with the verbs for which they can hold.
+const VERBS_OF_ROWS: [(u8, &[&str]); 12] = [
+    (34, &VERBS),
+    (35, &VERBS),
+    (38, &["set", "code", "more", "less"]),
+    (39, &["rule", "also", "severity", "bound", "drop"]),
+    (40, &["rule", "also", "severity", "bound", "drop"]),
+    (41, &["use", "rule", "also", "severity"]),
+    (42, &["rule", "also", "bound"]),
+    (43, &["set", "common", "section"]),
+    (45, &["use", "rule", "also", "bound", "more", "less", "sets"]),
+    (48, &["also", "severity", "bound", "drop"]),
+    (49, &["more", "less"]),
+    (52, &["more", "less"]),
+];
 
 pub struct Books {
     /// By call and number.
@@ -28,6 +56,8 @@ pub struct Books {
     elsewhere: u64,
     /// Refusals of a later section than the first.
     later_section: u64,
+    /// By row and verb.
+    verbs_of_rows: HashMap<(u8, &'static str), u64>,
     /// Shown texts that compile to the same book.
     shown_again: u64,
     /// What shown books and what legends have.
@@ -57,6 +87,7 @@ impl Default for Books {
             traits: Default::default(),
             elsewhere: 0,
             later_section: 0,
+            verbs_of_rows: HashMap::new(),
             shown_again: 0,
             shown: BTreeMap::new(),
             meant: BTreeMap::new(),
@@ -96,7 +127,7 @@ impl Books {
         if case.call == BookCall::Legend {
             add(&mut self.meant, traits::of_legend(text));
         }
-        let said: Vec<Vec<&[u8]>> = says(text).collect();
+        let said: Vec<Words> = says(text).collect();
         for (verb, count) in VERBS.iter().zip(&mut self.verbs) {
             *count += u64::from(said.iter().any(|words| words.first() == Some(&verb.as_bytes())));
         }
@@ -107,6 +138,10 @@ impl Books {
             text.last() != Some(&b'\n'),
             said.iter().any(|words| words.len() == 3 && words[0] == b"use"),
             text.len() == booktext::TEXT_LIMIT,
+            follows(&said, b"drop", b"rule", |drop, rule| drop[1..3] == rule[1..3]),
+            follows(&said, b"severity", b"also", |change, rule| change[1..3] == rule[1..3]),
+            follows(&said, b"less", b"more", share_a_code),
+            follows(&said, b"more", b"less", share_a_code),
         ];
         for (has, count) in traits.into_iter().zip(&mut self.traits) {
             *count += u64::from(has);
@@ -118,6 +153,11 @@ impl Books {
         let lines = case.given.split(|b| *b == b'\n').take(before);
         self.later_section += u64::from(lines.into_iter().any(|line| line.starts_with(b"section ")));
         self.elsewhere += u64::from(told.detail != 0 && told.detail < told.section);
+        let line = (told.detail as usize).checked_sub(1).and_then(|at| says(&case.given).nth(at));
+        let verb = line.and_then(|words| VERBS.iter().find(|verb| words.first() == Some(&verb.as_bytes())));
+        if let Some(verb) = verb {
+            *self.verbs_of_rows.entry((told.number, verb)).or_default() += 1;
+        }
     }
 
     pub fn rows(&self) -> Vec<Row> {
@@ -149,6 +189,12 @@ impl Books {
         for (label, count) in TRAITS.iter().zip(self.traits) {
             add(format!("answered with {label}"), count);
         }
+        for (row, verbs) in VERBS_OF_ROWS {
+            for verb in verbs {
+                let count = self.verbs_of_rows.get(&(row, *verb)).copied().unwrap_or_default();
+                add(format!("refusal {row} for {verb}"), count);
+            }
+        }
         add("refused with a line before its section".into(), self.elsewhere);
         add("refused in a later section".into(), self.later_section);
         add("shown and compiled to the same bytes".into(), self.shown_again);
@@ -168,10 +214,24 @@ fn add(counts: &mut BTreeMap<&'static str, u64>, traits: Vec<Trait>) {
     }
 }
 
-/// The words of each line that has some.
-fn says(text: &[u8]) -> impl Iterator<Item = Vec<&[u8]>> {
+/// What a line says.
+type Words<'t> = Vec<&'t [u8]>;
+
+/// The words of each line, none where it says nothing.
+fn says(text: &[u8]) -> impl Iterator<Item = Words<'_>> {
     let lines = text.split(|b| *b == b'\n').map(|line| line.split(|b| *b == b'|').next().unwrap_or_default());
     lines.map(|said| said.split(u8::is_ascii_whitespace).filter(|word| !word.is_empty()).collect())
+}
+
+/// Whether a line with the one verb is followed by one with the other that goes with it, as far as the text's order says.
+fn follows(said: &[Words], one: &[u8], other: &[u8], fits: fn(&Words, &Words) -> bool) -> bool {
+    let with = |verb: &[u8], words: &Words| words.first() == Some(&verb);
+    let mut firsts = said.iter().enumerate().filter(|(_, words)| with(one, words));
+    firsts.any(|(at, first)| said[at..].iter().any(|words| with(other, words) && fits(first, words)))
+}
+
+fn share_a_code(one: &Words, other: &Words) -> bool {
+    one[1] == other[1] && one[2..].iter().any(|code| other[2..].contains(code))
 }
 
 fn label(row: u8) -> String {

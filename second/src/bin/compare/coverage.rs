@@ -1,8 +1,9 @@
 //! What the cases hit: refusals and their pairs, findings, combinations of header findings and of severities, what other
-//! delimiters bring, what batches do, and what books as text do.
+//! delimiters bring, what batches do, what books as text do and what differences tell.
 
 use crate::batches::Batches;
 use crate::books::Books;
+use crate::diffs::Diffs;
 use second::book::{Book, Kind, Rule};
 use second::booktext::Told;
 use second::cases::{AnyCase, Case, Pair};
@@ -41,6 +42,7 @@ pub struct Coverage {
     caret_in_key: u64,
     batches: Batches,
     books: Books,
+    diffs: Diffs,
 }
 
 impl Coverage {
@@ -51,6 +53,7 @@ impl Coverage {
             AnyCase::Message(case) => self.count_message(case, pair, answer),
             AnyCase::Batch(case) => self.batches.count(case, pair, answer),
             AnyCase::Book(case) => self.books.count(case, pair, told),
+            AnyCase::Diff(case) => self.diffs.count(case, told),
         }
     }
 
@@ -100,6 +103,7 @@ impl Coverage {
         rows.extend(self.delimiter_rows());
         rows.extend(self.batches.rows());
         rows.extend(self.books.rows());
+        rows.extend(self.diffs.rows());
         for (label, count) in &rows {
             println!("{label}: {count}");
         }

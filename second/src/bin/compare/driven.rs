@@ -36,7 +36,7 @@ impl Library for Driven {
 fn read(from: &mut impl Read, case: &AnyCase) -> io::Result<Made> {
     let answer = number(from)?;
     let answer = match case {
-        AnyCase::Book(_) => told(answer),
+        AnyCase::Book(_) | AnyCase::Diff(_) => told(answer),
         _ => number_and_detail(answer).into(),
     };
     let mut output = vec![0; case.output_length()];

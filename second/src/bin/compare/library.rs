@@ -118,7 +118,7 @@ fn same_reading(case: &AnyCase, made: &Made) -> Result<(), String> {
                 same(&format!("locate {place:?}"), *found, second::locate(&case.message, *place))
             })
         }
-        AnyCase::Batch(_) | AnyCase::Book(_) => Ok(()),
+        AnyCase::Batch(_) | AnyCase::Book(_) | AnyCase::Diff(_) => Ok(()),
     }
 }
 

@@ -2,7 +2,7 @@
 
 use crate::library::{filled, Library, Made};
 use crate::ours;
-use second::cases::{self, AnyCase, BatchCase, BookCase, Case, Random};
+use second::cases::{self, AnyCase, BatchCase, BookCase, Case, DiffCase, Random};
 
 /// Bytes after the output that nobody may write.
 const GUARD: usize = 64;
@@ -32,6 +32,10 @@ fn make(case: &AnyCase) -> Made {
         }
         AnyCase::Book(BookCase { call, given, .. }) => {
             let answer = ours::told(*call, given, lent);
+            Made { answer, check: None, places: Vec::new(), output }
+        }
+        AnyCase::Diff(DiffCase { old, new, .. }) => {
+            let answer = ours::diff(old, new, lent);
             Made { answer, check: None, places: Vec::new(), output }
         }
     }

@@ -4,6 +4,7 @@ mod batches;
 mod bookprogram;
 mod books;
 mod coverage;
+mod diffs;
 mod driven;
 mod library;
 #[cfg(feature = "ours")]

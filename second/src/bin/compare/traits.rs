@@ -56,7 +56,7 @@ fn sets<'b>(section: &Section<'b>) -> impl Iterator<Item = Vec<&'b [u8]>> {
 
 /// The text is one that is not refused.
 pub fn of_legend(text: &[u8]) -> Vec<Trait> {
-    let legend = booktext::legend_of(text).unwrap_or_default();
+    let legend = booktext::legend_of(text, usize::MAX).unwrap_or_default();
     let lines: Vec<(Vec<&[u8]>, &[u8])> = legend.split(|b| *b == b'\n').map(parted).collect();
     let any = |holds: fn(&[u8]) -> bool| lines.iter().any(|(_, people)| holds(people));
     let mut severities = HashMap::new();
@@ -71,7 +71,17 @@ pub fn of_legend(text: &[u8]) -> Vec<Trait> {
         let is_rule = line.starts_with(b"rule") || line.starts_with(b"also");
         is_rule && bar.is_some_and(|at| line[at + 1..].trim_ascii().is_empty())
     };
+    // What stands behind the bar of changes, where it cannot be found by chance.
+    let changed: Vec<&[u8]> = text.split(|b| *b == b'\n').filter_map(words_of_change).collect();
+    let behind = |people: &[u8], words: &[u8]| {
+        people.strip_suffix(words).is_some_and(|before| before.len() > 3 && before.ends_with(b" | "))
+    };
+    let any_change = |holds: &dyn Fn(&[u8], &[u8]) -> bool| {
+        lines.iter().any(|(said, people)| said.len() > 2 && changed.iter().any(|words| holds(people, words)))
+    };
     vec![
+        ("a change's words behind others", any_change(&behind)),
+        ("a change's words alone", any_change(&|people, words| people == words)),
         ("a bar in the words", any(|people| people.contains(&b'|'))),
         ("a tab in the words", any(|people| people.contains(&b'\t'))),
         ("a CR in the words", any(|people| people.contains(&b'\r'))),
@@ -80,6 +90,13 @@ pub fn of_legend(text: &[u8]) -> Vec<Trait> {
         ("a rule's words with two severities", twice),
         ("a rule with a bar and no words", text.split(|b| *b == b'\n').any(is_bare)),
     ]
+}
+
+/// The words for people of a `severity` or `bound`, if they are some.
+fn words_of_change(line: &[u8]) -> Option<&[u8]> {
+    let is_change = [b"severity ".as_slice(), b"bound "].iter().any(|verb| line.starts_with(verb));
+    let at = line.iter().position(|b| *b == b'|')?;
+    Some(line[at + 1..].trim_ascii()).filter(|words| is_change && words.len() > 3)
 }
 
 /// The words before a legend line's first bar, and what follows it.

@@ -1,13 +1,15 @@
 //! Sound sources: statements as lists of words, and ways to write them down.
 
-use super::super::{near, plans};
-use crate::cases::Random;
+use super::changes::changes;
+use super::state::State;
+use crate::books::RuleBytes;
+use crate::cases::{near, plans, Random};
 use std::collections::HashSet;
 use std::ops::Range;
 
 pub type Word = Vec<u8>;
 
-#[derive(Clone)]
+#[derive(Clone, Debug, PartialEq, Eq)]
 pub struct Statement {
     pub words: Vec<Word>,
     /// What stands behind the bar, if there is one.
@@ -48,13 +50,14 @@ impl Draft {
     pub fn of_sections(random: &mut Random, count: usize) -> Self {
         let sets: Vec<Word> = distinct(random, 6);
         let mut pages: Vec<Vec<Statement>> = sets.iter().map(|name| set(random, name)).collect();
-        let commons: Vec<Common> = distinct(random, 5).into_iter().map(|name| common(random, name, &sets)).collect();
+        let bare = State::of_sets(pages.iter().map(Vec::as_slice));
+        let commons = commons(random, &bare, &sets);
         pages.extend(commons.iter().map(Common::page));
         let mut keys = HashSet::new();
         while keys.len() < count {
             let key = near::word(random);
             if keys.insert(key.clone()) {
-                pages.push(section(random, key, &commons, &sets, count < 20));
+                pages.push(section(random, key, &commons, (&bare, &sets), count < 20));
             }
         }
         shuffle(random, &mut pages);
@@ -155,89 +158,94 @@ fn set(random: &mut Random, name: &Word) -> Vec<Statement> {
 
 struct Common {
     name: Word,
-    rules: Vec<Statement>,
+    statements: Vec<Statement>,
 }
 
 impl Common {
     fn page(&self) -> Vec<Statement> {
         let mut page = vec![Statement::new([b"common".to_vec(), self.name.clone()])];
-        page.extend(self.rules.clone());
+        page.extend(self.statements.clone());
         page
     }
 }
 
-/// Mostly one that can be used by itself.
-fn common(random: &mut Random, name: Word, sets: &[Word]) -> Common {
-    let mut rules: Vec<Statement> = Vec::new();
-    let mut standing = Standing::default();
+/// Mostly such that they can be used by themselves or after the one before.
+fn commons(random: &mut Random, bare: &State, sets: &[Word]) -> Vec<Common> {
+    let mut commons = Vec::new();
+    let mut state = bare.clone();
+    for name in distinct(random, 5) {
+        if random.one_in(2) {
+            state = bare.clone();
+        }
+        commons.push(common(random, name, &mut state, sets));
+    }
+    commons
+}
+
+fn common(random: &mut Random, name: Word, state: &mut State, sets: &[Word]) -> Common {
+    let mut statements: Vec<Statement> = Vec::new();
     for _ in 0..random.pick(&[0, 1, 2, 3, 5, 8]) {
-        let mut rule = rule(random, sets);
-        if !random.one_in(30) {
-            standing.suit(&mut rule);
+        let mut some = if random.one_in(4) { changes(random, state, sets) } else { Vec::new() };
+        if some.is_empty() {
+            let mut rule = rule(random, sets);
+            state.suit(&mut rule);
+            some.push(rule);
         }
-        standing.add(&rule);
-        rules.push(rule);
-    }
-    Common { name, rules }
-}
-
-/// The places and kinds of which a section has rules.
-#[derive(Default)]
-pub struct Standing(HashSet<(Word, Word)>);
-
-impl Standing {
-    pub fn has(&self, rule: &Statement) -> bool {
-        self.0.contains(&pair(rule))
-    }
-
-    pub fn add(&mut self, rule: &Statement) {
-        self.0.insert(pair(rule));
-    }
-
-    /// Makes it a `rule` or an `also`, as it has to be here.
-    fn suit(&self, rule: &mut Statement) {
-        rule.words[0] = if self.has(rule) { b"also".into() } else { b"rule".into() };
-    }
-
-    /// Adds all of them if none would be refused.
-    fn add_all(&mut self, rules: &[Statement]) -> bool {
-        let mut further = HashSet::new();
-        let fits = rules.iter().all(|rule| {
-            let stands = self.has(rule) || !further.insert(pair(rule));
-            stands == rule.is(&["also"])
-        });
-        if fits {
-            self.0.extend(further);
+        if random.one_in(30) {
+            some = vec![rule(random, sets)];
         }
-        fits
+        if state.take_over(&some) || random.one_in(30) {
+            statements.extend(some);
+        }
     }
+    Common { name, statements }
 }
 
-fn pair(rule: &Statement) -> (Word, Word) {
-    (rule.words[1].clone(), rule.words[2].clone())
-}
-
-fn section(random: &mut Random, key: Word, commons: &[Common], sets: &[Word], large: bool) -> Vec<Statement> {
+fn section(
+    random: &mut Random,
+    key: Word,
+    commons: &[Common],
+    (bare, sets): (&State, &[Word]),
+    large: bool,
+) -> Vec<Statement> {
     let mut page = vec![Statement::new([b"section".to_vec(), key])];
-    let mut standing = Standing::default();
-    let mut unused: Vec<&Common> = commons.iter().collect();
-    shuffle(random, &mut unused);
+    let mut state = bare.clone();
+    // Mostly in the order in which they go together.
+    let mut unused: Vec<&Common> = commons.iter().rev().collect();
+    if random.one_in(3) {
+        shuffle(random, &mut unused);
+    }
     let counts: &[usize] = if large { &[0, 1, 2, 4, 8, 20] } else { &[0, 1, 2] };
     for _ in 0..random.pick(counts) {
-        match random.below(8) {
-            0 if !sets.is_empty() => page.push(pinning(random, sets)),
-            1..4 => {
-                if let Some(common) = unused.pop().filter(|common| standing.add_all(&common.rules)) {
+        match random.below(12) {
+            0 if !sets.is_empty() => {
+                let pinned = pinning(random, sets);
+                state.apply(&pinned);
+                page.push(pinned);
+            }
+            1..5 => {
+                if let Some(common) = unused.pop().filter(|common| state.take_over(&common.statements)) {
                     page.push(using(random, &common.name));
+                }
+            }
+            5..8 => {
+                let some = changes(random, &state, sets);
+                if state.take_over(&some) {
+                    page.extend(some);
                 }
             }
             _ => {
                 let mut rule = rule(random, sets);
-                standing.suit(&mut rule);
-                standing.add(&rule);
+                state.suit(&mut rule);
+                state.apply(&rule);
                 page.push(rule);
             }
         }
+    }
+    let idle = state.idle();
+    if !idle.is_empty() {
+        let at = random.between(1, page.len());
+        page.insert(at, Statement::new([b"sets".to_vec()].into_iter().chain(idle)));
     }
     page
 }
@@ -262,7 +270,15 @@ pub fn severity(random: &mut Random) -> Word {
 
 /// A `rule` for any place; its sets are of those given.
 pub fn rule(random: &mut Random, sets: &[Word]) -> Statement {
-    let [n0, n1, n2, field, component, kind, severity, set, low, high] = plans::rule(random, sets.len());
+    said(plans::rule(random, sets.len()), sets)
+}
+
+pub fn rule_of_kind(random: &mut Random, kind: u8, sets: &[Word]) -> Statement {
+    said(plans::rule_of_kind(random, kind, sets.len()), sets)
+}
+
+/// The `rule` that makes these bytes.
+fn said([n0, n1, n2, field, component, kind, severity, set, low, high]: RuleBytes, sets: &[Word]) -> Statement {
     let mut place = [n0, n1, n2, b'-'].to_vec();
     place.extend(field.to_string().bytes());
     if component > 0 {

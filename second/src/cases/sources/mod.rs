@@ -1,8 +1,12 @@
 //! Books as text: one case, and a generator of them that depends on a seed alone.
 
+mod changes;
 mod drafts;
+mod edits;
 mod faults;
+mod state;
 
+pub(super) use edits::edited_books;
 pub use faults::{number_of, NO_SECTION, ROWS as BOOK_ROWS};
 
 use super::{faults as message_faults, large, lent, mutate_bytes, plans, Case, Pair, Random};
@@ -38,14 +42,7 @@ impl BookCase {
 
     /// What a program that runs packed cases prints for it.
     pub fn printed(&self) -> Vec<u8> {
-        let mut out = vec![0; self.output_length];
-        let Told { number, detail, section } = self.answer(&mut out);
-        let mut printed = format!("{number} {detail} {section}\n").into_bytes();
-        if number == 0 {
-            printed.extend(&out[..detail as usize]);
-            printed.push(b'\n');
-        }
-        printed
+        super::printed_told(self.output_length, |out| self.answer(out))
     }
 
     /// The length of what would be written, if nothing else is refused.
@@ -239,7 +236,7 @@ fn longest_books() -> impl Iterator<Item = BookCase> {
 }
 
 /// A book that 01 does not refuse, or hardly.
-fn any_book(random: &mut Random) -> Vec<u8> {
+pub fn any_book(random: &mut Random) -> Vec<u8> {
     match random.below(40) {
         0 => books::registries_book(),
         1 => {
@@ -277,11 +274,16 @@ fn double<T: Clone>(random: &mut Random, items: &mut Vec<T>) {
 }
 
 fn bad_book(random: &mut Random, number: u8) -> BookCase {
+    let book = bad_bytes(random, number);
+    BookCase { output_length: random.pick(&[0, 300]), ..case(BookCall::Show, book) }
+}
+
+/// A book for which 01 has this refusal.
+pub fn bad_bytes(random: &mut Random, number: u8) -> Vec<u8> {
     let book = books::encode(&plans::sections(random).0);
     let mut message = Case { message: vec![], book, stamp: vec![], control: 0, output_length: 0, place: [0; 4] };
     message_faults::put(random, &mut message, number);
-    let output_length = random.pick(&[0, 300]);
-    BookCase { output_length, ..case(BookCall::Show, message.book) }
+    message.book
 }
 
 /// Changes a text in a byte, a line, a word or what a line says.
@@ -315,7 +317,7 @@ mod tests {
             let compiled = compiled.unwrap_or_else(|told| panic!("{told:?} {}", text.escape_ascii()));
             let shown = booktext::shown(&compiled.book).unwrap_or_else(|told| panic!("{told:?}"));
             assert!(booktext::compiled(&shown).is_ok_and(|again| again.book == compiled.book));
-            let legend = booktext::legend_of(&text).unwrap_or_else(|told| panic!("{told:?}"));
+            let legend = booktext::legend_of(&text, usize::MAX).unwrap_or_else(|told| panic!("{told:?}"));
             let lines = legend.iter().filter(|b| **b == b'\n').count();
             assert_eq!(lines, compiled.sections + compiled.rules);
         }
@@ -353,7 +355,7 @@ mod tests {
         let mut accepted = 0;
         for index in 0..generator.firsts() + 1_500 {
             let given = generator.case(index).0.given;
-            let (compiled, legend) = (booktext::compiled(&given), booktext::legend_of(&given));
+            let (compiled, legend) = (booktext::compiled(&given), booktext::legend_of(&given, usize::MAX));
             assert_eq!(compiled.as_ref().err(), legend.as_ref().err());
             if let Ok(compiled) = compiled {
                 let shown = booktext::shown(&compiled.book).unwrap_or_else(|told| panic!("{told:?}"));
