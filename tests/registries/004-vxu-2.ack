@@ -1,0 +1,7 @@
+MSH|^~\&||NYCDOHMH|EMR 1.1|8000N70|20250113120000+0000||ACK^V04^ACK|7|P|2.5.1|||NE|NE|||||Z23^CDCPHINVS
+MSA|AE|587999
+ERR||PID^1^5^1^2|101^Required field missing^HL70357|E|45^^L
+ERR||PID^1^10^1^1|101^Required field missing^HL70357|W|84^^L
+ERR||PID^1^11^1^2|102^Data type error^HL70357|W|87^^L
+ERR||PID^1^13^1|101^Required field missing^HL70357|W|89^^L
+ERR||PID^1^22^1^1|101^Required field missing^HL70357|W|92^^L
