@@ -51,7 +51,7 @@ static inline size_t jasminedo_length(uint64_t place) { return (size_t)(place % 
 static inline uint64_t jasminedo_line(uint64_t told) { return told / 256 % 4294967296u; }
 static inline uint64_t jasminedo_section(uint64_t told) { return told / 1099511627776u; }
 
-/* The book that a text means, or one of 31 to 48, 50, 51, 53 to 56. */
+/* The book that a text means, or one of 31 to 56. */
 uint64_t jasminedo_compile(const uint8_t *text, size_t text_length, uint8_t *output, size_t output_length);
 
 /* The canonical text of a book, which compiles to the same bytes, or 7, the book is malformed, 8, it has another version

@@ -1,5 +1,5 @@
 /* Calls the library as a C program would: the worked example, a refusal at each end, places, other delimiters, a batch, a book from
- * text, its own text and the legend. Says what differs. */
+ * text, its own text and the legend, a text with changes and what they change in the book. Says what differs. */
 #include "../include/jasminedo.h"
 
 #include <stdio.h>
@@ -104,6 +104,76 @@ static void expect_books(void) {
     expect("what follows the legend is left", memcmp(meant + legend_length, before, sizeof(meant) - legend_length) == 0);
 }
 
+/* A section that takes over a common; lines are added that change it, the ninth of the text and so on. */
+#define PAGE \
+    "book 1\nset sex F M\ncommon all\nrule PID-7.1 REQUIRED E\nrule RXA-6 REQUIRED E\nrule PID-8 CODE W sex\n" \
+    "section A\nuse all\n"
+#define CHANGES "severity PID-7.1 REQUIRED I\ndrop RXA-6 REQUIRED\nmore sex X\n"
+
+/* The book of a text with changes, and a refusal of each that changes nothing. */
+static void expect_changes(void) {
+    static const char text[] = PAGE CHANGES;
+    static const char not_there[] = PAGE "drop RXA-7 REQUIRED\n";
+    static const char there[] = PAGE "more sex M\n";
+    static const char not_held[] = PAGE "drop PID-8 CODE\nmore sex X\n";
+    static const char book[] = "VXB\0\1\1\1A\0\2\1"
+                               "PID\7\1\1I\0\0\0"
+                               "PID\10\0\6W\1\0\0"
+                               "\0\3\1F\1M\1X";
+    const size_t length = sizeof(book) - 1;
+    uint8_t output[100], before[sizeof(output)];
+    memset(before, '.', sizeof(before));
+    memcpy(output, before, sizeof(output));
+
+    uint64_t got = jasminedo_compile(BYTES(not_there), output, sizeof(output));
+    expect("a rule dropped that is not there is refusal 48 with its line and its section's",
+           jasminedo_number(got) == 48 && jasminedo_line(got) == 9 && jasminedo_section(got) == 7);
+    got = jasminedo_compile(BYTES(there), output, sizeof(output));
+    expect("a code added that is there is refusal 49 with its line and its section's",
+           jasminedo_number(got) == 49 && jasminedo_line(got) == 9 && jasminedo_section(got) == 7);
+    got = jasminedo_compile(BYTES(not_held), output, sizeof(output));
+    expect("a code added to a set that no rule names is refusal 52 with its line and its section's",
+           jasminedo_number(got) == 52 && jasminedo_line(got) == 10 && jasminedo_section(got) == 7);
+    expect("a refused change leaves the output", memcmp(output, before, sizeof(output)) == 0);
+
+    got = jasminedo_compile(BYTES(text), output, sizeof(output));
+    expect("a text with changes is compiled with its book's length", jasminedo_number(got) == 0 && jasminedo_detail(got) == length);
+    expect("the book has the changed severity, a rule less and a code more", memcmp(output, book, length) == 0);
+    expect("what follows the changed book is left", memcmp(output + length, before, sizeof(output) - length) == 0);
+}
+
+/* What the changes change in the book without them, a refusal of each book, and a length needed. */
+static void expect_differences(void) {
+    static const char text[] = PAGE, changed[] = PAGE CHANGES;
+    static const char lines[] = "A ~ 1 PID-7.1 REQUIRED E -> I\nA - 2 RXA-6 REQUIRED E\nA ~ 3 PID-8 CODE +X\n"
+                                "A # 3 -> 2 PID-8 CODE\n";
+    const size_t length = sizeof(lines) - 1;
+    uint8_t old[50], new[50], output[150], before[sizeof(output)];
+    memset(before, '.', sizeof(before));
+    memcpy(output, before, sizeof(output));
+    const size_t old_length = jasminedo_detail(jasminedo_compile(BYTES(text), old, sizeof(old)));
+    const size_t new_length = jasminedo_detail(jasminedo_compile(BYTES(changed), new, sizeof(new)));
+    expect("the books of 47 and 39 bytes are compiled", old_length == 47 && new_length == 39);
+
+    uint64_t got = jasminedo_diff(BYTES("VXB\0\1"), BYTES("VXB\0\1"), output, sizeof(output));
+    expect("an old book that is cut off is refusal 7 of the first",
+           jasminedo_number(got) == 7 && jasminedo_line(got) == 1 && jasminedo_section(got) == 0);
+    got = jasminedo_diff(old, old_length, BYTES("VXB\0\2\1\1A\0\0\0"), output, sizeof(output));
+    expect("a new book of another version is refusal 8 of the second",
+           jasminedo_number(got) == 8 && jasminedo_line(got) == 2 && jasminedo_section(got) == 0);
+    got = jasminedo_diff(old, old_length, new, new_length, output, length - 1);
+    expect("a difference that needs one byte more is refused with its length",
+           jasminedo_number(got) == 55 && jasminedo_detail(got) == length);
+    got = jasminedo_diff(old, old_length, old, old_length, output, 0);
+    expect("a book and itself have no difference", jasminedo_number(got) == 0 && jasminedo_detail(got) == 0);
+    expect("two books that are refused or alike leave the output", memcmp(output, before, sizeof(output)) == 0);
+
+    got = jasminedo_diff(old, old_length, new, new_length, output, sizeof(output));
+    expect("a difference is told with its length", jasminedo_number(got) == 0 && jasminedo_detail(got) == length);
+    expect("the difference has a line for each thing", memcmp(output, lines, length) == 0);
+    expect("what follows the difference is left", memcmp(output + length, before, sizeof(output) - length) == 0);
+}
+
 int main(void) {
     static const char message[] = "MSH|^~\\&|CAB|C1|REG|AX|20250113115900+0000||VXU^V04^VXU_V04|M1|P|2.5.1\r"
                                   "PID|1||77||ROE^ANN||20240230\r";
@@ -144,6 +214,8 @@ int main(void) {
 
     expect_batches();
     expect_books();
+    expect_changes();
+    expect_differences();
 
     if (!wrong)
         printf("calling: as expected\n");
