@@ -40,9 +40,6 @@ module _ (t : List ℕ) (cell : ℕ) where
   pub noted-at : noted t cell .at ≡ lineIn cell
   noted-at = noted-as (λ (s : Statement). s .at) (λ bound. refl)
 
-  pub noted-given : noted t cell .given ≡ cell % 256
-  noted-given = noted-as (λ (s : Statement). s .given) (λ bound. refl)
-
   pub noted-first : word (noted t cell) 1 ≡ word (statementAt t (lineIn cell) 0) 1
   noted-first = noted-as (λ (s : Statement). word s 1) (λ bound. refl)
 

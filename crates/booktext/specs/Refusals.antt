@@ -53,10 +53,11 @@ isThere (s ∷ ss) = true
 abbrev pub isSet : List Statement → List ℕ → Bool
 isSet all name = isThere (from aSet name all)
 
--- the name of the one set that it names: a rule or a `bound` of kind CODE, `more` and `less`
+-- it names one set: a rule or a `bound` of kind CODE, a `more` or a `less`
 abbrev pub namesSet : Statement → Bool
 namesSet s = ofCodes (verb s) || ((makesRule s || says aBound s) && eqb (kindNumber (word s 2)) aCodeKind)
 
+-- the set that it names
 abbrev pub setNamed : Statement → List ℕ
 setNamed s = word s (cond (ofCodes (verb s)) 1 (beforeBound (verb s)))
 

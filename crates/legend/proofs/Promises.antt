@@ -28,9 +28,9 @@ abbrev pub rulesMade : List (List ℕ) → List Maker → List Rule
 rulesMade names ms = map (λ (m : Maker). made names (m .rule)) ms
 
 -- what is settled of one statement
-pub rules-settled : (t : List ℕ) (names : List (List ℕ)) (s : Statement) (ss : List Statement) → rulesOf names (settled (s ∷ ss)) ≡ cond (stays s ss) (made names (amended (spotOf s) s ss) ∷ rulesOf names (settled ss)) (rulesOf names (settled ss))
+pub rules-settled : (names : List (List ℕ)) (s : Statement) (ss : List Statement) → rulesOf names (settled (s ∷ ss)) ≡ cond (stays s ss) (made names (amended (spotOf s) s ss) ∷ rulesOf names (settled ss)) (rulesOf names (settled ss))
 unfolding settled settledAs rulesOf
-rules-settled t names s ss = by (makesRule s) (dropped (spotOf s) ss) refl
+rules-settled names s ss = by (makesRule s) (dropped (spotOf s) ss) refl
   where
     by : (a b : Bool) → makesRule s ≡ a
         → rulesOf names (cond a (cond b [] (amended (spotOf s) s ss ∷ [])) (s ∷ []) ++ settled ss) ≡ cond (a && not b) (made names (amended (spotOf s) s ss) ∷ rulesOf names (settled ss)) (rulesOf names (settled ss))
@@ -45,7 +45,7 @@ unfolding rulesLegend makers counted settled rulesOf
 legend-rules t key names n [] = (refl, refl)
 legend-rules t key names n (s ∷ ss) =
     let pair = by (stays s ss) (legend-rules t key names n ss) (legend-rules t key names (suc n) ss .1) in
-    (rules-settled t names s ss ∙ pair .0, pair .1)
+    (rules-settled names s ss ∙ pair .0, pair .1)
   where
     maker : Maker
     maker = record { rule = amended (spotOf s) s ss; remarks = remarkOf t s ++ laterRemarks t (spotOf s) ss }

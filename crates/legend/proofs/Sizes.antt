@@ -231,7 +231,7 @@ module _ (t : List ℕ) (short : length t ≤ textLimit) where
   rules-size names key n (s ∷ ss) k few e =
       let both = and-both (brief s) (each brief ss) e in
       let less : length ss ≤ statementLimit = omega (arith, few) in
-      rw (rules-settled t names s ss)
+      rw (rules-settled names s ss)
       (by (stays s ss) (line-size key n s ss k few (both .0) (both .1)) (rules-size names key n ss k less (both .1)) (rules-size names key (suc n) ss k less (both .1)))
     where
       by : (b : Bool) → length (lineOfRule t key n s ss) ≤ lineMost → length (rulesLegend t key n ss) ≤ length (rulesOf names (settled ss)) * lineMost → length (rulesLegend t key (suc n) ss) ≤ length (rulesOf names (settled ss)) * lineMost
