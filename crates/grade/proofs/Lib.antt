@@ -25,5 +25,6 @@ pub mod Spelling
 pub mod Exchanging
 pub mod Samples
 pub mod BookSamples
+pub mod CalendarSamples
 pub mod ValueSamples
 pub mod FindingSamples

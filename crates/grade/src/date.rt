@@ -11,12 +11,8 @@ use hl7::bytes::after;
 use hl7::bytes::byte_at;
 use hl7::bytes::front;
 use hl7::bytes::pick;
-use hl7::bytes::wide;
 
 // ---- the calendar
-
-// Days of the months 1 to 12 of a common year.
-const COMMON_LENGTHS: [u8; 13] = [0, 31, 28, 31, 30, 31, 30, 31, 31, 30, 31, 30, 31];
 
 fn is_leap(year: usize) -> bool
     ensures { λ r. ⌜ r ≡ isLeap year ⌝ }
@@ -24,11 +20,15 @@ fn is_leap(year: usize) -> bool
     (year % 4 == 0) & ((year % 100 != 0) | (year % 400 == 0))
 }
 
+// The odd months have 31 days up to July; from August on month / 8 is 1, and the even ones have them.
 fn month_length(year: usize, month: usize) -> usize
     ensures { λ r. ⌜ r ≡ monthLength year month ⌝ }
 {
-    let common = wide(byte_at(&COMMON_LENGTHS, month));
-    pick((month == 2) & is_leap(year), 29, common)
+    if !((1 <= month) & (month <= 12)) {
+        return 0;
+    }
+    let february = pick(is_leap(year), 29, 28);
+    pick(month == 2, february, 30 + (month + month / 8) % 2)
 }
 
 fn is_real_date(year: usize, month: usize, day: usize) -> bool
