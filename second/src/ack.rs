@@ -88,7 +88,8 @@ impl<'a> Ack<'a> {
     }
 }
 
-fn is_stamp(stamp: &[u8]) -> bool {
+/// Whether refusal 10 is not met.
+pub fn is_stamp(stamp: &[u8]) -> bool {
     // Of the TIMEs of 19 bytes only one with a fraction has another form, and its sign stands elsewhere.
     stamp.len() == 19 && matches!(stamp[14], b'+' | b'-') && values::time_digits(stamp) == Some(14)
 }

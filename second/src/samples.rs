@@ -4,6 +4,7 @@
 pub mod batches;
 mod delimiters;
 pub mod diffs;
+mod months;
 pub mod sources;
 
 use crate::book::BOOK_LIMIT;
@@ -88,6 +89,7 @@ pub fn samples() -> Vec<Sample> {
     }
     all.extend(located());
     all.extend(delimiters::samples());
+    all.extend(months::samples());
     all
 }
 
@@ -501,14 +503,15 @@ fn stamps() -> Vec<Sample> {
         ("", false),
         ("2025011312000x+0000", false),
     ];
-    rows.into_iter()
-        .map(|(stamp, good)| {
-            let ack = ACK_HEADER.replace("20250113120000+0000", stamp) + "MSA|AA|M1\n";
-            let case = Case { stamp: stamp.into(), ..case(lines(&format!("{HEADER}PID\n")), book_ax(&[])) };
-            let expected = if good { &ack } else { "refused 10 0\n" };
-            sample(&format!("stamp {stamp:?}"), case, expected)
-        })
-        .collect()
+    rows.into_iter().map(|(stamp, good)| stamped(stamp, good)).collect()
+}
+
+/// A message that breaks nothing, with a stamp that is good or not.
+fn stamped(stamp: &str, good: bool) -> Sample {
+    let ack = ACK_HEADER.replace("20250113120000+0000", stamp) + "MSA|AA|M1\n";
+    let case = Case { stamp: stamp.into(), ..case(lines(&format!("{HEADER}PID\n")), book_ax(&[])) };
+    let expected = if good { &ack } else { "refused 10 0\n" };
+    sample(&format!("stamp {stamp:?}"), case, expected)
 }
 
 fn outputs() -> Vec<Sample> {

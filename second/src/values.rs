@@ -60,6 +60,7 @@ fn real_date(digits: &[u8]) -> bool {
     year >= 1 && (1..=12).contains(&month) && (1..=days(year, month)).contains(&day)
 }
 
+/// Named and not worked out as A5 asks of the main code, so that two ways of saying it are compared.
 fn days(year: u32, month: u32) -> u32 {
     match month {
         4 | 6 | 9 | 11 => 30,
@@ -109,6 +110,25 @@ mod tests {
             "2024022x",
         ] {
             assert!(!is_date(bad.as_bytes()), "{bad}");
+        }
+    }
+
+    #[test]
+    fn months() {
+        // The last days from the calendar; no month has the number 0 or 13.
+        let common = [0, 31, 28, 31, 30, 31, 30, 31, 31, 30, 31, 30, 31, 0];
+        let leap = [0, 31, 29, 31, 30, 31, 30, 31, 31, 30, 31, 30, 31, 0];
+        for (year, lasts) in [("2023", common), ("1900", common), ("2024", leap), ("2000", leap)] {
+            for (month, last) in lasts.into_iter().enumerate() {
+                for day in 0..=99 {
+                    let date = format!("{year}{month:02}{day:02}");
+                    let real = 1 <= day && day <= last;
+                    assert_eq!(is_date(date.as_bytes()), real, "{date}");
+                    assert_eq!(time_digits(date.as_bytes()), real.then_some(8), "{date}");
+                }
+                let month = format!("{year}{month:02}");
+                assert_eq!(time_digits(month.as_bytes()), (last > 0).then_some(6), "{month}");
+            }
         }
     }
 

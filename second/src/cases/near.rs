@@ -5,6 +5,8 @@ use crate::books::{RuleBytes, SectionPlan};
 
 const WORD: &[u8] = b"ABXYabxy019.-_!#}\"";
 const FILLER: &[u8] = b"abcXYZ 019.&\\\"-+#!$'";
+/// February more often, since its last day depends on the year too.
+const MONTHS: [&str; 14] = ["01", "02", "02", "02", "03", "04", "05", "06", "07", "08", "09", "10", "11", "12"];
 
 /// A value for the rule's component, good, bad, empty or odd.
 pub fn value(random: &mut Random, rule: &RuleBytes, section: &SectionPlan) -> Vec<u8> {
@@ -56,8 +58,8 @@ fn pair(random: &mut Random, good: &[&'static str], bad: &[&'static str]) -> &'s
 
 fn digits_of_a_time(random: &mut Random) -> String {
     let year = pair(random, &["0001", "0004", "1900", "2000", "2023", "2024", "2400", "9999"], &["0000"]);
-    let month = pair(random, &["01", "02", "04", "06", "09", "11", "12"], &["00", "13", "99"]);
-    let day = pair(random, &["01", "28", "29", "30", "31"], &["00", "32", "99"]);
+    let month = pair(random, &MONTHS, &["00", "13", "99"]);
+    let day = pair(random, &["01", "28", "29", "30", "31", "32"], &["00", "99"]);
     let hour = pair(random, &["00", "09", "23"], &["24", "99"]);
     let minute = pair(random, &["00", "59"], &["60", "99"]);
     let second = pair(random, &["00", "59"], &["60", "61"]);
@@ -146,9 +148,16 @@ pub fn word(random: &mut Random) -> Vec<u8> {
     random.text(WORD, length)
 }
 
+/// Real in every year: the first day, and each month's last, of February the 28th.
+const DAYS: [&str; 13] =
+    ["0101", "0131", "0228", "0331", "0430", "0531", "0630", "0731", "0831", "0930", "1031", "1130", "1231"];
+/// Real in no year: the day after each month's last.
+const LATE_DAYS: [&str; 12] =
+    ["0132", "0230", "0332", "0431", "0532", "0631", "0732", "0832", "0931", "1032", "1131", "1232"];
+
 pub fn stamp(random: &mut Random) -> Vec<u8> {
     let year = random.pick(&["0001", "2024", "2025", "9999"]);
-    let day = random.pick(&["0101", "0228", "0430", "1231"]);
+    let day = random.pick(&DAYS);
     let time = random.pick(&["000000", "235959", "120000"]);
     let zone = random.pick(&["+0000", "-0000", "+2359", "-0530"]);
     [year, day, time, zone].concat().into_bytes()
@@ -158,7 +167,7 @@ pub fn stamp(random: &mut Random) -> Vec<u8> {
 pub fn bad_stamp(random: &mut Random) -> Vec<u8> {
     let mut bad = stamp(random);
     let at = |pair: usize| pair * 2..pair * 2 + 2;
-    match random.below(12) {
+    match random.below(13) {
         0 => bad.clear(),
         1 => drop(bad.pop()),
         2 => bad.push(b'0'),
@@ -170,6 +179,7 @@ pub fn bad_stamp(random: &mut Random) -> Vec<u8> {
         8 => bad[14] = random.letter(b" .0\xFF"),
         9 => bad[15..17].copy_from_slice(b"24"),
         10 => bad[17..19].copy_from_slice(b"60"),
+        11 => bad[4..8].copy_from_slice(random.pick(&LATE_DAYS).as_bytes()),
         _ => {
             let digits = [0, 3, 5, 7, 9, 11, 13, 15, 18];
             bad[random.pick(&digits)] = random.letter(b" +-.:x\0\xFF");

@@ -1,14 +1,16 @@
 //! What the cases hit: refusals and their pairs, findings, combinations of header findings and of severities, what other
-//! delimiters bring, what batches do, what books as text do and what differences tell.
+//! delimiters bring, the ends of months, what batches do, what books as text do and what differences tell.
 
 use crate::batches::Batches;
 use crate::books::Books;
 use crate::diffs::Diffs;
+use crate::months::{self, Edge, Months};
 use second::book::{Book, Kind, Rule};
 use second::booktext::Told;
 use second::cases::{AnyCase, Case, Pair};
 use second::cutting::{self, Message, Refusal};
 use second::findings::{self, Finding, Place};
+use std::collections::HashSet;
 
 /// Longer ACKs are not graded once more to be counted.
 pub const LONGEST: u64 = 100_000;
@@ -40,6 +42,7 @@ pub struct Coverage {
     beginnings: [u64; 5],
     later_header: u64,
     caret_in_key: u64,
+    months: Months,
     batches: Batches,
     books: Books,
     diffs: Diffs,
@@ -65,6 +68,9 @@ impl Coverage {
                 self.pairs[usize::from(earlier)][usize::from(later)] += 1;
             }
         }
+        if matches!(number, 0 | 10) {
+            self.months.count(&months::stamp_edge(&case.stamp));
+        }
         match number {
             0 | 11 if detail < LONGEST => self.count_findings(case, number == 0),
             4 => {
@@ -87,6 +93,7 @@ impl Coverage {
         self.headers[hits.header] += 1;
         if written && hits.header == 0 {
             self.severities[hits.severities] += 1;
+            self.months.count(&hits.edges);
         }
         if written && case.message[3..8] != *USUAL {
             self.verdicts[hits.verdict()] += 1;
@@ -101,6 +108,7 @@ impl Coverage {
         let mut rows = self.answer_rows();
         rows.extend(self.combination_rows());
         rows.extend(self.delimiter_rows());
+        rows.extend(self.months.rows());
         rows.extend(self.batches.rows());
         rows.extend(self.books.rows());
         rows.extend(self.diffs.rows());
@@ -194,6 +202,7 @@ struct Hits {
     header: usize,
     /// One bit for each of E, W, I.
     severities: usize,
+    edges: HashSet<Edge>,
 }
 
 impl Hits {
@@ -204,7 +213,7 @@ impl Hits {
         let book = Book::read(&case.book)?;
         let section = book.section(findings::first_value(message, &header, 6, 1))?;
         let rules: Vec<Rule> = section.rules().collect();
-        let mut hits = Hits::default();
+        let mut hits = Hits { edges: months::edges(message, &rules), ..Hits::default() };
         findings::grade(message, &header, &section, |finding| hits.add(&rules, finding));
         Ok(hits)
     }

@@ -9,6 +9,7 @@ mod driven;
 mod library;
 #[cfg(feature = "ours")]
 mod linked;
+mod months;
 #[cfg(feature = "ours")]
 #[path = "../../ours.rs"]
 mod ours;
