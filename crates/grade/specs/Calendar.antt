@@ -12,7 +12,7 @@ abbrev pub isLeap : ℕ → Bool
 isLeap year = divides 4 year && (not (divides 100 year) || divides 400 year)
 
 -- how many days a month has: none where there is no such month
--- the odd months have 31 up to July; from August on month / 8 is 1, and the even ones have them
+-- month + month / 8 is odd in the odd months up to July and, since month / 8 is 1 from August on, in the even ones after: these have 31
 unfoldable pub monthLength : ℕ → ℕ → ℕ
 monthLength year month = cond (within 1 12 month) (cond (eqb month 2) (cond (isLeap year) 29 28) (30 + (month + month / 8) % 2)) 0
 

@@ -20,7 +20,7 @@ fn is_leap(year: usize) -> bool
     (year % 4 == 0) & ((year % 100 != 0) | (year % 400 == 0))
 }
 
-// The odd months have 31 days up to July; from August on month / 8 is 1, and the even ones have them.
+// month + month / 8 is odd in the odd months up to July and, since month / 8 is 1 from August on, in the even ones after: these have 31 days.
 fn month_length(year: usize, month: usize) -> usize
     ensures { λ r. ⌜ r ≡ monthLength year month ⌝ }
 {
