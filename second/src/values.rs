@@ -117,7 +117,8 @@ mod tests {
     fn months() {
         // The last days from the calendar; no month has the number 0 or 13.
         let common = [0, 31, 28, 31, 30, 31, 30, 31, 31, 30, 31, 30, 31, 0];
-        let leap = [0, 31, 29, 31, 30, 31, 30, 31, 31, 30, 31, 30, 31, 0];
+        let mut leap = common;
+        leap[2] = 29;
         for (year, lasts) in [("2023", common), ("1900", common), ("2024", leap), ("2000", leap)] {
             for (month, last) in lasts.into_iter().enumerate() {
                 for day in 0..=99 {

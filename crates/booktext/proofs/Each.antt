@@ -14,6 +14,9 @@ module _ {A : Type 0} (test : A → Bool) where
   each-append [] ys = refl
   each-append (x ∷ xs) ys = ap (λ (b : Bool). test x && b) (each-append xs ys) ∙ sym (and-assoc (test x) (each test xs) (each test ys))
 
+  pub each-join : (xs ys : List A) → each test xs ≡ true → each test ys ≡ true → each test (xs ++ ys) ≡ true
+  each-join xs ys e f = each-append xs ys ∙ ap₂ _&&_ e f
+
   -- of two parts
   pub each-both : (xs ys : List A) → each test (xs ++ ys) ≡ true → (each test xs ≡ true) × (each test ys ≡ true)
   each-both xs ys e = and-both (each test xs) (each test ys) (sym (each-append xs ys) ∙ e)

@@ -8,7 +8,7 @@ use lib.Dec.{eqb, leb, ltb}
 use lib.ListN.{length, length-append, length-map}
 use borrow.Author.Tests.{eqb-true, eqb-false, eq-eqb, leb-false, le-leb, ltb-false}
 use Rattle.hl7.specs.Bytes.{within, same, among}
-use Rattle.hl7.proofs.Comparing.{and-both, same-equal, same-self}
+use Rattle.hl7.proofs.Comparing.{and-both, same-equal, same-self, among-append}
 use Rattle.grade.specs.Book.{distinct, keys}
 use Rattle.grade.specs.Encoding.{each, spellAll, textFits, setFits, sectionFits, sectionBytes}
 use Rattle.grade.specs.Limits.{bookLimit, sectionLimit, ruleLimit, setLimit, keyLimit, codeCountLimit}
@@ -24,9 +24,8 @@ use Rattle.booktext.specs.Standing.{sound, ready}
 use Rattle.booktext.specs.declared.told.Told.{Told}
 use Rattle.booktext.proofs.Sounding.{sounds}
 use Rattle.booktext.proofs.Each.{each-body}
-use Rattle.booktext.proofs.Setting.{held-fit}
+use Rattle.booktext.proofs.Fitting.{held-fit}
 use Rattle.booktext.proofs.Ruling.{rule-fits}
-use Rattle.booktext.proofs.Preceding.{among-append}
 use Rattle.booktext.proofs.Settling.{kind-few, settled-ready}
 use Rattle.booktext.proofs.Including.{plainly, expand-ready}
 

@@ -15,6 +15,8 @@ pub mod Each
 pub mod Sounding
 pub mod Ruling
 pub mod Settling
+pub mod Fitting
+pub mod Spelling
 pub mod Setting
 pub mod Including
 pub mod Forming

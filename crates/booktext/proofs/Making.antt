@@ -29,7 +29,8 @@ use Rattle.booktext.proofs.Each.{each-body}
 use Rattle.booktext.proofs.Sounding.{sounds}
 use Rattle.booktext.proofs.Changing.{settled-few}
 use Rattle.booktext.proofs.Settling.{settled-ready}
-use Rattle.booktext.proofs.Setting.{fits-short, puts-refused}
+use Rattle.booktext.proofs.Fitting.{fits-short}
+use Rattle.booktext.proofs.Setting.{puts-refused}
 use Rattle.booktext.proofs.Including.{plainly, statements-plain, expand-ready}
 
 -- ---- rows, one after the other

@@ -11,19 +11,119 @@ use lib.Seq.{take-suc}
 use borrow.Author.Tests.{leb-true, eqb-true, eqb-false, eq-eqb, ne-eqb, not-true, not-false}
 use Rattle.hl7.specs.Bytes.{isIn, same, among}
 use Rattle.hl7.specs.declared.cut.Span.{Span}
-use Rattle.hl7.proofs.Comparing.{from-step, from-done, and-both, or-neither, same-equal}
+use Rattle.hl7.proofs.Comparing.{from-step, from-done, and-both, or-neither, same-equal, among-append}
 use Rattle.grade.specs.Encoding.{each}
 use Rattle.booktext.specs.Lines.{Statement, statements, word, verb, says, ofRule, ofPlace, ofCodes, makesRule, lineOf, aSet, aCode, aRule, aDrop, aMore, aLess}
 use Rattle.booktext.specs.Meaning.{from}
 use Rattle.booktext.specs.Changes.{spotOf, saysOf, amended, dropped, settledAs, settled, namesCode, lessened, kept, addedBy, added}
 use Rattle.booktext.specs.Contents.{listed, codesAt, codesOf, held}
 use Rattle.booktext.specs.Faults.{tell, nothing}
-use Rattle.booktext.specs.Refusals.{there, rulesIt, stands, hasCode, codeAsked, ruleFault, firstRuleFault}
-use Rattle.booktext.specs.Standing.{wordsFrom, spanBytes, NextWord, statementAt, nextLine, left, bodyFrom, Finds, lineIn, noted, markOf, Marks}
+use Rattle.booktext.specs.Refusals.{spotsOf, stands, hasCode, codeAsked, ruleFault, firstRuleFault}
+use Rattle.booktext.specs.Standing.{wordsFrom, spanBytes, NextWord, statementAt, nextLine, left, bodyFrom, Finds, lineIn, noted, markOf, rulesIt, Marks}
 use Rattle.booktext.specs.declared.told.Told.{Told}
 use Rattle.booktext.proofs.Stating.{onward, onward-none, onward-some, onward-step}
 use Rattle.booktext.proofs.Marking.{noted-verb, noted-at, noted-other, mark-verb, mark-spot, mark-says, marks-at, marks-before, marks-step, marks-over}
 use Rattle.booktext.proofs.Changing.{amend-rule, amend-spot, amended-as}
+
+-- ---- what stands after some statements, one by one
+-- whether something is there after some statements: the last that puts it there or takes it away decides, else what was so before them
+unfoldable pub there : (puts takes : Statement → Bool) → Bool → List Statement → Bool
+there puts takes so [] = so
+there puts takes so (x ∷ ss) = there puts takes (puts x || (not (takes x) && so)) ss
+
+-- something is there after some statements if it was so before them and none took it away, or if it is one of those that were put there and left
+module _ (puts takes : Statement → Bool) (taken rest : List Statement → Bool)
+    (taken-none : taken [] ≡ false) (taken-more : (x : Statement) (ss : List Statement) → taken (x ∷ ss) ≡ (takes x || taken ss))
+    (rest-none : rest [] ≡ false) (rest-more : (x : Statement) (ss : List Statement) → rest (x ∷ ss) ≡ ((puts x && not (taken ss)) || rest ss)) where
+  there-is : (so : Bool) (ss : List Statement) → there puts takes so ss ≡ ((so && not (taken ss)) || rest ss)
+  unfolding there
+  there-is so [] = sym (ap₂ (λ (a b : Bool). (so && not a) || b) taken-none rest-none ∙ or-false (so && true) ∙ and-true so)
+  there-is so (x ∷ ss) =
+      there-is (puts x || (not (takes x) && so)) ss
+      ∙ by (puts x) (takes x) so (taken ss) (rest ss)
+      ∙ sym (ap₂ (λ (a b : Bool). (so && not a) || b) (taken-more x ss) (rest-more x ss))
+    where
+      by : (p k so gone later : Bool) → (((p || (not k && so)) && not gone) || later) ≡ ((so && not (k || gone)) || ((p && not gone) || later))
+      by true k false gone later = refl
+      by true true true gone later = refl
+      by true false true true later = refl
+      by true false true false later = refl
+      by false true true gone later = refl
+      by false true false gone later = refl
+      by false false so gone later = refl
+
+module _ (spot : ℕ) where
+  abbrev standing : List Statement → Bool
+  standing ss = isIn spot (spotsOf ss)
+
+  standing-append : (ss more : List Statement) → standing (ss ++ more) ≡ (standing ss || standing more)
+  unfolding spotsOf isIn
+  standing-append [] more = refl
+  standing-append (s ∷ ss) more = by (makesRule s) (eqb spot (spotOf s)) (standing-append ss more)
+    where
+      by : (a b : Bool) → standing (ss ++ more) ≡ (standing ss || standing more) → isIn spot (cond a (spotOf s ∷ spotsOf (ss ++ more)) (spotsOf (ss ++ more))) ≡ (isIn spot (cond a (spotOf s ∷ spotsOf ss) (spotsOf ss)) || standing more)
+      by true b ih = ap (λ (x : Bool). eqb spot (spotOf s) || x) ih ∙ sym (or-assoc (eqb spot (spotOf s)) (standing ss) (standing more))
+      by false b ih = ih
+
+  standing-one : (s : Statement) (ss : List Statement) → standing (settledAs s ss) ≡ (rulesIt spot s && not (dropped spot ss))
+  unfolding settledAs spotsOf isIn
+  standing-one s ss = by (makesRule s) (dropped (spotOf s) ss) (eqb (spotOf s) spot) refl refl refl
+    where
+      amended-one : makesRule s ≡ true → standing (amended (spotOf s) s ss ∷ []) ≡ (eqb spot (spotOf s) || false)
+      amended-one e =
+          ap₂ (λ (b : Bool) (n : ℕ). isIn spot (cond b (n ∷ []) [])) (amended-as makesRule amend-rule (spotOf s) s ss ∙ e) (amended-as spotOf amend-spot (spotOf s) s ss)
+
+      by : (rule gone at : Bool) → makesRule s ≡ rule → dropped (spotOf s) ss ≡ gone → eqb (spotOf s) spot ≡ at → standing (cond rule (cond gone [] (amended (spotOf s) s ss ∷ [])) (s ∷ [])) ≡ (rule && at && not (dropped spot ss))
+      by false gone at e f g = ap (λ (b : Bool). isIn spot (cond b (spotOf s ∷ []) [])) e
+      by true true true e f g = sym (ap not (ap (λ (n : ℕ). dropped n ss) (sym (eqb-true (spotOf s) spot g)) ∙ f))
+      by true true false e f g = refl
+      by true false true e f g =
+          amended-one e
+          ∙ ap (λ (b : Bool). b || false) (eq-eqb spot (spotOf s) (sym (eqb-true (spotOf s) spot g)))
+          ∙ sym (ap not (ap (λ (n : ℕ). dropped n ss) (sym (eqb-true (spotOf s) spot g)) ∙ f))
+      by true false false e f g = amended-one e ∙ ap (λ (b : Bool). b || false) (ne-eqb spot (spotOf s) (λ q. eqb-false (spotOf s) spot g (sym q)))
+
+  standing-more : (s : Statement) (ss : List Statement) → standing (settled (s ∷ ss)) ≡ ((rulesIt spot s && not (dropped spot ss)) || standing (settled ss))
+  unfolding settled
+  standing-more s ss = standing-append (settledAs s ss) (settled ss) ∙ ap (λ (b : Bool). b || standing (settled ss)) (standing-one s ss)
+
+stands-there : (spot : ℕ) (ss : List Statement) → stands spot ss ≡ there (rulesIt spot) (saysOf aDrop spot) false ss
+unfolding stands dropped settled spotsOf isIn
+stands-there spot ss =
+    sym (there-is (rulesIt spot) (saysOf aDrop spot) (dropped spot) (λ (l : List Statement). isIn spot (spotsOf (settled l))) refl (λ x l. refl) refl (standing-more spot) false ss)
+
+-- those of some codes that no `less` takes
+among-kept : (name c : List ℕ) (ss : List Statement) (cs : List (List ℕ)) → among c (kept name ss cs) ≡ (among c cs && not (lessened name c ss))
+unfolding kept among
+among-kept name c ss [] = refl
+among-kept name c ss (d ∷ cs) = by (same c d) (lessened name d ss) refl refl (among-kept name c ss cs)
+  where
+    taken : same c d ≡ true → lessened name c ss ≡ lessened name d ss
+    taken e = ap (λ (w : List ℕ). lessened name w ss) (same-equal c d e)
+
+    by : (a b : Bool) → same c d ≡ a → lessened name d ss ≡ b → among c (kept name ss cs) ≡ (among c cs && not (lessened name c ss))
+        → among c (cond b (kept name ss cs) (d ∷ kept name ss cs)) ≡ ((a || among c cs) && not (lessened name c ss))
+    by true true f g ih = ih ∙ ap (λ (l : Bool). among c cs && not l) (taken f ∙ g) ∙ and-false (among c cs) ∙ sym (ap not (taken f ∙ g))
+    by true false f g ih = ap (λ (x : Bool). x || among c (kept name ss cs)) f ∙ sym (ap not (taken f ∙ g))
+    by false true f g ih = ih
+    by false false f g ih = ap (λ (x : Bool). x || among c (kept name ss cs)) f ∙ ih
+
+among-added : (name c : List ℕ) (x : Statement) (ss : List Statement) → among c (added name (x ∷ ss)) ≡ ((namesCode aMore name c x && not (lessened name c ss)) || among c (added name ss))
+unfolding added among
+among-added name c x ss =
+    among-append c (kept name ss (addedBy name x)) (added name ss)
+    ∙ ap (λ (b : Bool). b || among c (added name ss)) (among-kept name c ss (addedBy name x) ∙ ap (λ (b : Bool). b && not (lessened name c ss)) (by (says aMore x && same (word x 1) name)))
+  where
+    by : (b : Bool) → among c (cond b (drop 2 (x .words)) []) ≡ (b && among c (drop 2 (x .words)))
+    by true = refl
+    by false = refl
+
+has-there : (all ss : List Statement) (name c : List ℕ) → hasCode all ss name c ≡ there (namesCode aMore name c) (namesCode aLess name c) (among c (codesOf all name)) ss
+unfolding hasCode held lessened added among
+has-there all ss name c =
+    among-append c (kept name ss (codesOf all name)) (added name ss)
+    ∙ ap (λ (b : Bool). b || among c (added name ss)) (among-kept name c ss (codesOf all name))
+    ∙ sym (there-is (namesCode aMore name c) (namesCode aLess name c) (lessened name c) (λ (l : List Statement). among c (added name l)) refl (λ x l. refl) refl (among-added name c) (among c (codesOf all name)) ss)
 
 -- ---- rules
 -- what the mark of a statement tells of a rule of a place and kind
@@ -40,8 +140,7 @@ module _ (spot : ℕ) (marks : List ℕ) where
   Stands so i = (ss : List Statement) → Marks ss marks → stands spot ss ≡ there (rulesIt spot) (saysOf aDrop spot) so (drop i ss)
 
   pub stands-none : Stands false 0
-  unfolding stands
-  stands-none ss m = refl
+  stands-none ss m = stands-there spot ss
 
   module _ (so : Bool) (i : ℕ) (inv : Stands so i) where
     pub stands-more : i < length marks → (b : Bool) → ((s : Statement) → getD marks i 0 ≡ markOf s → b ≡ (rulesIt spot s || (not (saysOf aDrop spot s) && so))) → Stands b (i + 1)
@@ -57,15 +156,6 @@ module _ (spot : ℕ) (marks : List ℕ) where
     stands-over h ss m = sym (inv ss m ∙ ap (there (rulesIt spot) (saysOf aDrop spot) so) (marks-over ss marks i m h))
 
 -- ---- a code among words
-pub among-append : (c : List ℕ) (cs ds : List (List ℕ)) → among c (cs ++ ds) ≡ (among c cs || among c ds)
-unfolding among
-among-append c [] ds = refl
-among-append c (d ∷ cs) ds = by (same c d) (among-append c cs ds)
-  where
-    by : (b : Bool) → among c (cs ++ ds) ≡ (among c cs || among c ds) → (b || among c (cs ++ ds)) ≡ (b || among c cs || among c ds)
-    by true ih = refl
-    by false ih = ih
-
 module _ (t code : List ℕ) (i : ℕ) {all : Bool} (passed : all ≡ among code (wordsFrom t i)) {w : Span} (n : NextWord t i w) where
   pub word-none : w .end ≤ w .start → false ≡ all
   unfolding among
@@ -229,8 +319,7 @@ module _ (t name code cells : List ℕ) where
   Has so i = hasCode (statements t) (map (noted t) cells) name code ≡ there (namesCode aMore name code) (namesCode aLess name code) so (map (noted t) (drop i cells))
 
   pub has-none : {so : Bool} → so ≡ among code (codesOf (statements t) name) → Has so 0
-  unfolding hasCode
-  has-none e = ap (λ (x : Bool). there (namesCode aMore name code) (namesCode aLess name code) x (map (noted t) cells)) (sym e)
+  has-none e = has-there (statements t) (map (noted t) cells) name code ∙ ap (λ (x : Bool). there (namesCode aMore name code) (namesCode aLess name code) x (map (noted t) cells)) (sym e)
 
   module _ (so : Bool) (i : ℕ) (inv : Has so i) where
     pub has-more : i < length cells → {b : Bool} → b ≡ (namesCode aMore name code (noted t (getD cells i 0)) || (not (namesCode aLess name code (noted t (getD cells i 0))) && so)) → Has b (i + 1)
@@ -345,104 +434,3 @@ module _ (t cells : List ℕ) (head i : ℕ) where
         ∙ rw (eq-eqb n 0 none)
         (ap (λ (l : List Statement). firstRuleFault t (statements t) (lineOf t head) l (map (noted t) (drop (i + 1) cells)))
         (sym (map-append (noted t) (take i cells) (getD cells i 0 ∷ [])) ∙ ap (map (noted t)) (sym (ap (λ (m : ℕ). take m cells) (add-one i) ∙ take-suc cells i 0 h))))
-
--- ---- what the rows ask, in the words of what a section holds
--- something is there after some statements if it was so before them and none took it away, or if it is one of those that were put there and left
-module _ (puts takes : Statement → Bool) (taken rest : List Statement → Bool)
-    (taken-none : taken [] ≡ false) (taken-more : (x : Statement) (ss : List Statement) → taken (x ∷ ss) ≡ (takes x || taken ss))
-    (rest-none : rest [] ≡ false) (rest-more : (x : Statement) (ss : List Statement) → rest (x ∷ ss) ≡ ((puts x && not (taken ss)) || rest ss)) where
-  there-is : (so : Bool) (ss : List Statement) → there puts takes so ss ≡ ((so && not (taken ss)) || rest ss)
-  unfolding there
-  there-is so [] = sym (ap₂ (λ (a b : Bool). (so && not a) || b) taken-none rest-none ∙ or-false (so && true) ∙ and-true so)
-  there-is so (x ∷ ss) =
-      there-is (puts x || (not (takes x) && so)) ss
-      ∙ by (puts x) (takes x) so (taken ss) (rest ss)
-      ∙ sym (ap₂ (λ (a b : Bool). (so && not a) || b) (taken-more x ss) (rest-more x ss))
-    where
-      by : (p k so gone later : Bool) → (((p || (not k && so)) && not gone) || later) ≡ ((so && not (k || gone)) || ((p && not gone) || later))
-      by true k false gone later = refl
-      by true true true gone later = refl
-      by true false true true later = refl
-      by true false true false later = refl
-      by false true true gone later = refl
-      by false true false gone later = refl
-      by false false so gone later = refl
-
--- place and kind of the rules that statements make
-unfoldable pub spotsOf : List Statement → List ℕ
-spotsOf [] = []
-spotsOf (s ∷ ss) = cond (makesRule s) (spotOf s ∷ spotsOf ss) (spotsOf ss)
-
-module _ (spot : ℕ) where
-  abbrev standing : List Statement → Bool
-  standing ss = isIn spot (spotsOf ss)
-
-  standing-append : (ss more : List Statement) → standing (ss ++ more) ≡ (standing ss || standing more)
-  unfolding spotsOf isIn
-  standing-append [] more = refl
-  standing-append (s ∷ ss) more = by (makesRule s) (eqb spot (spotOf s)) (standing-append ss more)
-    where
-      by : (a b : Bool) → standing (ss ++ more) ≡ (standing ss || standing more) → isIn spot (cond a (spotOf s ∷ spotsOf (ss ++ more)) (spotsOf (ss ++ more))) ≡ (isIn spot (cond a (spotOf s ∷ spotsOf ss) (spotsOf ss)) || standing more)
-      by true b ih = ap (λ (x : Bool). eqb spot (spotOf s) || x) ih ∙ sym (or-assoc (eqb spot (spotOf s)) (standing ss) (standing more))
-      by false b ih = ih
-
-  standing-one : (s : Statement) (ss : List Statement) → standing (settledAs s ss) ≡ (rulesIt spot s && not (dropped spot ss))
-  unfolding settledAs spotsOf isIn
-  standing-one s ss = by (makesRule s) (dropped (spotOf s) ss) (eqb (spotOf s) spot) refl refl refl
-    where
-      amended-one : makesRule s ≡ true → standing (amended (spotOf s) s ss ∷ []) ≡ (eqb spot (spotOf s) || false)
-      amended-one e =
-          ap₂ (λ (b : Bool) (n : ℕ). isIn spot (cond b (n ∷ []) [])) (amended-as makesRule amend-rule (spotOf s) s ss ∙ e) (amended-as spotOf amend-spot (spotOf s) s ss)
-
-      by : (rule gone at : Bool) → makesRule s ≡ rule → dropped (spotOf s) ss ≡ gone → eqb (spotOf s) spot ≡ at → standing (cond rule (cond gone [] (amended (spotOf s) s ss ∷ [])) (s ∷ [])) ≡ (rule && at && not (dropped spot ss))
-      by false gone at e f g = ap (λ (b : Bool). isIn spot (cond b (spotOf s ∷ []) [])) e
-      by true true true e f g = sym (ap not (ap (λ (n : ℕ). dropped n ss) (sym (eqb-true (spotOf s) spot g)) ∙ f))
-      by true true false e f g = refl
-      by true false true e f g =
-          amended-one e
-          ∙ ap (λ (b : Bool). b || false) (eq-eqb spot (spotOf s) (sym (eqb-true (spotOf s) spot g)))
-          ∙ sym (ap not (ap (λ (n : ℕ). dropped n ss) (sym (eqb-true (spotOf s) spot g)) ∙ f))
-      by true false false e f g = amended-one e ∙ ap (λ (b : Bool). b || false) (ne-eqb spot (spotOf s) (λ q. eqb-false (spotOf s) spot g (sym q)))
-
-  standing-more : (s : Statement) (ss : List Statement) → standing (settled (s ∷ ss)) ≡ ((rulesIt spot s && not (dropped spot ss)) || standing (settled ss))
-  unfolding settled
-  standing-more s ss = standing-append (settledAs s ss) (settled ss) ∙ ap (λ (b : Bool). b || standing (settled ss)) (standing-one s ss)
-
--- a rule of a place and kind stands where one is among the rules that the statements leave
-pub stands-rules : (spot : ℕ) (ss : List Statement) → stands spot ss ≡ isIn spot (spotsOf (settled ss))
-unfolding stands dropped settled spotsOf isIn
-stands-rules spot ss =
-    there-is (rulesIt spot) (saysOf aDrop spot) (dropped spot) (λ (l : List Statement). isIn spot (spotsOf (settled l))) refl (λ x l. refl) refl (standing-more spot) false ss
-
--- those of some codes that no `less` takes
-among-kept : (name c : List ℕ) (ss : List Statement) (cs : List (List ℕ)) → among c (kept name ss cs) ≡ (among c cs && not (lessened name c ss))
-unfolding kept among
-among-kept name c ss [] = refl
-among-kept name c ss (d ∷ cs) = by (same c d) (lessened name d ss) refl refl (among-kept name c ss cs)
-  where
-    taken : same c d ≡ true → lessened name c ss ≡ lessened name d ss
-    taken e = ap (λ (w : List ℕ). lessened name w ss) (same-equal c d e)
-
-    by : (a b : Bool) → same c d ≡ a → lessened name d ss ≡ b → among c (kept name ss cs) ≡ (among c cs && not (lessened name c ss))
-        → among c (cond b (kept name ss cs) (d ∷ kept name ss cs)) ≡ ((a || among c cs) && not (lessened name c ss))
-    by true true f g ih = ih ∙ ap (λ (l : Bool). among c cs && not l) (taken f ∙ g) ∙ and-false (among c cs) ∙ sym (ap not (taken f ∙ g))
-    by true false f g ih = ap (λ (x : Bool). x || among c (kept name ss cs)) f ∙ sym (ap not (taken f ∙ g))
-    by false true f g ih = ih
-    by false false f g ih = ap (λ (x : Bool). x || among c (kept name ss cs)) f ∙ ih
-
-among-added : (name c : List ℕ) (x : Statement) (ss : List Statement) → among c (added name (x ∷ ss)) ≡ ((namesCode aMore name c x && not (lessened name c ss)) || among c (added name ss))
-unfolding added among
-among-added name c x ss =
-    among-append c (kept name ss (addedBy name x)) (added name ss)
-    ∙ ap (λ (b : Bool). b || among c (added name ss)) (among-kept name c ss (addedBy name x) ∙ ap (λ (b : Bool). b && not (lessened name c ss)) (by (says aMore x && same (word x 1) name)))
-  where
-    by : (b : Bool) → among c (cond b (drop 2 (x .words)) []) ≡ (b && among c (drop 2 (x .words)))
-    by true = refl
-    by false = refl
-
--- a set has a code where it is one of those that it holds
-pub has-held : (all ss : List Statement) (name c : List ℕ) → hasCode all ss name c ≡ among c (held all ss name)
-unfolding hasCode held lessened added among
-has-held all ss name c =
-    there-is (namesCode aMore name c) (namesCode aLess name c) (lessened name c) (λ (l : List Statement). among c (added name l)) refl (λ x l. refl) refl (among-added name c) (among c (codesOf all name)) ss
-    ∙ sym (among-append c (kept name ss (codesOf all name)) (added name ss) ∙ ap (λ (b : Bool). b || among c (added name ss)) (among-kept name c ss (codesOf all name)))

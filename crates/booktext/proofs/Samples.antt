@@ -18,7 +18,7 @@ use Rattle.booktext.specs.Meaning.{body, from, taken, expand}
 use Rattle.booktext.specs.Changes.{spotOf, amended, dropped, settledAs, settled, lessened, kept, added}
 use Rattle.booktext.specs.Contents.{made, rulesOf, pinned, named, withNames, namesOf, listed, codesOf, held, contentsOf, sectionsIn, meaning}
 use Rattle.booktext.specs.Faults.{codesRight, faultOf, firstFault}
-use Rattle.booktext.specs.Refusals.{lacks, nameFault, firstNameFault, usedTwice, there, stands, hasCode, ruleFault, firstRuleFault, firstStray, firstBadSet, sectionTold, sectionsTold, refusal, compiled}
+use Rattle.booktext.specs.Refusals.{lacks, nameFault, firstNameFault, usedTwice, spotsOf, stands, hasCode, ruleFault, firstRuleFault, firstStray, firstBadSet, sectionTold, sectionsTold, refusal, compiled}
 use Rattle.booktext.specs.declared.told.Told.{Told}
 
 -- a text makes these bytes; or it is refused, with a line and a section's line
@@ -112,5 +112,5 @@ samples =
     ∷ []
 
 samples-right : allRight samples ≡ true
-unfolding samples allRight right is sectionA sectionBB changedA changedB isIn all same among ahead cut valueAfter occurrences segmentNames nameBytes nameFrom nameOfLetters placeFits severityOf kindOf bookBytes lineOf cutAt filled wordsIn unlessSilent statementsFrom statements numberFrom verbs verbOf isNumber numberIn placeIn isPlace isSeverityWord kindNames kindNumber boundFits body from taken expand made rulesOf pinned named withNames namesOf listed codesOf spotOf amended dropped settledAs settled lessened kept added held contentsOf sectionsIn meaning codesRight faultOf firstFault lacks nameFault firstNameFault usedTwice there stands hasCode ruleFault firstRuleFault firstStray firstBadSet sectionTold sectionsTold refusal compiled
+unfolding samples allRight right is sectionA sectionBB changedA changedB isIn all same among ahead cut valueAfter occurrences segmentNames nameBytes nameFrom nameOfLetters placeFits severityOf kindOf bookBytes lineOf cutAt filled wordsIn unlessSilent statementsFrom statements numberFrom verbs verbOf isNumber numberIn placeIn isPlace isSeverityWord kindNames kindNumber boundFits body from taken expand made rulesOf pinned named withNames namesOf listed codesOf spotOf amended dropped settledAs settled lessened kept added held contentsOf sectionsIn meaning codesRight faultOf firstFault lacks nameFault firstNameFault usedTwice spotsOf stands hasCode ruleFault firstRuleFault firstStray firstBadSet sectionTold sectionsTold refusal compiled
 samples-right = refl

@@ -4,16 +4,16 @@ use mathlib.Core.Bool.{Bool, true, false, cond, not, _&&_, _||_}
 use mathlib.Core.List.{List, [], _∷_, _++_}
 use lib.Dec.{eqb, leb, ltb}
 use lib.ListN.{length, drop}
-use Rattle.hl7.specs.Bytes.{within, among}
+use Rattle.hl7.specs.Bytes.{within, isIn, among}
 use Rattle.hl7.specs.Cut.{partAt}
 use Rattle.grade.specs.Book.{Contents}
 use Rattle.grade.specs.Encoding.{each, sectionBytes, bookBytes}
 use Rattle.grade.specs.Limits.{bookLimit, sectionLimit, ruleLimit, setLimit, codeCountLimit}
-use Rattle.booktext.specs.Lines.{Statement, word, verb, says, makesRule, ofPlace, ofCodes, statements, lineOf, textLimit, lineFeed, cutAt, aSet, aCommon, aSection, aUse, someSets, aRule, aBound, aDrop, aMore, aLess}
+use Rattle.booktext.specs.Lines.{Statement, word, verb, says, makesRule, ofPlace, ofCodes, statements, lineOf, textLimit, lineFeed, cutAt, aSet, aCommon, aSection, aUse, someSets, aRule, aBound, aLess}
 use Rattle.booktext.specs.Words.{kindNumber, aCodeKind}
 use Rattle.booktext.specs.Meaning.{body, from, expand}
-use Rattle.booktext.specs.Changes.{spotOf, saysOf, namesCode, settled}
-use Rattle.booktext.specs.Contents.{namesOf, codesOf, held, sectionOf, meaning}
+use Rattle.booktext.specs.Changes.{spotOf, settled}
+use Rattle.booktext.specs.Contents.{namesOf, held, sectionOf, meaning}
 use Rattle.booktext.specs.Faults.{tell, nothing, firstly, beforeBound, firstFault}
 use Rattle.booktext.specs.declared.told.Told.{Told}
 
@@ -96,21 +96,18 @@ statementLimit = 2048
 
 -- ---- rows 47 to 49: what stands before a statement
 
--- whether something is there after some statements: the last that puts it there or takes it away decides, else what was so before them
-unfoldable pub there : (puts takes : Statement → Bool) → Bool → List Statement → Bool
-there puts takes so [] = so
-there puts takes so (x ∷ ss) = there puts takes (puts x || (not (takes x) && so)) ss
+-- place and kind of the rules that statements make
+unfoldable pub spotsOf : List Statement → List ℕ
+spotsOf [] = []
+spotsOf (s ∷ ss) = cond (makesRule s) (spotOf s ∷ spotsOf ss) (spotsOf ss)
 
--- a rule of a place and kind
-abbrev pub rulesIt : ℕ → Statement → Bool
-rulesIt spot x = makesRule x && eqb (spotOf x) spot
-
+-- one of the rules that the statements before leave has this place and kind
 unfoldable pub stands : ℕ → List Statement → Bool
-stands spot before = there (rulesIt spot) (saysOf aDrop spot) false before
+stands spot before = isIn spot (spotsOf (settled before))
 
--- the set with a name has a code
+-- the set with a name has a code, as they leave it
 unfoldable pub hasCode : List Statement → List Statement → List ℕ → List ℕ → Bool
-hasCode all before name c = there (namesCode aMore name c) (namesCode aLess name c) (among c (codesOf all name)) before
+hasCode all before name c = among c (held all before name)
 
 -- `less` asks that a code is there, `more` that it is not
 abbrev pub codeAsked : List Statement → List Statement → Statement → List ℕ → Bool

@@ -144,6 +144,10 @@ noted t cell = boundBy t (boundIn cell) (statementAt t (lineIn cell) (cell % 256
 abbrev pub markOf : Statement → ℕ
 markOf s = spotOf s * 16 + verb s
 
+-- it makes a rule of a place and kind
+abbrev pub rulesIt : ℕ → Statement → Bool
+rulesIt spot x = makesRule x && eqb (spotOf x) spot
+
 -- so many cells hold the statements, or there are too many of them
 pub record Holds (t cells : List ℕ) (count : ℕ) (ss : List Statement) : Type 0 where
   pub exact : count ≤ statementLimit → map (noted t) (take count cells) ≡ ss

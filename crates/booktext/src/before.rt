@@ -38,8 +38,8 @@ ghost use Rattle.grade.specs.Encoding.{each};
 ghost use Rattle.booktext.specs.Lines.{Statement, statements, word, lineOf, says, aRule, aDrop, aMore, aLess};
 ghost use Rattle.booktext.specs.Changes.{saysOf, namesCode};
 ghost use Rattle.booktext.specs.Contents.{listed, codesOf};
-ghost use Rattle.booktext.specs.Refusals.{rulesIt, stands, hasCode, codeAsked, ruleFault, firstRuleFault};
-ghost use Rattle.booktext.specs.Standing.{wordsFrom, statementAt, bodyFrom, Heads, noted, markOf, Marks};
+ghost use Rattle.booktext.specs.Refusals.{stands, hasCode, codeAsked, ruleFault, firstRuleFault};
+ghost use Rattle.booktext.specs.Standing.{wordsFrom, statementAt, bodyFrom, Heads, noted, markOf, Marks, rulesIt};
 
 // ---- rules
 // Whether a rule of this place and kind stands after the statement with a mark, where one stood or did not before.

@@ -7,22 +7,15 @@ use lib.Dec.{eqb}
 use lib.ListN.{length, getD}
 use borrow.Author.Tests.{not-true}
 use Rattle.hl7.specs.Bytes.{within, same, among}
-use Rattle.hl7.proofs.Comparing.{and-both, or-neither, same-self, same-equal}
+use Rattle.hl7.proofs.Comparing.{and-both, or-neither, same-self, same-equal, among-append}
 use Rattle.grade.specs.Book.{distinct}
 use Rattle.grade.specs.Encoding.{each}
 use Rattle.ack.specs.Layout.{joined}
 use Rattle.booktext.specs.Lines.{Statement, verbOf, aBook, aSection, aUse}
 use Rattle.booktext.specs.Meaning.{body, from, taken, expand}
 use Rattle.booktext.specs.Contents.{sectionsIn, withNames}
-use Rattle.booktext.proofs.Preceding.{among-append}
 use Rattle.canonical.specs.Shown.{printed}
 use Rattle.canonical.proofs.Printing.{placed, placed-append}
-
--- ---- tests that every one passes
-module _ {A : Type 0} (test : A → Bool) where
-  pub each-append : (xs ys : List A) → each test xs ≡ true → each test ys ≡ true → each test (xs ++ ys) ≡ true
-  each-append [] ys e f = f
-  each-append (x ∷ xs) ys e f = let both = and-both (test x) (each test xs) e in ap₂ _&&_ (both .0) (each-append xs ys (both .1) f)
 
 -- ---- texts that differ pairwise
 pub same-turned : (v w : List ℕ) → same v w ≡ false → same w v ≡ false

@@ -17,8 +17,9 @@ use Rattle.grade.specs.Rule.{placeFits, timeDigits, kindFits, ruleFits}
 use Rattle.grade.specs.declared.rule.Kind.{Kind}
 use Rattle.grade.specs.declared.rule.Rule.{Rule}
 use Rattle.booktext.specs.Lines.{numberFrom, verbs, verbOf, aSet, aCode, someSets, aRule, anAlso}
+use Rattle.booktext.proofs.Each.{each-join}
 use Rattle.canonical.specs.Shown.{setName, codeLine, setLines, pinLines, ruleSpot, ruleVerb, ruleLines, bookLines}
-use Rattle.canonical.proofs.Paging.{each-append, lineVerb, verbsPass}
+use Rattle.canonical.proofs.Paging.{lineVerb, verbsPass}
 
 -- ---- what can be shown
 -- LENGTH's high number is one that a text can say, as it is a byte in a book
@@ -158,7 +159,7 @@ module _ (test : ℕ → Bool) where
 
   pub page-verbs : (c : Contents) → test someSets ≡ true → test aRule ≡ true → test anAlso ≡ true → verbsPass test (pageLines c) ≡ true
   unfolding verbOf verbs numberFrom same
-  page-verbs c s r a = each-append (λ (ws : List (List ℕ)). test (lineVerb ws)) (pinLines (c .key) (c .sets)) (ruleLines (c .key) [] (c .rules)) (pins (c .sets)) (rule-verbs (c .key) [] (c .rules) r a)
+  page-verbs c s r a = each-join (λ (ws : List (List ℕ)). test (lineVerb ws)) (pinLines (c .key) (c .sets)) (ruleLines (c .key) [] (c .rules)) (pins (c .sets)) (rule-verbs (c .key) [] (c .rules) r a)
     where
       pins : (sets : List (List (List ℕ))) → verbsPass test (pinLines (c .key) sets) ≡ true
       pins [] = refl
@@ -173,4 +174,4 @@ module _ (test : ℕ → Bool) where
   unfolding setLines verbOf verbs numberFrom same
   set-verbs key n [] s k = refl
   set-verbs key n (codes ∷ sets) s k =
-      ap₂ _&&_ s (each-append (λ (ws : List (List ℕ)). test (lineVerb ws)) (map codeLine codes) (setLines key (suc n) sets) (code-verbs codes k) (set-verbs key (suc n) sets s k))
+      ap₂ _&&_ s (each-join (λ (ws : List (List ℕ)). test (lineVerb ws)) (map codeLine codes) (setLines key (suc n) sets) (code-verbs codes k) (set-verbs key (suc n) sets s k))

@@ -7,13 +7,12 @@ use native.Mathlib.Omega.{arith}
 use lib.ListN.{length}
 use borrow.Author.Tests.{not-true}
 use Rattle.hl7.specs.Bytes.{all, same, among}
-use Rattle.hl7.proofs.Comparing.{and-both, or-neither}
+use Rattle.hl7.proofs.Comparing.{and-both, or-neither, among-append}
 use Rattle.grade.specs.Book.{Contents, distinct, keys}
 use Rattle.grade.specs.Encoding.{each, wellFormed}
 use Rattle.booktext.specs.Lines.{Statement, numberFrom, verbs, verbOf, aSet, aSection, aUse, statements}
 use Rattle.booktext.specs.Meaning.{body, from, expand}
 use Rattle.booktext.specs.Contents.{listed, codesAt, codesOf, contentsOf, sectionsIn, meaning}
-use Rattle.booktext.proofs.Preceding.{among-append}
 use Rattle.canonical.specs.Shown.{printed, setName, codeLine, setLines, setNames, sectionLines, bookLines, shown}
 use Rattle.canonical.proofs.Printing.{placed, statements-printed, placed-append}
 use Rattle.canonical.proofs.ReadBack.{other-key}

@@ -11,7 +11,7 @@ use lib.ListN.{length, getD, length-map}
 use borrow.Author.Tests.{eq-eqb, ne-eqb, not-true, lt-leb}
 use Rattle.hl7.specs.Text.{bytes}
 use Rattle.hl7.specs.Bytes.{within, isIn, same, among}
-use Rattle.hl7.proofs.Comparing.{and-both}
+use Rattle.hl7.proofs.Comparing.{and-both, among-append}
 use Rattle.grade.specs.Book.{Contents, distinct, keys}
 use Rattle.grade.specs.Encoding.{each}
 use Rattle.grade.specs.Limits.{sectionLimit}
@@ -23,11 +23,11 @@ use Rattle.booktext.specs.Words.{kindNumber, aCodeKind}
 use Rattle.booktext.specs.Meaning.{from}
 use Rattle.booktext.specs.Faults.{nothing}
 use Rattle.booktext.specs.Refusals.{atOf, isThere, isSet, lacks, nameFault, firstNameFault}
-use Rattle.booktext.proofs.Preceding.{among-append}
+use Rattle.booktext.proofs.Each.{each-join}
 use Rattle.canonical.specs.Shown.{printed, setName, codeLine, setLines, setNames, pinLines, placeWord, kindWord, boundWords, ruleSpot, ruleLines, sectionLines, bookLines}
 use Rattle.canonical.proofs.Printing.{placed, printed-line, printed-append}
 use Rattle.canonical.proofs.ReadBack.{kind-back}
-use Rattle.canonical.proofs.Paging.{each-append, same-turned, lineVerb, verbsPass, isNot, lineAt, nextAt, namesAt, names-at-append, names-at-none, from-there}
+use Rattle.canonical.proofs.Paging.{same-turned, lineVerb, verbsPass, isNot, lineAt, nextAt, namesAt, names-at-append, names-at-none, from-there}
 use Rattle.canonical.proofs.Showable.{isShown, AllFit, Formed, shown-kind, within-bounds, Lines, sectionLine, allLines, pageLines, page-verbs, set-verbs}
 use Rattle.canonical.proofs.Showing.{name-among}
 use Rattle.canonical.proofs.ShownMeans.{sets, after, book-parted, sets-differ, allNames, book-named}
@@ -99,7 +99,7 @@ module _ (all : List Statement) where
   set-known : (key : List ℕ) (n : ℕ) (sets : List (List (List ℕ))) → each (names all) (setLines key n sets) ≡ true
   unfolding setLines lacks verbOf verbs numberFrom same
   set-known key n [] = refl
-  set-known key n (codes ∷ sets) = each-append (names all) (map codeLine codes) (setLines key (suc n) sets) (code-known codes) (set-known key (suc n) sets)
+  set-known key n (codes ∷ sets) = each-join (names all) (map codeLine codes) (setLines key (suc n) sets) (code-known codes) (set-known key (suc n) sets)
     where
       code-known : (codes : List (List ℕ)) → each (names all) (map codeLine codes) ≡ true
       code-known [] = refl
@@ -154,10 +154,10 @@ module _ (all : List Statement) where
       let others : (x : List ℕ) → among x (allNames cs) ≡ true → isSet all x ≡ true =
       λ x e. there x (among-append x own (allNames cs) ∙ ap (λ (b : Bool). among x own || b) e ∙ or-true (among x own)) in
       ap (each (names all)) (book-parted c cs)
-      ∙ each-append (names all) (sets c cs) (sectionLine (c .key) ∷ after c cs) (set-known (c .key) 1 (c .sets))
+      ∙ each-join (names all) (sets c cs) (sectionLine (c .key) ∷ after c cs) (set-known (c .key) 1 (c .sets))
       (section-known (c .key) (after c cs)
-      (each-append (names all) (pageLines c) (bookLines cs)
-      (each-append (names all) (pinLines (c .key) (c .sets)) (ruleLines (c .key) [] (c .rules)) (pin-known (c .key) (c .sets) mine) (rule-known (c .key) (c .sets) mine [] (c .rules) (f .0 .rules)))
+      (each-join (names all) (pageLines c) (bookLines cs)
+      (each-join (names all) (pinLines (c .key) (c .sets)) (ruleLines (c .key) [] (c .rules)) (pin-known (c .key) (c .sets) mine) (rule-known (c .key) (c .sets) mine [] (c .rules) (f .0 .rules)))
       (book-known cs (f .1) others)))
 
 -- ---- the names of a book's heads differ
@@ -166,8 +166,8 @@ unfolding bookLines sectionLines verbOf verbs numberFrom same
 book-verbs test [] s k h p r a = refl
 book-verbs test (c ∷ cs) s k h p r a =
     let passes : List (List ℕ) → Bool = λ ws. test (lineVerb ws) in
-    each-append passes (sectionLines c) (bookLines cs)
-    (each-append passes (sets c cs) (sectionLine (c .key) ∷ pageLines c) (set-verbs test (c .key) 1 (c .sets) s k) (ap₂ _&&_ h (page-verbs test c p r a)))
+    each-join passes (sectionLines c) (bookLines cs)
+    (each-join passes (sets c cs) (sectionLine (c .key) ∷ pageLines c) (set-verbs test (c .key) 1 (c .sets) s k) (ap₂ _&&_ h (page-verbs test c p r a)))
     (book-verbs test cs s k h p r a)
 
 section-keys : (cs : List Contents) → namesAt aSection (bookLines cs) ≡ keys cs

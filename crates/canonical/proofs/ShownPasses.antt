@@ -19,13 +19,13 @@ use Rattle.booktext.specs.Lines.{Statement, textLimit, numberFrom, verbs, verbO
 use Rattle.booktext.specs.Changes.{spotOf, settled}
 use Rattle.booktext.specs.Contents.{namesOf, held}
 use Rattle.booktext.specs.Faults.{nothing, firstly, firstFault}
-use Rattle.booktext.specs.Refusals.{firstNameFault, usedTwice, statementLimit, stands, ruleFault, firstRuleFault, firstBadSet, over, sizesTold, sectionTold, sectionsTold, beginning, refusal}
+use Rattle.booktext.specs.Refusals.{firstNameFault, usedTwice, statementLimit, spotsOf, stands, ruleFault, firstRuleFault, firstBadSet, over, sizesTold, sectionTold, sectionsTold, beginning, refusal}
 use Rattle.canonical.specs.Shown.{printed, setNames, pinLines, ruleSpot, ruleLine, ruleLines, sectionLines, bookLines, shown}
 use Rattle.booktext.specs.declared.told.Told.{Told}
-use Rattle.booktext.proofs.Preceding.{spotsOf}
+use Rattle.booktext.proofs.Each.{each-join}
 use Rattle.canonical.proofs.Printing.{placed, placed-append}
 use Rattle.canonical.proofs.ReadBack.{place-back, kind-back}
-use Rattle.canonical.proofs.Paging.{each-append, lineVerb, verbsPass, isNot, lineAt, nextAt, namesAt}
+use Rattle.canonical.proofs.Paging.{lineVerb, verbsPass, isNot, lineAt, nextAt, namesAt}
 use Rattle.canonical.proofs.Showable.{highFits, isShown, Fits, AllFit, Formed, formed, shown-place, Lines, sectionLine, bookLine, allLines, pageLines, rule-verb, page-verbs, set-verbs}
 use Rattle.canonical.proofs.Showing.{makes-rule, page-names}
 use Rattle.canonical.proofs.ShownPlain.{plainVerb, isPlain, settled-plain, stands-plain, stray-plain, sets-plain, page-plain}
@@ -96,7 +96,7 @@ module _ (key : List ℕ) (sets : ℕ) (t : List ℕ) (all : List Statement) (li
       let right = verb-right all before at (isIn (ruleSpot r) spots) (drop 1 (ruleLine key spots r)) stood in
       rw right
       (rules-stand (before ++ (s ∷ [])) (spots ++ (ruleSpot r ∷ [])) (nextAt at (ruleLine key spots r)) rules
-      (each-append isPlain before (s ∷ []) plain (ap₂ _&&_ (rule-verb plainVerb spots r refl refl) refl))
+      (each-join isPlain before (s ∷ []) plain (ap₂ _&&_ (rule-verb plainVerb spots r refl refl) refl))
       (spots-append before (s ∷ []) ∙ ap₂ _++_ noted (spots-back at spots r (both .0)))
       (both .1))
 

@@ -14,8 +14,7 @@ use Rattle.booktext.specs.Lines.{Statement, verb, says, makesRule, anAlso, aSev
 use Rattle.booktext.specs.Changes.{spotOf, amend, amended, dropped, settledAs, settled, lessened, kept, added}
 use Rattle.booktext.specs.Contents.{rulesOf, namesOf, codesOf, held, contentsOf}
 use Rattle.booktext.specs.Faults.{nothing}
-use Rattle.booktext.specs.Refusals.{stands, firstStray}
-use Rattle.booktext.proofs.Preceding.{spotsOf, stands-rules}
+use Rattle.booktext.specs.Refusals.{spotsOf, stands, firstStray}
 use Rattle.canonical.proofs.Printing.{placed}
 use Rattle.canonical.proofs.Paging.{lineVerb, verbsPass, nextAt}
 use Rattle.canonical.proofs.Showable.{Lines, pageLines, page-verbs}
@@ -63,7 +62,8 @@ settled-plain (s ∷ ss) e =
 
 -- a rule of a place and kind stands where one of them makes it
 pub stands-plain : (spot : ℕ) (ss : List Statement) → each isPlain ss ≡ true → stands spot ss ≡ isIn spot (spotsOf ss)
-stands-plain spot ss e = stands-rules spot ss ∙ ap (λ (l : List Statement). isIn spot (spotsOf l)) (settled-plain ss e)
+unfolding stands
+stands-plain spot ss e = ap (λ (l : List Statement). isIn spot (spotsOf l)) (settled-plain ss e)
 
 -- ---- codes
 lessened-plain : (name c : List ℕ) (ss : List Statement) → each isPlain ss ≡ true → lessened name c ss ≡ false

@@ -15,10 +15,10 @@ use Rattle.grade.specs.Limits.{keyLimit, codeLimit, codeCountLimit, setLimit}
 use Rattle.grade.specs.Rule.{severityLetter, kindFits}
 use Rattle.grade.specs.declared.rule.Kind.{Kind}
 use Rattle.grade.specs.declared.rule.Rule.{Rule}
+use Rattle.booktext.proofs.Each.{each-join}
 use Rattle.canonical.specs.Shown.{setName, codeLine, setLines, setNames, pinLines, placeWord, kindWord, boundWords, ruleSpot, ruleVerb, ruleLines, sectionLines, bookLines}
 use Rattle.canonical.proofs.Printing.{isWord, areWords}
 use Rattle.canonical.proofs.ReadBack.{text-word, number-word, place-word, kind-word, severity-word, name-word}
-use Rattle.canonical.proofs.Paging.{each-append}
 use Rattle.canonical.proofs.Showable.{highSaid, isShown, Fits, AllFit, shown-place, shown-kind, shown-high, within-bounds, length-bounds, time-bound, sectionLine, allLines, pageLines}
 
 line-words : (w : List ℕ) (ws : List (List ℕ)) → isWord w ≡ true → each isWord ws ≡ true → areWords (w ∷ ws) ≡ true
@@ -40,7 +40,7 @@ module _ (key : List ℕ) (fits : textFits keyLimit key ≡ true) where
       let right = and-both (within 1 codeCountLimit (length codes)) (each (textFits codeLimit) codes) (both .0) in
       ap₂ _&&_
       (line-words (bytes "set") (setName key n ∷ []) refl (ap₂ _&&_ (name-word keyLimit key n fits (omega arith)) refl))
-      (each-append areWords (map codeLine codes) (setLines key (suc n) sets) (code-words codes (right .1)) (set-words (suc n) sets (omega arith) (both .1)))
+      (each-join areWords (map codeLine codes) (setLines key (suc n) sets) (code-words codes (right .1)) (set-words (suc n) sets (omega arith) (both .1)))
 
   name-words : (n : ℕ) (sets : List (List (List ℕ))) → n + length sets ≤ 256 → each isWord (setNames key n sets) ≡ true
   unfolding setNames
@@ -81,11 +81,11 @@ section-words : (c : Contents) → Fits c → each areWords (sectionLines c) ≡
 unfolding sectionLines all
 section-words c f =
     let few = f .fewSets in
-    each-append areWords (setLines (c .key) 1 (c .sets)) (sectionLine (c .key) ∷ pageLines c) (set-words (c .key) (f .key) 1 (c .sets) (omega arith) (f .sets))
+    each-join areWords (setLines (c .key) 1 (c .sets)) (sectionLine (c .key) ∷ pageLines c) (set-words (c .key) (f .key) 1 (c .sets) (omega arith) (f .sets))
     (ap₂ _&&_ (line-words (bytes "section") (c .key ∷ []) refl (ap₂ _&&_ (text-word keyLimit (c .key) (f .key)) refl))
-    (each-append areWords (pinLines (c .key) (c .sets)) (ruleLines (c .key) [] (c .rules)) (pin-words (c .key) (f .key) (c .sets) few) (rule-words (c .key) (f .key) (length (c .sets)) few [] (c .rules) (f .rules))))
+    (each-join areWords (pinLines (c .key) (c .sets)) (ruleLines (c .key) [] (c .rules)) (pin-words (c .key) (f .key) (c .sets) few) (rule-words (c .key) (f .key) (length (c .sets)) few [] (c .rules) (f .rules))))
 
 pub book-words : (cs : List Contents) → AllFit cs → each areWords (allLines cs) ≡ true
 unfolding bookLines all
 book-words [] f = refl
-book-words (c ∷ cs) f = each-append areWords (sectionLines c) (bookLines cs) (section-words c (f .0)) (book-words cs (f .1))
+book-words (c ∷ cs) f = each-join areWords (sectionLines c) (bookLines cs) (section-words c (f .0)) (book-words cs (f .1))

@@ -1,11 +1,11 @@
--- Laws of the codes of a rule's set: where they stand, whether one is among them, and how they are written. Assumes nothing.
+-- Laws of the codes of a rule's set: where they stand, whether all are among others, and how they are written. Assumes nothing.
 use mathlib.Core.Path.{_≡_, refl, sym, ap, _∙_}
 use mathlib.Core.Bool.{Bool, true, false, cond, not, _&&_, and-true, and-assoc}
 use mathlib.Core.List.{List, [], _∷_, _++_}
 use Prim.Native.Nat.{ℕ, _+_, _-_, _≤_, _<_}
 use native.Mathlib.Omega.{arith}
 use lib.ListN.{length, getD}
-use Rattle.hl7.specs.Bytes.{same, among}
+use Rattle.hl7.specs.Bytes.{among}
 use Rattle.grade.specs.Book.{text}
 use Rattle.grade.specs.Broken.{codesOf}
 use Rattle.grade.specs.Encoding.{each}
@@ -97,10 +97,6 @@ module _ (b : List ℕ) where
     codes-none : left ≤ 0 → codesFrom left from ≡ []
     codes-none h = times-empty (text codeLimit) b left from h
 
-    pub among-over : (value : List ℕ) → left ≤ 0 → among value (codesFrom left from) ≡ false
-    unfolding among
-    among-over value h = ap (among value) (codes-none h)
-
     pub every-over : (others : List (List ℕ)) (so : Bool) → left ≤ 0 → (so && allAmong (codesFrom left from) others) ≡ so
     unfolding allAmong
     every-over others so h = ap (λ (l : List (List ℕ)). so && each (λ (c : List ℕ). among c others) l) (codes-none h) ∙ and-true so
@@ -113,40 +109,31 @@ module _ (b : List ℕ) where
     unfolding marked gone keep
     gone-over mark others h = ap (λ (l : List (List ℕ)). marked 32 (codeWords mark (gone l others))) (codes-none h)
 
-    module _ (h : 0 < left) (f : CodesFound left from) where
-      pub among-stop : (value : List ℕ) → same value (textAt b from) ≡ true → among value (codesFrom left from) ≡ true
-      unfolding among
-      among-stop value e = rw (codes-next b left from h f _ refl .2, e)
+    module _ (h : 0 < left) (f : CodesFound left from) {next : ℕ} (e : next ≡ textEnd b from) where
+      pub codes-found : CodesFound (left - 1) next
+      codes-found = codes-next b left from h f next e .0
 
-      module _ {next : ℕ} (e : next ≡ textEnd b from) where
-        pub codes-found : CodesFound (left - 1) next
-        codes-found = codes-next b left from h f next e .0
+      codes-split : codesFrom left from ≡ textAt b from ∷ codesFrom (left - 1) next
+      codes-split = codes-next b left from h f next e .2
 
-        codes-split : codesFrom left from ≡ textAt b from ∷ codesFrom (left - 1) next
-        codes-split = codes-next b left from h f next e .2
+      pub every-more : (others : List (List ℕ)) (so : Bool) → (so && allAmong (codesFrom left from) others) ≡ ((so && among (textAt b from) others) && allAmong (codesFrom (left - 1) next) others)
+      unfolding allAmong
+      every-more others so =
+          ap (λ (l : List (List ℕ)). so && each (λ (c : List ℕ). among c others) l) codes-split
+          ∙ sym (and-assoc so (among (textAt b from) others) (each (λ (c : List ℕ). among c others) (codesFrom (left - 1) next)))
 
-        pub among-more : (value : List ℕ) → same value (textAt b from) ≡ false → among value (codesFrom (left - 1) next) ≡ among value (codesFrom left from)
-        unfolding among
-        among-more value n = rw (codes-split, n)
+      pub codes-more : (mark : ℕ) → marked 32 (codeWords mark (codesFrom left from)) ≡ (32 ∷ mark ∷ textAt b from) ++ marked 32 (codeWords mark (codesFrom (left - 1) next))
+      unfolding marked
+      codes-more mark = ap (λ (l : List (List ℕ)). marked 32 (codeWords mark l)) codes-split
 
-        pub every-more : (others : List (List ℕ)) (so : Bool) → (so && allAmong (codesFrom left from) others) ≡ ((so && among (textAt b from) others) && allAmong (codesFrom (left - 1) next) others)
-        unfolding allAmong
-        every-more others so =
-            ap (λ (l : List (List ℕ)). so && each (λ (c : List ℕ). among c others) l) codes-split
-            ∙ sym (and-assoc so (among (textAt b from) others) (each (λ (c : List ℕ). among c others) (codesFrom (left - 1) next)))
+      pub gone-more : (mark : ℕ) (others : List (List ℕ))
+          → marked 32 (codeWords mark (gone (codesFrom left from) others)) ≡ cond (among (textAt b from) others) [] (32 ∷ mark ∷ textAt b from) ++ marked 32 (codeWords mark (gone (codesFrom (left - 1) next) others))
+      unfolding marked gone keep
+      gone-more mark others = ap (λ (l : List (List ℕ)). marked 32 (codeWords mark (gone l others))) codes-split ∙ by (among (textAt b from) others)
+        where
+          rest : List (List ℕ)
+          rest = gone (codesFrom (left - 1) next) others
 
-        pub codes-more : (mark : ℕ) → marked 32 (codeWords mark (codesFrom left from)) ≡ (32 ∷ mark ∷ textAt b from) ++ marked 32 (codeWords mark (codesFrom (left - 1) next))
-        unfolding marked
-        codes-more mark = ap (λ (l : List (List ℕ)). marked 32 (codeWords mark l)) codes-split
-
-        pub gone-more : (mark : ℕ) (others : List (List ℕ))
-            → marked 32 (codeWords mark (gone (codesFrom left from) others)) ≡ cond (among (textAt b from) others) [] (32 ∷ mark ∷ textAt b from) ++ marked 32 (codeWords mark (gone (codesFrom (left - 1) next) others))
-        unfolding marked gone keep
-        gone-more mark others = ap (λ (l : List (List ℕ)). marked 32 (codeWords mark (gone l others))) codes-split ∙ by (among (textAt b from) others)
-          where
-            rest : List (List ℕ)
-            rest = gone (codesFrom (left - 1) next) others
-
-            by : (t : Bool) → marked 32 (codeWords mark (cond (not t) (textAt b from ∷ rest) rest)) ≡ cond t [] (32 ∷ mark ∷ textAt b from) ++ marked 32 (codeWords mark rest)
-            by true = refl
-            by false = refl
+          by : (t : Bool) → marked 32 (codeWords mark (cond (not t) (textAt b from ∷ rest) rest)) ≡ cond t [] (32 ∷ mark ∷ textAt b from) ++ marked 32 (codeWords mark rest)
+          by true = refl
+          by false = refl

@@ -54,6 +54,7 @@ numberWords Kind.Date = []
 numberWords (Kind.Time digits) = decimal digits ∷ []
 numberWords (Kind.Code set) = []
 
+-- low and high as the bytes of a rule have them, 0 where there is none: the digits of a TIME are its low
 abbrev pub lowOf : Kind → ℕ
 lowOf kind = getD (lastBytes kind) 1 0
 

@@ -2,7 +2,6 @@
 use crate::ruled::Ruled;
 use crate::ruled::all_among;
 use crate::ruled::has_code;
-use crate::ruled::letter_of;
 use crate::ruled::same_numbers;
 use ack::output::put;
 use ack::output::put_byte;
@@ -14,6 +13,7 @@ use canonical::show::put_range;
 use canonical::show::put_severity;
 use grade::rule::Kind;
 use grade::rule::Rule;
+use grade::rule::severity_letter;
 use grade::walk::text_after;
 use grade::walk::text_part;
 ghost use mathlib.Core.Bool.{cond};
@@ -154,7 +154,7 @@ fn put_severities(out: &mut [u8], at: usize, key: &[u8], n: usize, rule: Rule, o
 {
     let severity = rule.severity;
     let after = other.severity;
-    if letter_of(severity) == letter_of(after) {
+    if severity_letter(severity) == severity_letter(after) {
         return put(out, at, b"");
     }
     let second = put_head(out, at, key, b'~', n, rule);

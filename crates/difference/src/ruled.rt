@@ -1,22 +1,16 @@
 // A rule and the codes of its set.
 use grade::limits::SET_PLACES;
+use grade::lookup::among_codes;
 use grade::lookup::rule_at;
 use grade::rule::Kind;
 use grade::rule::Rule;
-use grade::rule::Severity;
 use grade::walk::Section;
 use grade::walk::pair_at;
 use grade::walk::text_after;
 use grade::walk::text_part;
-use hl7::bytes::same_bytes;
 ghost use mathlib.Core.Path.{_≡_};
-ghost use mathlib.Core.Bool.{true};
 ghost use Prim.Native.Nat.{_<_};
 ghost use Rattle.hl7.specs.Bytes.{among};
-ghost use Rattle.grade.specs.Book.{text};
-ghost use Rattle.grade.specs.Limits.{codeLimit};
-ghost use Rattle.grade.specs.Reader.{isFound, itemsOf, times};
-ghost use Rattle.grade.specs.Rule.{severityLetter};
 ghost use Rattle.grade.specs.Standing.{textAt, TextFits, rulesIn, setsIn, Holds, Placed};
 ghost use Rattle.difference.specs.Difference.{lowOf, highOf, sameNumbers, allAmong};
 ghost use Rattle.difference.specs.Ruled.{setOf, codesIn, CodesStand, Rules};
@@ -76,16 +70,6 @@ pub(crate) fn same_numbers(kind: Kind, other: Kind) -> bool
     low & high
 }
 
-pub(crate) fn letter_of(severity: Severity) -> u8
-    ensures { λ r. ⌜ r ≡ severityLetter severity ⌝ }
-{
-    match severity {
-        Severity::Error => b'E',
-        Severity::Warning => b'W',
-        Severity::Informational => b'I',
-    }
-}
-
 // The rule with a number from 0 of a section whose sets stand at the places.
 pub(crate) fn ruled_at(
     book: &[u8],
@@ -114,29 +98,12 @@ pub(crate) fn ruled_at(
     }
 }
 
-// The value is one of count codes that stand at a position.
-fn is_code(book: &[u8], start: usize, count: usize, value: &[u8]) -> bool
-    requires { ⌜ isFound (times count (text codeLimit) (now book) start) ≡ true ⌝ }
-    ensures { λ r. ⌜ r ≡ among (now (value .entry)) (itemsOf (times count (text codeLimit) (now (book .entry)) start)) ⌝ }
-{
-    let mut from = start;
-    let mut left = count;
-    while 0 < left {
-        if same_bytes(value, text_part(book, from)) {
-            return true;
-        }
-        from = text_after(book, from);
-        left -= 1;
-    }
-    false
-}
-
 // The code at a position is one of a rule's.
 pub(crate) fn has_code(book: &[u8], ruled: Ruled, other: &[u8], from: usize) -> bool
     requires { ⌜ CodesStand (now book) ruled × TextFits (now other) from ⌝ }
     ensures { λ r. ⌜ r ≡ among (textAt (now (other .entry)) from) (codesIn (now (book .entry)) ruled) ⌝ }
 {
-    is_code(book, ruled.from, ruled.count, text_part(other, from))
+    among_codes(book, ruled.from, ruled.count, text_part(other, from))
 }
 
 // Each code of one rule is one of the other's.

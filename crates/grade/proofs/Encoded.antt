@@ -37,6 +37,11 @@ spelt-join : {b : List ℕ} {at m e : ℕ} {xs ys : List ℕ} → Spelt b at xs 
 spelt-join {b} {at} {m} {e} {xs} {ys} x y =
     record { left = x .left ∙ ap (λ (zs : List ℕ). xs ++ zs) (y .left) ∙ sym (append-assoc xs ys (drop e b)) }
 
+-- lists that are put together are spelt one after the other
+pub spell-append : {A : Type 0} (spell : A → List ℕ) (xs ys : List A) → spellAll spell (xs ++ ys) ≡ spellAll spell xs ++ spellAll spell ys
+spell-append spell [] ys = refl
+spell-append spell (x ∷ xs) ys = ap (λ (l : List ℕ). spell x ++ l) (spell-append spell xs ys) ∙ sym (append-assoc (spell x) (spellAll spell xs) (spellAll spell ys))
+
 -- a reader takes only the bytes that encode what it found
 abbrev pub Spells : {A : Type 0} → List ℕ → Reader A → (A → List ℕ) → Type 0
 Spells {A} b p spell = (at : ℕ) (a : A) (end : ℕ) → p b at ≡ found a end → Spelt b at (spell a) end

@@ -154,7 +154,7 @@ fn look(book: &[u8], at: usize, value: &[u8]) -> Looked
 }
 
 // The value is one of count codes that stand at a position.
-fn among_codes(book: &[u8], at: usize, count: usize, value: &[u8]) -> bool
+pub fn among_codes(book: &[u8], at: usize, count: usize, value: &[u8]) -> bool
     requires { ⌜ isFound (times count (text codeLimit) (now book) at) ≡ true ⌝ }
     ensures { λ r. ⌜ r ≡ among (now (value .entry)) (itemsOf (times count (text codeLimit) (now (book .entry)) at)) ⌝ }
 {

@@ -150,7 +150,7 @@ fn severity_of(letter: u8) -> SeverityRead
     }
 }
 
-pub(crate) fn severity_letter(severity: Severity) -> u8
+pub fn severity_letter(severity: Severity) -> u8
     ensures { λ r. ⌜ r ≡ severityLetter severity ⌝ }
 {
     match severity {

@@ -207,6 +207,16 @@ module _ (f : ℕ → List ℕ) (l : List ℕ) (i : ℕ) (v : List ℕ) where
   unfolding among
   among-more h e = rw (from-step f l i h, e)
 
+-- a text among others that are put together
+pub among-append : (c : List ℕ) (cs ds : List (List ℕ)) → among c (cs ++ ds) ≡ (among c cs || among c ds)
+unfolding among
+among-append c [] ds = refl
+among-append c (d ∷ cs) ds = by (same c d) (among-append c cs ds)
+  where
+    by : (b : Bool) → among c (cs ++ ds) ≡ (among c cs || among c ds) → (b || among c (cs ++ ds)) ≡ (b || among c cs || among c ds)
+    by true ih = refl
+    by false ih = ih
+
 -- ---- beginnings
 module _ (p s : List ℕ) (i : ℕ) where
   pub begins-none : length p ≤ i → begins (drop i p) (drop i s) ≡ true

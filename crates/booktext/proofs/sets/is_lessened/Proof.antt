@@ -8,7 +8,7 @@ use lib.ListN.{length, drop}
 use Rattle.booktext.specs.Changes.{lessened}
 use Rattle.booktext.specs.Standing.{noted}
 use Rattle.booktext.proofs.Marking.{marks-at, marks-length}
-use Rattle.booktext.proofs.Setting.{lessened-here, lessened-later, lessened-over}
+use Rattle.booktext.proofs.Spelling.{lessened-here, lessened-later, lessened-over}
 use Rattle.booktext.proofs.sets.is_lessened.Statement.{statement}
 use Rattle.booktext.proofs.sets.is_lessened.Tie as tie
 

@@ -5,7 +5,8 @@ use borrow.Author.Needs.{needs}
 use lib.ListN.{length, drop}
 use Rattle.booktext.specs.Changes.{added}
 use Rattle.booktext.specs.Standing.{noted}
-use Rattle.booktext.proofs.Setting.{Spells, spells-over, spelt-length, added-short, added-more, added-over}
+use Rattle.booktext.proofs.Fitting.{added-short}
+use Rattle.booktext.proofs.Spelling.{Spells, spells-over, spelt-length, added-more, added-over}
 use Rattle.booktext.proofs.sets.put_added.Statement.{statement}
 use Rattle.booktext.proofs.sets.put_added.Tie as tie
 

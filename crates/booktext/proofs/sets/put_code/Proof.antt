@@ -2,7 +2,7 @@
 use mathlib.Core.List.{map}
 use borrow.Author.Needs.{needs}
 use Rattle.booktext.specs.Standing.{noted}
-use Rattle.booktext.proofs.Setting.{spelt-as, spelt-length, code-taken, code-put}
+use Rattle.booktext.proofs.Spelling.{spelt-as, spelt-length, code-taken, code-put}
 use Rattle.booktext.proofs.sets.put_code.Statement.{statement}
 use Rattle.booktext.proofs.sets.put_code.Tie as tie
 

@@ -2,7 +2,7 @@
 use mathlib.Core.List.{map}
 use Rattle.booktext.specs.Lines.{statements}
 use Rattle.booktext.specs.Standing.{noted}
-use Rattle.booktext.proofs.Setting.{spelt-length, held-put}
+use Rattle.booktext.proofs.Spelling.{spelt-length, held-put}
 use Rattle.booktext.proofs.sets.put_held.Statement.{statement}
 use Rattle.booktext.proofs.sets.put_held.Tie as tie
 

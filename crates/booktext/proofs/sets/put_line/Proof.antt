@@ -2,7 +2,7 @@
 use mathlib.Core.List.{map}
 use borrow.Author.Needs.{needs}
 use Rattle.booktext.specs.Standing.{noted}
-use Rattle.booktext.proofs.Setting.{spelt-as, spelt-length, line-short, line-put, line-other}
+use Rattle.booktext.proofs.Spelling.{spelt-as, spelt-length, line-short, line-put, line-other}
 use Rattle.booktext.proofs.sets.put_line.Statement.{statement}
 use Rattle.booktext.proofs.sets.put_line.Tie as tie
 

@@ -9,7 +9,7 @@ use Rattle.booktext.specs.Changes.{kept}
 use Rattle.booktext.specs.Contents.{listed}
 use Rattle.booktext.specs.Standing.{bodyFrom, isShort, noted}
 use Rattle.booktext.proofs.Stating.{onward, onward-fewer}
-use Rattle.booktext.proofs.Setting.{Spells, spells-over, spelt-as, spelt-length, listed-start, listed-short-here, listed-short, listed-more, listed-over}
+use Rattle.booktext.proofs.Spelling.{Spells, spells-over, spelt-as, spelt-length, listed-start, listed-short-here, listed-short, listed-more, listed-over}
 use Rattle.booktext.proofs.sets.put_listed.Statement.{statement}
 use Rattle.booktext.proofs.sets.put_listed.Tie as tie
 

@@ -3,7 +3,7 @@ use native.Mathlib.Omega.{arith}
 use borrow.Author.Needs.{needs}
 use Rattle.booktext.proofs.Marking.{marks-length}
 use Rattle.booktext.proofs.Marking.{part-marks}
-use Rattle.booktext.proofs.Setting.{spelt-as, spelt-length, more-other, more-of-other, more-short, more-put}
+use Rattle.booktext.proofs.Spelling.{spelt-as, spelt-length, more-other, more-of-other, more-short, more-put}
 use Rattle.booktext.proofs.sets.put_more.Statement.{statement}
 use Rattle.booktext.proofs.sets.put_more.Tie as tie
 

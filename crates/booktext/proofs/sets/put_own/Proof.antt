@@ -2,7 +2,7 @@
 use mathlib.Core.List.{map}
 use borrow.Author.Needs.{needs}
 use Rattle.booktext.specs.Standing.{noted}
-use Rattle.booktext.proofs.Setting.{spelt-as, spelt-length, own-none, own-short-words, own-short-listed, own-put}
+use Rattle.booktext.proofs.Spelling.{spelt-as, spelt-length, own-none, own-short-words, own-short-listed, own-put}
 use Rattle.booktext.proofs.sets.put_own.Statement.{statement}
 use Rattle.booktext.proofs.sets.put_own.Tie as tie
 

@@ -7,7 +7,7 @@ use Rattle.grade.specs.Encoding.{each}
 use Rattle.booktext.specs.Changes.{kept}
 use Rattle.booktext.specs.Standing.{wordsFrom, isShort, noted}
 use Rattle.booktext.proofs.Words.{words-fewer}
-use Rattle.booktext.proofs.Setting.{Spells, spells-over, spelt-length, words-short, word-short, words-more, words-over}
+use Rattle.booktext.proofs.Spelling.{Spells, spells-over, spelt-length, words-short, word-short, words-more, words-over}
 use Rattle.booktext.proofs.sets.put_words.Statement.{statement}
 use Rattle.booktext.proofs.sets.put_words.Tie as tie
 

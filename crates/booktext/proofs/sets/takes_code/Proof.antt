@@ -1,6 +1,6 @@
 -- `booktext::sets::takes_code` meets its contract. Assumes nothing.
 use borrow.Author.Needs.{needs}
-use Rattle.booktext.proofs.Setting.{takes-named, takes-none}
+use Rattle.booktext.proofs.Spelling.{takes-named, takes-none}
 use Rattle.booktext.proofs.sets.takes_code.Statement.{statement}
 use Rattle.booktext.proofs.sets.takes_code.Tie as tie
 

@@ -9,11 +9,11 @@ returns : tie.Need-returns
 returns c =
     let at-put = c .before .before in
     let at-if1 = at-put .before .before .before in
-    let at-letter-of2 = at-if1 .before in
-    let at-letter-of = at-letter-of2 .before in
-    let start = at-letter-of .before .before .before in
+    let at-severity-letter2 = at-if1 .before in
+    let at-severity-letter = at-severity-letter2 .before in
+    let start = at-severity-letter .before .before .before in
     wrote-as (at-put .put .ensures)
-    (severity-same (start .args .key .now) (start .args .n) (start .args .rule) (start .args .other) (at-letter-of .letter-of .ensures) (at-letter-of2 .letter-of2 .ensures) (at-if1 .if1 .taken))
+    (severity-same (start .args .key .now) (start .args .n) (start .args .rule) (start .args .other) (at-severity-letter .severity-letter .ensures) (at-severity-letter2 .severity-letter2 .ensures) (at-if1 .if1 .taken))
 
 returns-2 : tie.Need-returns-2
 returns-2 c =
@@ -23,10 +23,10 @@ returns-2 c =
     let at-put-severity = at-put2 .before .before .before .before .before in
     let at-put-head = at-put-severity .before .before .before .before in
     let at-if1 = at-put-head .before .before in
-    let at-letter-of2 = at-if1 .before in
-    let at-letter-of = at-letter-of2 .before in
-    let start = at-letter-of .before .before .before in
-    severity-other (start .args .key .now) (start .args .n) (start .args .rule) (start .args .other) (at-letter-of .letter-of .ensures) (at-letter-of2 .letter-of2 .ensures) (at-if1 .if1 .left)
+    let at-severity-letter2 = at-if1 .before in
+    let at-severity-letter = at-severity-letter2 .before in
+    let start = at-severity-letter .before .before .before in
+    severity-other (start .args .key .now) (start .args .n) (start .args .rule) (start .args .other) (at-severity-letter .severity-letter .ensures) (at-severity-letter2 .severity-letter2 .ensures) (at-if1 .if1 .left)
     (at-put-head .put-head .ensures) (at-put-severity .put-severity .ensures) (at-put2 .put2 .ensures) (at-put-severity2 .put-severity2 .ensures) (at-put-byte .put-byte .ensures)
 
 pub put-severities-spec : {M : Type 1} → statement M

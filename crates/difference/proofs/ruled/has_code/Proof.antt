@@ -12,7 +12,7 @@ returns : tie.Need-returns
 returns c =
     let at-text-part = c .before in
     let start = at-text-part .before .before .before in
-    c .is-code .ensures ∙ ap (λ (v : List ℕ). among v (codesIn (start .args .book .now) (start .args .ruled))) (at-text-part .text-part .ensures)
+    c .among-codes .ensures ∙ ap (λ (v : List ℕ). among v (codesIn (start .args .book .now) (start .args .ruled))) (at-text-part .text-part .ensures)
 
 pub has-code-spec : {M : Type 1} → statement M
 has-code-spec =
