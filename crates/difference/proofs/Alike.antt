@@ -9,7 +9,7 @@ use Rattle.hl7.specs.Bytes.{among}
 use Rattle.hl7.specs.Place.{delimsOf, segmentsOf, neverCut, repetitionsOf, componentOf}
 use Rattle.hl7.specs.declared.place.Delims.{Delims}
 use Rattle.grade.specs.Book.{Contents}
-use Rattle.grade.specs.Broken.{isEmpty, isRequired, fits, broken, judges, breaksRule}
+use Rattle.grade.specs.Broken.{isValue, isRequired, fits, broken, judges, breaksRule}
 use Rattle.grade.specs.Findings.{Event, valuesAt, named, ordinalAt, findingAt, breaksAt, turns, places, findings}
 use Rattle.grade.specs.Grading.{findingsBy}
 use Rattle.grade.specs.Header.{mshOf, headerOf, headerOr}
@@ -71,7 +71,7 @@ unfolding judges broken
 breaks-alike cs ds v e k l r same =
     let required = required-blank k ∙ ap isRequired same ∙ sym (required-blank l) in
     let fitting = fits-blank cs ds v e k ∙ ap (λ (x : Kind). fits x ds v) same ∙ sym (fits-blank ds ds v refl l) in
-    ap₂ (λ (a b : Bool). (not a || eqb r 0) && cond (isEmpty v) a (not b)) required fitting
+    ap₂ (λ (a b : Bool). (not a || eqb r 0) && cond (isValue v) (not b) a) required fitting
 
 -- ---- findings
 abbrev valuesBy : Delims → Place → List ℕ → List (List ℕ)

@@ -1,4 +1,4 @@
--- Books and what opening them with the key AX answers: one table under one statement, which antt computes.
+-- Books and what opening them with a key answers, mostly AX: one table under one statement, which antt computes.
 use Prim.Native.Nat.{ℕ}
 use Prim.Native.Char.{Char, code}
 use Prim.Native.String.{String}
@@ -49,9 +49,12 @@ one r = book 1 (part "AX" 1 0 r)
 
 -- ---- the table
 
--- the refusal's number, or 0
+-- the refusal's number, or 0, for a key and for AX
+givesFor : String → List ℕ → ℕ → Bool
+givesFor key b number = eqb (firstRow (bookRows b (bytes key)) .number) number
+
 gives : List ℕ → ℕ → Bool
-gives b number = eqb (firstRow (bookRows b (bytes "AX")) .number) number
+gives = givesFor "AX"
 
 samples :
     (gives example 0
@@ -59,6 +62,9 @@ samples :
     && gives (book 1 (part "AXX" 0 0 [])) 9
     && gives (book 1 (part "ax" 0 0 [])) 9
     && gives (book 2 (part "AY" 0 0 [] ++ part "AX" 0 0 [])) 0
+    -- two quotes are a key like any other
+    && givesFor "\"\"" (book 2 (part "AX" 0 0 [] ++ part "\"\"" 0 0 [])) 0
+    && givesFor "\"\"" example 9
     -- a wrong mark or too few bytes, then another version, then any other fault
     && gives [] 7
     && gives (bytes "VXB" ++ (0 ∷ [])) 7
@@ -87,7 +93,7 @@ samples :
     && gives (book 1 (part "AX" 1 1 (rule "MSH" 3 1 6 "I" 1 0 0 ++ (0 ∷ 2 ∷ (sized "M" ++ sized "F"))))) 0
     && gives (book 1 (part "AX" 0 1 (0 ∷ 0 ∷ []))) 7)
     ≡ true
-unfolding head rule sized part book example one gives all same among begins segmentNames numberFrom nameOfLetters placeFits severityOf kindOf ruleSaid ruleOf times text codeSet ruleIn section distinct sections headRight decoded malformed otherVersion noSection bookRows firstRow
+unfolding head rule sized part book example one givesFor gives all same among begins segmentNames numberFrom nameOfLetters placeFits severityOf kindOf ruleSaid ruleOf times text codeSet ruleIn section distinct sections headRight decoded malformed otherVersion noSection bookRows firstRow
 samples = refl
 
 -- what the example's section says: PID-7.1 DATE E, PID-3.1 REQUIRED E, PID-8 REQUIRED W

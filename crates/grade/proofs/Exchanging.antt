@@ -1,7 +1,7 @@
 -- Which five delimiters a message is cut by does not matter to grading: where its bytes that may delimit are exchanged among each other, and the book's keys and
 -- codes stay as they are, number, detail and findings are the same. Assumes nothing.
 use mathlib.Core.Path.{_≡_, refl, sym, ap, ap₂, _∙_}
-use mathlib.Core.Bool.{Bool, true, false, cond, _&&_}
+use mathlib.Core.Bool.{Bool, true, false, cond, not, _&&_}
 use mathlib.Core.List.{List, [], _∷_, map, List·Memᴰ, List·Memᴰ·head, List·Memᴰ·tail, List·Memᴰ·not-nil, List·Memᴰ·cases-cons}
 use mathlib.Core.Logic.{⊎-elim}
 use Prim.Native.Nat.{ℕ, zero, suc, _-_}
@@ -22,7 +22,7 @@ use Rattle.grade.specs.Digits.{isSign, countWithin}
 use Rattle.grade.specs.Values.{isUnsigned, isNumber, isDate, isTime}
 use Rattle.grade.specs.Rule.{segmentNames, numberFrom, nameOfLetters}
 use Rattle.grade.specs.Order.{nameOf, nameAt, nameBefore, earlier, mayFollow}
-use Rattle.grade.specs.Broken.{fits, broken, codesOf, breaksRule}
+use Rattle.grade.specs.Broken.{isValue, fits, broken, codesOf, breaksRule}
 use Rattle.grade.specs.Strict.{keep, countFrom, pairsFrom}
 use Rattle.grade.specs.Findings.{Event, isAbout, valueIn, valuesOf, segmentAt, named, valuesAt, ruleNumbered, findingAt, breaksAt, turns, places, findings}
 use Rattle.grade.specs.Header.{mshOf, mshAt, isProcessingId, headerOf}
@@ -124,9 +124,14 @@ module _ {σ : ℕ → ℕ} (ex : Exchange σ) where
   codes-still sets (Time digits) still = refl
   codes-still sets (Code set) still = sym (List·getD-map (map (map σ)) sets (set - 1) []) ∙ ap (λ (l : List (List (List ℕ))). getD l (set - 1) []) still
 
+  -- a quote is plain
+  is-value-kept : (v : List ℕ) → isValue (map σ v) ≡ isValue v
+  unfolding isValue all mayDelimit isIn
+  is-value-kept v = ap not (among-kept ex v ([] ∷ bytes "\"\"" ∷ []) (every-still (all isPlain) (plain-text ex) ([] ∷ bytes "\"\"" ∷ []) refl))
+
   breaks-rule-kept : (sets : List (List (List ℕ))) (rule : Rule) (r : ℕ) (v : List ℕ) → map (map (map σ)) sets ≡ sets → breaksRule sets rule r (map σ v) ≡ breaksRule sets rule r v
   unfolding breaksRule broken
-  breaks-rule-kept sets rule r v still = rw (length-map v σ, fits-kept (rule .kind) (codesOf sets (rule .kind)) v (codes-still sets (rule .kind) still))
+  breaks-rule-kept sets rule r v still = rw (is-value-kept v, fits-kept (rule .kind) (codesOf sets (rule .kind)) v (codes-still sets (rule .kind) still))
 
   -- ---- names
   name-number-kept : (n : ℕ) (name : List ℕ) (texts : List (List ℕ)) → numberFrom n (map σ name) (map (map σ) texts) ≡ numberFrom n name texts

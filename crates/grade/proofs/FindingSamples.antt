@@ -11,7 +11,7 @@ use Rattle.grade.specs.Digits.{countWithin, digitRun}
 use Rattle.grade.specs.Calendar.{monthLength, isRealDate}
 use Rattle.grade.specs.Values.{isDate}
 use Rattle.grade.specs.Order.{nameOf, nameBefore, earlier, mayFollow}
-use Rattle.grade.specs.Broken.{broken, judges, breaksRule}
+use Rattle.grade.specs.Broken.{isValue, broken, judges, breaksRule}
 use Rattle.grade.specs.Strict.{keep, countFrom, pairsFrom}
 use Rattle.grade.specs.Findings.{orderFinding, valueFinding, findings}
 use Rattle.grade.specs.declared.rule.Kind.{Kind}
@@ -68,6 +68,18 @@ dosed = rule rxa 1 0 Required Error
 abbrev born : Rule
 born = rule pid 7 1 Date Error
 
+abbrev dated : Rule
+dated = rule pid 7 1 Required Error
+
+abbrev whole : Rule
+whole = rule pid 1 0 Required Error
+
+abbrev five : ℕ → Rule
+five component = rule pid 1 component (Length 5 9) Error
+
+abbrev deleting : Rule
+deleting = rule pid 2 2 (Code 2) Warning
+
 abbrev known : Rule
 known = rule pid 3 1 Required Error
 
@@ -94,13 +106,32 @@ table =
     ∷ record { rules = there ∷ []; segments = usual ∷ bytes "PID|~x" ∷ []; gives = breach 1 1 1 there ∷ [] }
     ∷ record { rules = there ∷ []; segments = usual ∷ bytes "PID|^x~" ∷ []; gives = breach 1 1 1 there ∷ [] }
     ∷ record { rules = there ∷ []; segments = usual ∷ bytes "PID|x~" ∷ []; gives = [] }
-    -- component 2 of each repetition is looked up in the set, which holds A and B
+    -- component 2 of each repetition is looked up in the first set, which holds A and B
     ∷ record { rules = coded ∷ []; segments = usual ∷ bytes "PID||A^B~B^b~C^~^C" ∷ []; gives = breach 1 1 2 coded ∷ breach 1 1 4 coded ∷ [] }
     -- the message's own delimiters cut it, and the usual ones do not
     ∷ record { rules = long ∷ []; segments = bytes "MSH!#$%'!" ∷ bytes "PID!x$$y$~|!" ∷ []; gives = breach 1 1 1 long ∷ breach 1 1 3 long ∷ [] }
     ∷ record { rules = coded ∷ []; segments = bytes "MSH|#~\\&|" ∷ bytes "PID||A#B~B#b~C#~#B^" ∷ []; gives = breach 1 1 2 coded ∷ breach 1 1 4 coded ∷ [] }
     -- an absent field has one empty repetition
     ∷ record { rules = born ∷ sexed ∷ []; segments = usual ∷ bytes "PID" ∷ []; gives = breach 2 1 1 sexed ∷ [] }
+    -- two quotes as a birth date break REQUIRED alone; DATE judges a value that only begins with them
+    ∷ record { rules = born ∷ dated ∷ []; segments = usual ∷ bytes "PID|||||||\"\"" ∷ []; gives = breach 2 1 1 dated ∷ [] }
+    ∷ record { rules = born ∷ dated ∷ []; segments = usual ∷ bytes "PID|||||||\"\"20240229" ∷ []; gives = breach 1 1 1 born ∷ [] }
+    -- what stands at the component: two quotes at component 1, four bytes at component 0
+    ∷ record {
+      rules = there ∷ whole ∷ five 1 ∷ five 0 ∷ [];
+      segments = usual ∷ bytes "PID|\"\"^x" ∷ [];
+      gives = breach 1 1 1 there ∷ breach 4 1 1 (five 0) ∷ [];
+    }
+    -- a middle repetition is passed; one quote, three, and two with a blank are not
+    ∷ record { rules = five 0 ∷ []; segments = usual ∷ bytes "PID|\"~\"\"~\"\"\"~\"\" " ∷ []; gives = breach 1 1 1 (five 0) ∷ breach 1 1 3 (five 0) ∷ breach 1 1 4 (five 0) ∷ [] }
+    ∷ record { rules = there ∷ []; segments = usual ∷ bytes "PID|\"\"~x" ∷ []; gives = breach 1 1 1 there ∷ [] }
+    ∷ record { rules = there ∷ []; segments = usual ∷ bytes "PID|x~\"\"~y" ∷ []; gives = [] }
+    -- passed by CODE, whether two quotes are out of the set or in it
+    ∷ record {
+      rules = coded ∷ deleting ∷ [];
+      segments = usual ∷ bytes "PID||A^C~A^\"\"~A^\"\"\"" ∷ [];
+      gives = breach 1 1 1 coded ∷ breach 1 1 3 coded ∷ breach 2 1 1 deleting ∷ breach 2 1 3 deleting ∷ [];
+    }
     -- MSH-3 stands after the second bar
     ∷ record { rules = header ∷ []; segments = bytes "MSH|^~\\&|A~BB|C" ∷ bytes "PID" ∷ []; gives = breach 1 1 1 header ∷ [] }
     -- numbers count from the message's start; the order comes before the rules
@@ -118,10 +149,10 @@ table =
     ∷ []
 
 abbrev graded : Sample → List Finding
-graded s = findings mayFollow (s .rules) ((bytes "A" ∷ bytes "B" ∷ []) ∷ []) (message (s .segments))
+graded s = findings mayFollow (s .rules) ((bytes "A" ∷ bytes "B" ∷ []) ∷ (bytes "\"\"" ∷ []) ∷ []) (message (s .segments))
 
 samples : map graded table ≡ map (λ (s : Sample). s .gives) table
-unfolding findings keep countFrom pairsFrom nameBefore earlier isIn mayFollow broken judges breaksRule
+unfolding findings keep countFrom pairsFrom nameBefore earlier isIn mayFollow isValue broken judges breaksRule
     segmentNames numberFrom nameOfLetters same among begins cut ahead butLast startAt delimsOf nthOf cutUnless partOfField neverCut componentOf repetitionsOf
     countWithin digitRun monthLength isRealDate isDate
 samples = refl

@@ -12,6 +12,7 @@ pub mod Following
 pub mod Increasing
 pub mod Demand3
 pub mod ByPlace
+pub mod Quotes
 pub mod Repetitions
 pub mod Judging
 pub mod Linking

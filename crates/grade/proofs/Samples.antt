@@ -6,7 +6,7 @@ use mathlib.Core.Bool.{Bool, true, false, not, _&&_}
 use mathlib.Core.List.{List, [], _∷_, _++_}
 use lib.Dec.{eqb}
 use Rattle.hl7.specs.Text.{bytes}
-use Rattle.hl7.specs.Bytes.{isIn, distinct, all, same, begins}
+use Rattle.hl7.specs.Bytes.{isIn, distinct, all, same, among, begins}
 use Rattle.hl7.specs.Cut.{cut, ahead, butLast, startAt}
 use Rattle.hl7.specs.Place.{delimsOf, nthOf, cutUnless, partOfField, neverCut, componentOf, repetitionsOf}
 use Rattle.hl7.specs.Delimiters.{mayDelimit, mayCut, opens}
@@ -16,7 +16,7 @@ use Rattle.grade.specs.Digits.{countWithin, digitRun}
 use Rattle.grade.specs.Calendar.{monthLength, isRealDate}
 use Rattle.grade.specs.Values.{isUnsigned, isNumber, isDate}
 use Rattle.grade.specs.Order.{nameBefore, earlier, mayFollow}
-use Rattle.grade.specs.Broken.{broken, judges, breaksRule}
+use Rattle.grade.specs.Broken.{isValue, broken, judges, breaksRule}
 use Rattle.grade.specs.Strict.{keep, countFrom, pairsFrom}
 use Rattle.grade.specs.Findings.{findings}
 use Rattle.grade.specs.declared.rule.Kind.{Kind}
@@ -67,5 +67,5 @@ samples =
     ∷ []
 
 samples-hold : allRight samples ≡ true
-unfolding samples allRight right isOrder message distinct all same begins mayDelimit mayCut opens cut ahead butLast startAt delimsOf nthOf cutUnless partOfField neverCut componentOf repetitionsOf firstRow wrongBytes hasForm wrongSegments formRows messageRows segmentNames numberFrom nameOfLetters countWithin digitRun monthLength isRealDate isUnsigned isNumber isDate nameBefore earlier isIn mayFollow broken judges breaksRule keep countFrom pairsFrom findings
+unfolding samples allRight right isOrder message distinct all same among begins mayDelimit mayCut opens cut ahead butLast startAt delimsOf nthOf cutUnless partOfField neverCut componentOf repetitionsOf firstRow wrongBytes hasForm wrongSegments formRows messageRows segmentNames numberFrom nameOfLetters countWithin digitRun monthLength isRealDate isUnsigned isNumber isDate nameBefore earlier isIn mayFollow isValue broken judges breaksRule keep countFrom pairsFrom findings
 samples-hold = refl

@@ -1,17 +1,19 @@
 -- To be believed. When a value breaks a rule: a yes or no about the rule and that value. Assumes nothing.
 use Prim.Native.Nat.{ℕ, _-_}
 use mathlib.Core.Bool.{Bool, true, false, cond, not, _&&_, _||_}
-use mathlib.Core.List.{List, []}
-use lib.ListN.{length, getD}
+use mathlib.Core.List.{List, [], _∷_}
+use lib.ListN.{getD}
 use lib.Dec.{eqb}
+use Rattle.hl7.specs.Text.{bytes}
 use Rattle.hl7.specs.Bytes.{among}
 use Rattle.grade.specs.Values.{hasLength, isNumber, isDate, isTime}
 use Rattle.grade.specs.declared.rule.Kind.{Kind}
 use Rattle.grade.specs.declared.rule.Kind.the-variants.{Required, Length, Number, Date, Time, Code}
 use Rattle.grade.specs.declared.rule.Rule.{Rule}
 
-abbrev pub isEmpty : List ℕ → Bool
-isEmpty value = eqb (length value) 0
+-- what counts as a value: neither no bytes at all nor exactly two double quotes, by which HL7 2.5.1 asks to delete what is held
+unfoldable pub isValue : List ℕ → Bool
+isValue v = not (among v ([] ∷ bytes "\"\"" ∷ []))
 
 abbrev pub isRequired : Kind → Bool
 isRequired Required = true
@@ -21,7 +23,7 @@ isRequired Date = false
 isRequired (Time digits) = false
 isRequired (Code set) = false
 
--- a value that is there fits a kind, given the codes of the kind's set: any fits REQUIRED
+-- what counts as a value fits a kind, given the codes of the kind's set: any fits REQUIRED
 abbrev pub fits : Kind → List (List ℕ) → List ℕ → Bool
 fits Required codes value = true
 fits (Length low high) codes value = hasLength low high value
@@ -30,9 +32,9 @@ fits Date codes value = isDate value
 fits (Time digits) codes value = isTime digits value
 fits (Code set) codes value = among value codes
 
--- an empty value breaks REQUIRED and nothing else; any other breaks the kinds that it does not fit
+-- what does not count as a value breaks REQUIRED and nothing else; what does breaks the kinds that it does not fit
 unfoldable pub broken : Kind → List (List ℕ) → List ℕ → Bool
-broken kind codes value = cond (isEmpty value) (isRequired kind) (not (fits kind codes value))
+broken kind codes value = cond (isValue value) (not (fits kind codes value)) (isRequired kind)
 
 -- REQUIRED is about the first repetition alone, the other kinds about each; r counts from 0
 unfoldable pub judges : Kind → ℕ → Bool

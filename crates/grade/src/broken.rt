@@ -12,7 +12,7 @@ use hl7::place::component;
 ghost use mathlib.Core.Path.{_≡_};
 ghost use mathlib.Core.Bool.{false};
 ghost use Rattle.grade.specs.Standing.{codesAt};
-ghost use Rattle.grade.specs.Broken.{isRequired, fits, broken, judges};
+ghost use Rattle.grade.specs.Broken.{isValue, isRequired, fits, broken, judges};
 ghost use Rattle.grade.specs.Findings.{valueIn};
 ghost use Rattle.grade.specs.Rest.{CodesStand, breaksBy};
 
@@ -29,7 +29,17 @@ pub(crate) fn is_required(kind: Kind) -> bool
     }
 }
 
-// Whether a value that is there fits a kind, the codes of whose set stand at a position of the book.
+// Whether bytes count as a value: they are neither none nor exactly two quotes.
+fn is_value(v: &[u8]) -> bool
+    ensures { λ r. ⌜ r ≡ isValue (now (v .entry)) ⌝ }
+{
+    if v.len() == 2 {
+        return (v[0] != b'"') | (v[1] != b'"');
+    }
+    0 < v.len()
+}
+
+// Whether what counts as a value fits a kind, the codes of whose set stand at a position of the book.
 fn does_fit(kind: Kind, value: &[u8], book: &[u8], codes: usize) -> bool
     requires { ⌜ CodesStand (now book) kind codes ⌝ }
     ensures { λ r. ⌜ r ≡ fits kind (codesAt (now (book .entry)) codes) (now (value .entry)) ⌝ }
@@ -44,12 +54,16 @@ fn does_fit(kind: Kind, value: &[u8], book: &[u8], codes: usize) -> bool
     }
 }
 
+// REQUIRED asks for a value, the other kinds judge one.
 fn is_broken(kind: Kind, value: &[u8], book: &[u8], codes: usize) -> bool
     requires { ⌜ CodesStand (now book) kind codes ⌝ }
     ensures { λ r. ⌜ r ≡ broken kind (codesAt (now (book .entry)) codes) (now (value .entry)) ⌝ }
 {
-    if value.len() == 0 {
-        return is_required(kind);
+    if is_required(kind) {
+        return !is_value(value);
+    }
+    if !is_value(value) {
+        return false;
     }
     !does_fit(kind, value, book, codes)
 }
