@@ -72,10 +72,13 @@ impl Rule {
         Some(Rule { name, field, component, kind, severity })
     }
 
-    /// Whether a value that is to be judged breaks the rule.
+    /// Whether what stands at the rule's place in a repetition breaks it. What is no value breaks REQUIRED alone.
     pub fn broken(&self, value: &[u8], sets: &[Set]) -> bool {
+        if !values::is_value(value) {
+            return self.kind == Kind::Required;
+        }
         match self.kind {
-            Kind::Required => value.is_empty(),
+            Kind::Required => false,
             Kind::Length { low, high } => !(usize::from(low)..=high.into()).contains(&value.len()),
             Kind::Number => !values::is_number(value),
             Kind::Date => !values::is_date(value),

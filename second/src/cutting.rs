@@ -15,10 +15,6 @@ pub struct Part {
 }
 
 impl Part {
-    pub fn is_empty(self) -> bool {
-        self.start == self.end
-    }
-
     /// The empty part that stands for what is missing in this one.
     pub fn missing(self) -> Part {
         Part { start: self.end, end: self.end }

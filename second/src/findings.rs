@@ -96,14 +96,9 @@ fn grade_segments(message: Message, section: &Section, found: &mut impl FnMut(Fi
         fields.cut(message, segment);
         for &(rule_number, rule) in rules {
             let Rule { field, component, severity, .. } = rule;
-            let part = fields.field(field.into());
-            if part.is_empty() && rule.kind != Kind::Required {
-                continue;
-            }
-            for (repetition, part) in (1..).zip(message.repetitions(part)) {
+            for (repetition, part) in (1..).zip(message.repetitions(fields.field(field.into()))) {
                 let value = message.text(message.component(part, component.into()));
-                let judged = rule.kind == Kind::Required || !value.is_empty();
-                if judged && rule.broken(value, &sets) {
+                if rule.broken(value, &sets) {
                     let place = Place::Value { name, number, field, repetition, component };
                     found(Finding { place, code: code_of(rule.kind), severity, rule: rule_number });
                 }

@@ -1,4 +1,4 @@
-//! A second, independent program of 01 and of A1, A4 and A5 in 02: reads a VXU message, grades it by a section
+//! A second, independent program of 01 and of A1, A3, A4 and A5 in 02: reads a VXU message, grades it by a section
 //! of a rule book and answers with an ACK, or with the ACKs of a batch file's messages. It also compiles
 //! rule books from text, shows them as text and tells two of them apart.
 

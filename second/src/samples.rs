@@ -5,6 +5,7 @@ pub mod batches;
 mod delimiters;
 pub mod diffs;
 mod months;
+mod quotes;
 pub mod sources;
 
 use crate::book::BOOK_LIMIT;
@@ -90,6 +91,7 @@ pub fn samples() -> Vec<Sample> {
     all.extend(located());
     all.extend(delimiters::samples());
     all.extend(months::samples());
+    all.extend(quotes::samples());
     all
 }
 
@@ -199,7 +201,7 @@ fn headers() -> Vec<Sample> {
     // The rule and the order are broken, and under AR neither is listed.
     let broken = ("", book_ax(&[rule("MSH", 99, 0, 1, b'E', [0, 0, 0])]));
     let good = ("PID\n", book_ax(&[]));
-    let rows: [(&str, &str, &str, &[&str]); 12] = [
+    let rows: [(&str, &str, &str, &[&str]); 22] = [
         ("ADT^A01", "P", "2.5.1", &[e200, e201]),
         ("", "P", "2.5.1", &[e200, e201]),
         ("VXU^V03^VXU_V04", "P", "2.5.1", &[e201]),
@@ -213,6 +215,17 @@ fn headers() -> Vec<Sample> {
         ("VXU^V04~ADT", "D", "2.5.1^x", &[]),
         ("VXU^V04~ADT", "P^T", "2.5.1^x", &[]),
         ("VXU^V04~ADT", "P~X", "2.5.1^x", &[]),
+        // Two quotes are compared like other text (A3 of 02).
+        ("\"\"", "P", "2.5.1", &[e200, e201]),
+        ("\"\"^V04", "P", "2.5.1", &[e200]),
+        ("VXU^\"\"", "P", "2.5.1", &[e201]),
+        ("\"\"^\"\"", "P", "2.5.1", &[e200, e201]),
+        ("VXU^V04", "\"\"", "2.5.1", &[e202]),
+        ("VXU^V04", "P", "\"\"", &[e203]),
+        ("VXU\"\"^V04", "P\"\"", "2.5.1\"\"", &[e200, e202, e203]),
+        ("\"\"", "\"\"", "\"\"", &[e200, e201, e202, e203]),
+        ("VXU^V04^\"\"", "P^\"\"", "2.5.1^\"\"", &[]),
+        ("VXU^V04~\"\"", "D~\"\"", "2.5.1~\"\"", &[]),
     ];
     let mut all = Vec::new();
     for (kind, processing, version, findings) in rows {

@@ -1,4 +1,9 @@
-//! Whether a single value is a NUMBER, a DATE or a TIME.
+//! What counts as a value, and whether a value is a NUMBER, a DATE or a TIME.
+
+/// Two quotes ask a registry to delete what it holds, so they are no more a value than nothing is (A3 of 02).
+pub fn is_value(bytes: &[u8]) -> bool {
+    !matches!(bytes, b"" | b"\"\"")
+}
 
 /// Optional sign, digits with at most one point, at least one digit.
 pub fn is_number(value: &[u8]) -> bool {
@@ -81,6 +86,19 @@ fn number(digits: &[u8]) -> u32 {
 #[cfg(test)]
 mod tests {
     use super::*;
+
+    #[test]
+    fn only_nothing_and_two_quotes_are_no_value() {
+        assert!(!is_value(b"") && !is_value(b"\"\""));
+        for first in 0..=255 {
+            assert!(is_value(&[first]), "{first}");
+            for second in 0..=255 {
+                let pair = [first, second];
+                assert_eq!(is_value(&pair), pair != *b"\"\"", "{pair:?}");
+                assert!(is_value(&[b'"', first, second]) && is_value(&[first, second, b'"']), "{pair:?}");
+            }
+        }
+    }
 
     #[test]
     fn numbers() {

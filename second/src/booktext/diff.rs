@@ -5,7 +5,8 @@ use crate::book::{Book, Kind, Rule, Section, Set};
 use std::borrow::Cow;
 use std::collections::{HashMap, HashSet};
 
-/// A line for each thing by which a message could be judged otherwise or a rule have another number.
+/// A line for each thing by which a message could be judged otherwise or a rule have another number. A code of two quotes
+/// is told like others, although since A3 of 02 no value is compared with it.
 pub fn text(old: &Book, new: &Book) -> String {
     let mut text = String::new();
     for section in old.sections() {

@@ -99,7 +99,11 @@ fn field(random: &mut Random, rule: &RuleBytes, section: &SectionPlan) -> Vec<u8
 fn repetition(random: &mut Random, rule: &RuleBytes, section: &SectionPlan) -> Vec<u8> {
     let mut components = Vec::new();
     for _ in 1..rule[4] {
-        components.push(if random.one_in(4) { near::filler(random) } else { Vec::new() });
+        components.push(match random.below(8) {
+            0 | 1 => near::filler(random),
+            2 => near::quotes(random),
+            _ => Vec::new(),
+        });
     }
     // Sometimes the repetition stops before the rule's component.
     if rule[4] == 0 || !random.one_in(8) {
@@ -116,10 +120,10 @@ fn header(random: &mut Random, draft: &mut Draft, key: &[u8]) {
     *draft.header(2) = b"^~\\&".to_vec();
     for field in [3, 4, 5] {
         if random.one_in(2) {
-            *draft.header(field) = random.pick(&[b"CAB".as_slice(), b"C1^x&y~z", b"", b"REG", b"\"\""]).to_vec();
+            *draft.header(field) = random.pick(&[b"CAB".as_slice(), b"C1^x&y~z", b"", b"REG", near::QUOTES]).to_vec();
         }
     }
-    let rest = random.pick(&[b"".as_slice(), b"", b"", b"^1.2^ISO", b"~BX", b"^", b"~"]);
+    let rest = random.pick(&[b"".as_slice(), b"", b"", b"^1.2^ISO", b"~BX", b"^", b"~", b"^\"\""]);
     *draft.header(6) = [key, rest].concat();
     *draft.header(10) = control_id(random);
     let wrong = if random.one_in(6) { random.below(16) } else { 0 };
@@ -129,27 +133,32 @@ fn header(random: &mut Random, draft: &mut Draft, key: &[u8]) {
 /// Supported or, where its bit is set, unsupported values for findings 200 to 203.
 pub fn set_header(random: &mut Random, draft: &mut Draft, wrong: usize) {
     let bit = |k: usize| wrong & (1 << k) != 0;
-    let kind: &[&[u8]] = if bit(0) { &[b"ADT", b"", b"vxu", b"VXU&x", b"VX", b"VXUX", b"~VXU"] } else { &[b"VXU"] };
-    let event: &[&[u8]] = if bit(1) { &[b"^A01", b"^", b"", b"^V04&", b"^v04", b"^^V04"] } else { &[b"^V04"] };
+    let kind: &[&[u8]] =
+        if bit(0) { &[b"ADT", b"", near::QUOTES, b"vxu", b"VXU&x", b"VX", b"VXUX", b"~VXU"] } else { &[b"VXU"] };
+    let event: &[&[u8]] =
+        if bit(1) { &[b"^A01", b"^", b"", b"^\"\"", b"^V04&", b"^v04", b"^^V04"] } else { &[b"^V04"] };
     let kind = random.pick(kind).to_vec();
     // A tilde would hide the event in the second repetition.
     let kind = if kind[..] == *b"~VXU" && !bit(1) { b"V".to_vec() } else { kind };
-    let rest = random.pick(&[b"^VXU_V04".as_slice(), b"", b"~ADT^A01"]);
+    let rest = random.pick(&[b"^VXU_V04".as_slice(), b"", b"~ADT^A01", b"^\"\""]);
     let event = random.pick(event);
     *draft.header(9) = if event.is_empty() { kind } else { [&kind, event, rest].concat() };
     let processing: &[&[u8]] = match bit(2) {
-        true => &[b"X", b"", b"p", b"PT", b"P&", b"^P", b"~P"],
-        false => &[b"P", b"T", b"D", b"P^T", b"T~X"],
+        true => &[b"X", b"", near::QUOTES, b"p", b"PT", b"P&", b"^P", b"~P"],
+        false => &[b"P", b"T", b"D", b"P^T", b"T~X", b"D^\"\""],
     };
     *draft.header(11) = random.pick(processing).to_vec();
     let version: &[&[u8]] = match bit(3) {
-        true => &[b"2.5", b"", b"2.5.1 ", b"2.5.10", b"2.3.1", b"^2.5.1"],
-        false => &[b"2.5.1", b"2.5.1^USA", b"2.5.1~2.3"],
+        true => &[b"2.5", b"", near::QUOTES, b"2.5.1 ", b"2.5.10", b"2.3.1", b"^2.5.1"],
+        false => &[b"2.5.1", b"2.5.1^USA", b"2.5.1~2.3", b"2.5.1~\"\""],
     };
     *draft.header(12) = random.pick(version).to_vec();
 }
 
 fn control_id(random: &mut Random) -> Vec<u8> {
+    if random.one_in(16) {
+        return random.pick(&[near::QUOTES, near::QUOTES, b"\"\"^x", b"~\"\""]).to_vec();
+    }
     let length = random.pick(&[1, 2, 2, 8, 20, 198, 199]);
     random.text(b"M019~^& ", length)
 }

@@ -188,7 +188,7 @@ fn trailer(random: &mut Random, name: &[u8], count: usize) -> Vec<u8> {
 
 /// A count near to the right one, or a number that a narrower type would take for it.
 fn wrong_count(random: &mut Random, count: usize) -> String {
-    match random.below(14) {
+    match random.below(15) {
         0 => (count + 1).to_string(),
         1 => count.checked_sub(1).unwrap_or(2).to_string(),
         2 => format!("{count}0").replacen("00", "10", 1),
@@ -199,6 +199,7 @@ fn wrong_count(random: &mut Random, count: usize) -> String {
         7 => (count as u128 + (1 << 64)).to_string(),
         8 => format!(" {count}"),
         9 => format!("+{count}"),
+        10 => "\"\"".into(),
         _ => format!("{count}{}", random.pick(&["~", "^", " ", ".", "a", ".0", "-", "~1"])),
     }
 }

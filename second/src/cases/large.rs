@@ -14,7 +14,7 @@ pub fn message(random: &mut Random, heavy: bool) -> (Vec<u8>, Vec<u8>) {
     let length = MESSAGE_LIMIT + random.pick(&[0, 0, 0, 0, 1]) - random.pick(&[0, 0, 0, 1, 3]);
     let name = NAMES[random.below(NAMES.len())].bytes();
     let mut section = SectionPlan::new("AX");
-    section.sets = vec![(0..random.pick(&[1, 20, 1024])).map(|_| near::word(random)).collect()];
+    section.sets = vec![(0..random.pick(&[1, 20, 1024])).map(|_| near::word_or_quotes(random)).collect()];
     let rules = if heavy { random.pick(&[64, 256]) } else { random.pick(&[0, 1, 2, 4]) };
     section.rules = (0..rules).map(|_| rule_on(random, name)).collect();
     let mut message = HEADER.to_vec();
@@ -54,7 +54,7 @@ fn many_pieces(random: &mut Random, message: &mut Vec<u8>, name: &[u8], delimite
     message.extend(name);
     // Field 3 of MSH is part 2, of others part 3.
     message.extend(if name == b"MSH" { b"|^~|".as_slice() } else { b"|||" });
-    let pieces: [&[u8]; 6] = [b"", b"1", b"x", b"A", b"2024", b"20240229"];
+    let pieces: [&[u8]; 7] = [b"", b"1", b"x", b"A", b"2024", b"20240229", near::QUOTES];
     let piece = random.pick(&pieces);
     let mixed = random.one_in(3);
     while message.len() + 10 <= length {

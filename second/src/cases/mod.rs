@@ -324,7 +324,7 @@ fn paired(random: &mut Random, (earlier, later): Pair) -> Case {
 /// One rule of a kind and severity on PID-3, and values for it until one breaks it.
 fn broken_rule(random: &mut Random, kind: u8, severity: u8) -> Case {
     loop {
-        let sets = vec![vec![near::word(random)]];
+        let sets = vec![vec![near::word_or_quotes(random)]];
         let mut rule = plans::rule_of_kind(random, kind, 1);
         rule[..4].copy_from_slice(b"PID\x03");
         rule[6] = severity;
@@ -399,14 +399,15 @@ fn mutate(random: &mut Random, message: &mut Vec<u8>) {
     }
 }
 
-/// Drops, doubles, swaps or empties a piece between delimiters.
+/// Drops, doubles, swaps or empties a piece between delimiters, or puts two quotes in its place.
 fn mutate_pieces(random: &mut Random, message: &mut Vec<u8>, delimiter: u8) {
     let mut pieces: Vec<Vec<u8>> = message.split(|b| *b == delimiter).map(<[u8]>::to_vec).collect();
     let (at, other) = (random.below(pieces.len()), random.below(pieces.len()));
-    match random.below(4) {
+    match random.below(5) {
         0 => drop(pieces.remove(at)),
         1 => pieces.insert(other, pieces[at].clone()),
         2 => pieces.swap(at, other),
+        3 => pieces[at] = near::QUOTES.to_vec(),
         _ => pieces[at].clear(),
     }
     *message = pieces.join(&delimiter);

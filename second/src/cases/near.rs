@@ -5,6 +5,8 @@ use crate::books::{RuleBytes, SectionPlan};
 
 const WORD: &[u8] = b"ABXYabxy019.-_!#}\"";
 const FILLER: &[u8] = b"abcXYZ 019.&\\\"-+#!$'";
+/// What is no value although it is not empty.
+pub const QUOTES: &[u8] = b"\"\"";
 /// February more often, since its last day depends on the year too.
 const MONTHS: [&str; 14] = ["01", "02", "02", "02", "03", "04", "05", "06", "07", "08", "09", "10", "11", "12"];
 
@@ -14,6 +16,7 @@ pub fn value(random: &mut Random, rule: &RuleBytes, section: &SectionPlan) -> Ve
     match (random.below(16), kind) {
         (0, _) => Vec::new(),
         (1, _) => filler(random),
+        (2 | 3, _) => quotes(random),
         (_, 2) => length(random, low, high),
         (_, 3) => number(random),
         (_, 4) => date(random),
@@ -27,6 +30,28 @@ pub fn value(random: &mut Random, rule: &RuleBytes, section: &SectionPlan) -> Ve
 pub fn filler(random: &mut Random) -> Vec<u8> {
     let length = random.below(6);
     random.text(FILLER, length)
+}
+
+/// Two quotes, or an ordinary value near to them, at component 0 also one with another component.
+pub fn quotes(random: &mut Random) -> Vec<u8> {
+    let near: [&[u8]; 14] = [
+        b"\"",
+        b"\"\"\"",
+        b"\"\"\"\"",
+        b"\"\"x",
+        b"x\"\"",
+        b" \"\"",
+        b"\"\" ",
+        b"\" \"",
+        b"\"\"&\"\"",
+        b"&\"\"",
+        b"\"x",
+        b"''",
+        b"\"\"^",
+        b"\"\"^x",
+    ];
+    let value = if random.one_in(2) { QUOTES } else { random.pick(&near) };
+    value.to_vec()
 }
 
 fn length(random: &mut Random, low: u8, high: u8) -> Vec<u8> {
@@ -146,6 +171,15 @@ pub fn near_word(random: &mut Random, word: &[u8]) -> Vec<u8> {
 pub fn word(random: &mut Random) -> Vec<u8> {
     let length = random.pick(&[1, 1, 2, 2, 2, 3, 3, 4, 5, 6, 19, 20]);
     random.text(WORD, length)
+}
+
+/// The same, now and then two quotes.
+pub fn word_or_quotes(random: &mut Random) -> Vec<u8> {
+    if random.one_in(16) {
+        QUOTES.to_vec()
+    } else {
+        word(random)
+    }
 }
 
 /// Real in every year: the first day, and each month's last, of February the 28th.

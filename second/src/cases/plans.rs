@@ -8,7 +8,7 @@ use crate::order::NAMES;
 /// Some sections and which of them the message is to name.
 pub fn sections(random: &mut Random) -> (Vec<SectionPlan>, usize) {
     let key = match random.below(4) {
-        0 => near::word(random),
+        0 => near::word_or_quotes(random),
         _ => random.pick(&[b"AX".as_slice(), b"ND0000", b"NJDOH", b"A", b"12345678901234567890"]).to_vec(),
     };
     let mut sections = vec![section(random, key.clone())];
@@ -29,7 +29,7 @@ fn section(random: &mut Random, key: Vec<u8>) -> SectionPlan {
     let mut section = SectionPlan { key, ..SectionPlan::default() };
     for _ in 0..random.pick(&[0, 1, 1, 2, 3]) {
         let count = random.pick(&[1, 1, 2, 3, 6, 17, 18, 40]);
-        let set = (0..count).map(|_| near::word(random)).collect();
+        let set = (0..count).map(|_| near::word_or_quotes(random)).collect();
         section.sets.push(set);
     }
     let count = random.pick(&[0, 1, 1, 2, 3, 4, 5, 6, 8, 12, 30]);

@@ -22,6 +22,7 @@ pub fn samples() -> Vec<BatchSample> {
     let mut all = examples();
     all.extend(single_answers());
     all.extend(sections());
+    all.extend(quotes());
     all.extend(frames());
     all.extend(strays());
     all.extend(counts());
@@ -152,6 +153,54 @@ fn sections() -> Vec<BatchSample> {
     vec![
         sample("a section for each message", BatchCase { book: book.clone(), ..case(&framed(&body)) }, &acks),
         sample("a section that is not there", BatchCase { book, ..case(&framed(&other)) }, "refused 15 2\n"),
+    ]
+}
+
+/// Two quotes in messages (A3 of 02): as a birth date under each kind, beside a component, as MSH-10, as the key of a
+/// section, and near to them. In BTS-1 and FTS-1 they are counts that differ.
+fn quotes() -> Vec<BatchSample> {
+    let born = vec![rule("PID", 7, 1, 4, b'E', [0, 0, 0]), rule("PID", 7, 1, 1, b'W', [0, 0, 0])];
+    let other_kinds = [(2, [0, 5, 9]), (3, [0, 0, 0]), (5, [0, 8, 0]), (6, [1, 0, 0])];
+    let other = other_kinds.map(|(kind, uses)| rule("PID", 7, 0, kind, b'E', uses)).to_vec();
+    let book = books::encode(&[
+        SectionPlan { rules: born, ..SectionPlan::new("AX") },
+        SectionPlan { rules: other, sets: vec![vec![b"X".to_vec()]], ..SectionPlan::new("\"\"") },
+    ]);
+    let named = |key: &str, id: &str, born: &str| {
+        format!("MSH|^~\\&|CAB|C1|REG|{key}|||VXU^V04|{id}|P|2.5.1\nPID|||||||{born}\n")
+    };
+    let answered = |key: &str, control: u32, rest: &str| {
+        format!(
+            "MSH|^~\\&|REG|{key}|CAB|C1|20250113120000+0000||ACK^V04^ACK|{control}|P|2.5.1|||NE|NE|||||Z23^CDCPHINVS\n\
+             MSA|{rest}"
+        )
+    };
+    let missing = "ERR||PID^1^7^1^1|101^Required field missing^HL70357|W|2^^L\n";
+    let wrong = "ERR||PID^1^7^1^1|102^Data type error^HL70357|E|1^^L\n";
+    let body = [
+        named("AX", "M1", "\"\""),
+        named("AX", "\"\"", "20240229~\"\""),
+        named("\"\"", "M3", "\"\""),
+        named("AX", "M4", "\"\"^x"),
+        "MSH!#$%'!CAB!C1!REG!AX!!!VXU#V04!M5!P!2.5.1\nPID!!!!!!!\"\"#x$\"\"^x\n".into(),
+        named("AX", "M6", "\"\" "),
+    ];
+    let acks = [
+        answered("AX", 7, "AE|M1\n") + missing,
+        answered("AX", 8, "AA|\"\"\n"),
+        answered("\"\"", 9, "AA|M3\n"),
+        answered("AX", 10, "AE|M4\n") + missing,
+        "MSH!#$%'!REG!AX!CAB!C1!20250113120000+0000!!ACK#V04#ACK!11!P!2.5.1!!!NE!NE!!!!!Z23#CDCPHINVS\n\
+         MSA!AE!M5\n\
+         ERR!!PID#1#7#2#1!102#Data type error#HL70357!E!1##L\n\
+         ERR!!PID#1#7#1#1!101#Required field missing#HL70357!W!2##L\n"
+            .into(),
+        answered("AX", 12, "AE|M6\n") + wrong,
+    ];
+    let unnamed = framed(&(named("AX", "M1", "\"\"") + &named("\"\"", "M2", "\"\"")));
+    vec![
+        sample("two quotes", BatchCase { book, ..case(&framed(&body.concat())) }, &acks.concat()),
+        sample("two quotes that are no key", case(&unnamed), "refused 15 2\n"),
     ]
 }
 

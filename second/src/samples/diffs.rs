@@ -156,6 +156,8 @@ fn changes() -> Vec<DiffSample> {
         ),
         told("a code gone and one new", coded("F M U", "F M X"), "A ~ 1 PID-8 CODE -U +X\n"),
         told("a code gone", coded("F M U", "F U"), "A ~ 1 PID-8 CODE -M\n"),
+        told("two quotes gone", coded("F \"\"", "F"), "A ~ 1 PID-8 CODE -\"\"\n"),
+        told("two quotes new", coded("F \"", "F \"\" \""), "A ~ 1 PID-8 CODE +\"\"\n"),
         told("a code new", coded("F M", "A F M"), "A ~ 1 PID-8 CODE +A\n"),
         told(
             "codes in the order of their sets, a double one twice",

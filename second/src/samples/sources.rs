@@ -23,6 +23,10 @@ const SECTION: &str = "book 1\nsection A\n";
 /// A book of one section without anything, whose key is A.
 const EMPTY_BOOK: &[u8] = b"VXB\0\x01\x01\x01A\0\0\0";
 
+/// Two quotes are a word like others (A3 of 02 is about values alone).
+const QUOTED: &str = "book 1\nset s \"\" x\nsection \"\"\nrule PID-3 CODE E s\n";
+const QUOTED_BOOK: &[u8] = b"VXB\0\x01\x01\x02\"\"\0\x01\x01PID\x03\0\x06E\x01\0\0\0\x02\x02\"\"\x01x";
+
 /// Every sample with an expectation by hand.
 pub fn samples() -> Vec<BookSample> {
     let mut all = page_example();
@@ -226,6 +230,7 @@ fn books_by_hand() -> Vec<BookSample> {
     vec![
         book("the shortest text", "book 1\nsection A", EMPTY_BOOK),
         book("each kind", kinds, kind_bytes),
+        book("two quotes for a key and a code", QUOTED, QUOTED_BOOK),
         book("each segment", format!("{SECTION}{lines}"), [b"VXB\0\x01\x01\x01A\0\x0A\0".as_slice(), &rules].concat()),
         book("each time", format!("{SECTION}{time_lines}"), [b"VXB\0\x01\x01\x01A\0\x06\0", &time_rules[..]].concat()),
         book(
@@ -429,6 +434,7 @@ fn legends() -> Vec<BookSample> {
     vec![
         legend("the shortest text", "book 1\nsection A", "A 0\n"),
         legend("words for people", words, meant),
+        legend("two quotes for a key and a code", QUOTED, "\"\" 0\n\"\" 1 PID-3 CODE E s\n"),
         legend(
             "every kind of bound",
             "book 1\nset s^ x\nsection A\nrule PID-1 REQUIRED E\nrule PID-1 NUMBER W\nrule PID-1 TIME I 10\n\

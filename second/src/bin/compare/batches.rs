@@ -1,6 +1,7 @@
 //! What the batches among the cases hit.
 
-use crate::coverage::{Row, LONGEST};
+use crate::coverage::{Hits, Row, KINDS, LONGEST};
+use crate::quotes::Hit;
 use second::batch::{self, FILE_LIMIT, POINTS};
 use second::cases::{BatchCase, Pair, BATCH_PAIRS, ROWS};
 
@@ -24,6 +25,8 @@ pub struct Batches {
     /// Answered files by the number of messages.
     sizes: [u64; SIZES.len()],
     verdicts: [u64; VERDICTS.len()],
+    /// Answered files of which a message has two quotes under a rule, by its kind.
+    quotes: [u64; KINDS.len()],
     /// Answered files of which a message has other delimiters than the file.
     delimiters: u64,
     longest: u64,
@@ -53,6 +56,11 @@ impl Batches {
         self.longest += u64::from(case.file.len() == FILE_LIMIT && !messages.is_empty());
         self.delimiters += u64::from(messages.iter().any(|message| message[3..8] != case.file[3..8]));
         if length < LONGEST {
+            let hits: Vec<Hits> = messages.iter().filter_map(|message| Hits::of(message, &case.book).ok()).collect();
+            for (kind, count) in self.quotes.iter_mut().enumerate() {
+                let is_under = |hit: &Hit| matches!(hit, Hit::Component { kind: under, .. } if *under == kind);
+                *count += u64::from(hits.iter().flat_map(|hits| &hits.quotes).any(is_under));
+            }
             let printed = case.printed();
             let codes = printed.split(|b| *b == b'\n').filter(|segment| segment.starts_with(b"MSA"));
             for (verdict, count) in VERDICTS.iter().zip(&mut self.verdicts) {
@@ -87,6 +95,9 @@ impl Batches {
         }
         for (verdict, count) in VERDICTS.iter().zip(self.verdicts) {
             add(format!("an ACK with {verdict}"), count);
+        }
+        for ((_, kind), count) in KINDS.iter().zip(self.quotes) {
+            add(format!("two quotes under {kind}"), count);
         }
         add("delimiters of file and message differ".into(), self.delimiters);
         add("answered at 1 MiB".into(), self.longest);

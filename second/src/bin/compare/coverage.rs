@@ -1,10 +1,11 @@
 //! What the cases hit: refusals and their pairs, findings, combinations of header findings and of severities, what other
-//! delimiters bring, the ends of months, what batches do, what books as text do and what differences tell.
+//! delimiters bring, the ends of months, two quotes, what batches do, what books as text do and what differences tell.
 
 use crate::batches::Batches;
 use crate::books::Books;
 use crate::diffs::Diffs;
 use crate::months::{self, Edge, Months};
+use crate::quotes::{self, Quotes};
 use second::book::{Book, Kind, Rule};
 use second::booktext::Told;
 use second::cases::{AnyCase, Case, Pair};
@@ -14,10 +15,12 @@ use std::collections::HashSet;
 
 /// Longer ACKs are not graded once more to be counted.
 pub const LONGEST: u64 = 100_000;
-const USUAL: &[u8] = b"|^~\\&";
+pub const USUAL: &[u8] = b"|^~\\&";
 /// Row 4's points, as `cutting::row_4` has them.
 const BEGINNINGS: [&str; 5] = ["fewer bytes", "another name", "a byte not allowed", "two equal", "byte 8"];
-const KINDS: [&str; 6] = ["101 REQUIRED", "102 LENGTH", "102 NUMBER", "102 DATE", "102 TIME", "103 CODE"];
+/// Codes and kinds, as `kind_index` has them.
+pub const KINDS: [(u8, &str); 6] =
+    [(101, "REQUIRED"), (102, "LENGTH"), (102, "NUMBER"), (102, "DATE"), (102, "TIME"), (103, "CODE")];
 
 /// The bits of E and W, which make an AE.
 const GRAVE: usize = 0b011;
@@ -43,6 +46,7 @@ pub struct Coverage {
     later_header: u64,
     caret_in_key: u64,
     months: Months,
+    quotes: Quotes,
     batches: Batches,
     books: Books,
     diffs: Diffs,
@@ -81,16 +85,28 @@ impl Coverage {
                 }
             }
             5 => self.later_header += u64::from(is_foreign_header(&case.message, detail as usize)),
-            9 => self.caret_in_key += u64::from(has_caret_in_key(&case.message)),
+            9 => self.count_key(&case.message),
             _ => {}
         }
     }
 
+    /// A key that no section has. It can hold a caret where another byte cuts components.
+    fn count_key(&mut self, m: &[u8]) {
+        if let Ok(message) = Message::read(m) {
+            let key = findings::first_value(message, &message.header(), 6, 1);
+            self.caret_in_key += u64::from(key.contains(&b'^'));
+            self.quotes.count_no_key(key);
+        }
+    }
+
     fn count_findings(&mut self, case: &Case, written: bool) {
-        let hits = Hits::of(case).unwrap_or_default();
+        let hits = Hits::of(&case.message, &case.book).unwrap_or_default();
         self.order += u64::from(hits.order);
         self.end += u64::from(hits.end);
         self.headers[hits.header] += 1;
+        if written {
+            self.quotes.count(&hits.quotes);
+        }
         if written && hits.header == 0 {
             self.severities[hits.severities] += 1;
             self.months.count(&hits.edges);
@@ -109,6 +125,7 @@ impl Coverage {
         rows.extend(self.combination_rows());
         rows.extend(self.delimiter_rows());
         rows.extend(self.months.rows());
+        rows.extend(self.quotes.rows());
         rows.extend(self.batches.rows());
         rows.extend(self.books.rows());
         rows.extend(self.diffs.rows());
@@ -136,10 +153,9 @@ impl Coverage {
         }
         rows.push(("finding 100 E order".into(), self.order));
         rows.push(("finding 100 E end".into(), self.end));
-        for (kind, counts) in KINDS.iter().zip(self.rules) {
-            let (code, kind) = kind.split_at(3);
+        for ((code, kind), counts) in KINDS.iter().zip(self.rules) {
             rows.extend(
-                "EWI".chars().zip(counts).map(|(letter, count)| (format!("finding {code} {letter}{kind}"), count)),
+                "EWI".chars().zip(counts).map(|(letter, count)| (format!("finding {code} {letter} {kind}"), count)),
             );
         }
         for code in 0..4 {
@@ -178,9 +194,15 @@ fn is_foreign_header(m: &[u8], start: usize) -> bool {
     cutting::row_4(&m[start..]) == [true; 5] && m[start + 3] != m[3]
 }
 
-/// Whether MSH-6.1 holds a caret, which it can where another byte cuts components.
-fn has_caret_in_key(m: &[u8]) -> bool {
-    Message::read(m).is_ok_and(|message| findings::first_value(message, &message.header(), 6, 1).contains(&b'^'))
+pub fn kind_index(kind: Kind) -> usize {
+    match kind {
+        Kind::Required => 0,
+        Kind::Length { .. } => 1,
+        Kind::Number => 2,
+        Kind::Date => 3,
+        Kind::Time { .. } => 4,
+        Kind::Code { .. } => 5,
+    }
 }
 
 /// The names whose bits are set.
@@ -194,7 +216,7 @@ fn chosen(mask: usize, names: &[&str]) -> String {
 }
 
 #[derive(Default)]
-struct Hits {
+pub struct Hits {
     order: bool,
     end: bool,
     rules: [[bool; 3]; 6],
@@ -203,18 +225,20 @@ struct Hits {
     /// One bit for each of E, W, I.
     severities: usize,
     edges: HashSet<Edge>,
+    pub quotes: HashSet<quotes::Hit>,
 }
 
 impl Hits {
-    /// The findings of a case that meets none of refusals 1 to 10.
-    fn of(case: &Case) -> Result<Hits, Refusal> {
-        let message = Message::read(&case.message)?;
+    /// The findings of a message that meets none of refusals 1 to 10.
+    pub fn of(message: &[u8], book: &[u8]) -> Result<Hits, Refusal> {
+        let message = Message::read(message)?;
         let header = message.header();
-        let book = Book::read(&case.book)?;
+        let book = Book::read(book)?;
         let section = book.section(findings::first_value(message, &header, 6, 1))?;
         let rules: Vec<Rule> = section.rules().collect();
         let mut hits = Hits { edges: months::edges(message, &rules), ..Hits::default() };
-        findings::grade(message, &header, &section, |finding| hits.add(&rules, finding));
+        let rejected = findings::grade(message, &header, &section, |finding| hits.add(&rules, finding));
+        hits.quotes = quotes::hits(message, &header, &section, rejected);
         Ok(hits)
     }
 
@@ -234,16 +258,27 @@ impl Hits {
             (100, _) => self.order = true,
             (code @ 200.., _) => self.header |= 1 << (code - 200),
             _ => {
-                let kind = match rules[usize::from(finding.rule) - 1].kind {
-                    Kind::Required => 0,
-                    Kind::Length { .. } => 1,
-                    Kind::Number => 2,
-                    Kind::Date => 3,
-                    Kind::Time { .. } => 4,
-                    Kind::Code { .. } => 5,
-                };
+                let kind = kind_index(rules[usize::from(finding.rule) - 1].kind);
                 self.rules[kind][finding.severity as usize] = true;
             }
         }
+    }
+}
+
+#[cfg(test)]
+mod tests {
+    use super::*;
+    use second::cases::AllCases;
+
+    #[test]
+    #[cfg_attr(debug_assertions, ignore = "takes long where nothing is optimised")]
+    fn the_first_cases_hit_everything() {
+        let cases = AllCases::new(1);
+        let mut coverage = Coverage::default();
+        for (case, pair) in (0..cases.firsts()).map(|index| cases.case(index)) {
+            let told = case.answer(&mut vec![0; case.output_length()]);
+            coverage.count(&case, pair, told);
+        }
+        assert!(coverage.print());
     }
 }

@@ -6,6 +6,7 @@ mod books;
 mod coverage;
 mod diffs;
 mod driven;
+mod judged;
 mod library;
 #[cfg(feature = "ours")]
 mod linked;
@@ -14,6 +15,7 @@ mod months;
 #[path = "../../ours.rs"]
 mod ours;
 mod program;
+mod quotes;
 mod traits;
 
 use library::Library;

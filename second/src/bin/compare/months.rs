@@ -1,10 +1,10 @@
 //! The months whose last day is taken and whose day after it is not, by DATE, by TIME and in the stamp.
 
 use crate::coverage::Row;
+use crate::judged;
 use second::ack::is_stamp;
 use second::book::{Kind, Rule};
 use second::cutting::Message;
-use second::order::Name;
 use std::collections::HashSet;
 
 const USES: [&str; 3] = ["DATE", "TIME", "stamp"];
@@ -63,20 +63,11 @@ pub fn edges(message: Message, rules: &[Rule]) -> HashSet<Edge> {
             Kind::Time { .. } => 1,
             _ => continue,
         };
-        edges.extend(values(message, rule).into_iter().filter_map(|value| edge(by, value, |v| !rule.broken(v, &[]))));
+        let repetitions = judged::fields(message, rule).into_iter().flatten();
+        let values = repetitions.map(|repetition| judged::value(message, rule, repetition));
+        edges.extend(values.filter_map(|value| edge(by, value, |v| !rule.broken(v, &[]))));
     }
     edges
-}
-
-fn values<'m>(message: Message<'m>, rule: &Rule) -> Vec<&'m [u8]> {
-    let mut values = Vec::new();
-    let mut fields = message.header();
-    for segment in message.segments().filter(|segment| Name::of(message.name(*segment)) == Some(rule.name)) {
-        fields.cut(message, segment);
-        let repetitions = message.repetitions(fields.field(rule.field.into()));
-        values.extend(repetitions.map(|part| message.text(message.component(part, rule.component.into()))));
-    }
-    values
 }
 
 pub fn stamp_edge(stamp: &[u8]) -> Option<Edge> {

@@ -1,6 +1,6 @@
 //! Books that are shown, and those that are none.
 
-use super::{numbered, repeated, sample, show, BookSample, EMPTY_BOOK, ROOM};
+use super::{numbered, repeated, sample, show, BookSample, EMPTY_BOOK, QUOTED_BOOK, ROOM};
 use crate::books::{self, SectionPlan};
 use crate::cases::BookCall;
 
@@ -21,6 +21,11 @@ fn shown_books() -> Vec<BookSample> {
     vec![
         show("no rule and no set", EMPTY_BOOK, "book 1\nsection A\n"),
         show("two sections", b"VXB\0\x01\x02\x01A\0\0\0\x01a\0\0\0", "book 1\nsection A\nsection a\n"),
+        show(
+            "two quotes for a key and a code",
+            QUOTED_BOOK,
+            "book 1\nset \"\"/1\ncode \"\"\ncode x\nsection \"\"\nsets \"\"/1\nrule PID-3 CODE E \"\"/1\n",
+        ),
         show(
             "each kind",
             b"VXB\0\x01\x01\x01A\0\x07\x01PID\x01\0\x01E\0\0\0PID\x63\x14\x02W\0\x01\xFFPID\x03\0\x03I\0\0\0\
