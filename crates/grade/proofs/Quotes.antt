@@ -1,6 +1,6 @@
 -- Two quotes are not a value: what counts as one, as the code asks it, and what two quotes break. Assumes nothing.
 use mathlib.Core.Path.{_≡_, refl, sym, _∙_}
-use mathlib.Core.Bool.{Bool, true, false, cond, not, _&&_, _||_, true≢false}
+use mathlib.Core.Bool.{Bool, true, false, cond, not, _&&_, _||_}
 use mathlib.Core.List.{List, [], _∷_}
 use Prim.Native.Nat.{ℕ}
 use native.Mathlib.Omega.{arith}
@@ -11,8 +11,6 @@ use Rattle.hl7.specs.Text.{bytes}
 use Rattle.hl7.specs.Bytes.{same, among}
 use Rattle.hl7.proofs.Comparing.{same-lengths}
 use Rattle.grade.specs.Broken.{isValue, isRequired, fits, broken, judges, codesOf, breaksRule}
-use Rattle.grade.specs.declared.rule.Kind.{Kind}
-use Rattle.grade.specs.declared.rule.Kind.the-variants.{Required, Length, Number, Date, Time, Code}
 use Rattle.grade.specs.declared.rule.Rule.{Rule}
 
 abbrev quotes : List ℕ
@@ -37,20 +35,6 @@ pub value-of-others : (v : List ℕ) → (length v ≡ 2 → ⊥) → ltb 0 (len
 unfolding isValue among same
 value-of-others [] e = refl
 value-of-others (x ∷ v) e = lt-ltb 0 (length (x ∷ v)) (omega arith) ∙ sym (rw (same-lengths (x ∷ v) quotes e))
-
--- ---- REQUIRED is broken where there is none
-pub required-broken : (kind : Kind) (codes : List (List ℕ)) (v : List ℕ) → isRequired kind ≡ true → broken kind codes v ≡ not (isValue v)
-unfolding broken
-required-broken Required codes v e = by (isValue v)
-  where
-    by : (b : Bool) → cond b false true ≡ not b
-    by true = refl
-    by false = refl
-required-broken (Length low high) codes v e = absurd (true≢false (sym e))
-required-broken Number codes v e = absurd (true≢false (sym e))
-required-broken Date codes v e = absurd (true≢false (sym e))
-required-broken (Time digits) codes v e = absurd (true≢false (sym e))
-required-broken (Code set) codes v e = absurd (true≢false (sym e))
 
 -- ---- what two quotes break: REQUIRED, at the first repetition, and no other kind, whatever the codes
 pub two-quotes : (sets : List (List (List ℕ))) (rule : Rule) (r : ℕ) → breaksRule sets rule r quotes ≡ (isRequired (rule .kind) && eqb r 0)

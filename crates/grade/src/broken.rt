@@ -54,16 +54,12 @@ fn does_fit(kind: Kind, value: &[u8], book: &[u8], codes: usize) -> bool
     }
 }
 
-// REQUIRED asks for a value, the other kinds judge one.
 fn is_broken(kind: Kind, value: &[u8], book: &[u8], codes: usize) -> bool
     requires { ⌜ CodesStand (now book) kind codes ⌝ }
     ensures { λ r. ⌜ r ≡ broken kind (codesAt (now (book .entry)) codes) (now (value .entry)) ⌝ }
 {
-    if is_required(kind) {
-        return !is_value(value);
-    }
     if !is_value(value) {
-        return false;
+        return is_required(kind);
     }
     !does_fit(kind, value, book, codes)
 }
