@@ -19,6 +19,7 @@ pub use delimiters::{exchange, Five, ALLOWED};
 pub use diffs::{DiffCase, DiffGenerator};
 #[cfg(test)]
 pub(crate) use faults::FAULTY_RULES;
+pub use near::QUOTES;
 pub use places::place;
 pub use random::Random;
 pub use sources::{number_of, BookCall, BookCase, BookGenerator, BOOK_ROWS, NO_SECTION};

@@ -54,13 +54,17 @@ fn message(id: &str) -> String {
 
 /// The answer to `message`. With a control number of one digit and an id of two bytes it takes 92 + 10 bytes.
 fn ack(control: u32, id: &str) -> String {
+    answered("AX", control, &format!("AA|{id}\n"))
+}
+
+/// The answer to a message that names this key; the rest is what stands behind `MSA|`.
+fn answered(key: &str, control: u32, rest: &str) -> String {
     format!(
-        "MSH|^~\\&|REG|AX|CAB|C1|20250113120000+0000||ACK^V04^ACK|{control}|P|2.5.1|||NE|NE|||||Z23^CDCPHINVS\n\
-         MSA|AA|{id}\n"
+        "MSH|^~\\&|REG|{key}|CAB|C1|20250113120000+0000||ACK^V04^ACK|{control}|P|2.5.1|||NE|NE|||||Z23^CDCPHINVS\n\
+         MSA|{rest}"
     )
 }
 
-/// A frame that says as little as it may.
 fn framed(body: &str) -> String {
     format!("FHS|^~\\&|\nBHS\n{body}BTS\nFTS\n")
 }
@@ -108,12 +112,7 @@ fn examples() -> Vec<BatchSample> {
 fn single_answers() -> Vec<BatchSample> {
     let header = "MSH|^~\\&|CAB|C1|REG|AX|||VXU^V04|M1|P|2.5.1\n";
     let body = format!("{header}PID\nORC\n{header}PID|||x\nORC\nRXA\nRXA\n{header}{header}PID\nORC\n");
-    let begin = |control: u32| {
-        format!(
-            "MSH|^~\\&|REG|AX|CAB|C1|20250113120000+0000||ACK^V04^ACK|{control}|P|2.5.1|||NE|NE|||||Z23^CDCPHINVS\n\
-             MSA|AE|M1\n"
-        )
-    };
+    let begin = |control: u32| answered("AX", control, "AE|M1\n");
     let missing = "ERR||PID^1^3^1|101^Required field missing^HL70357|I|1^^L\n";
     let end = "ERR|||100^Segment sequence error^HL70357|E|0^^L\n";
     let acks = [
@@ -138,12 +137,6 @@ fn sections() -> Vec<BatchSample> {
         |key: &str, field: u8, severity: u8| SectionPlan::new(key).rule(rule("PID", field, 0, 1, severity, [0, 0, 0]));
     let book = books::encode(&[required("AX", 3, b'E'), required("BX", 5, b'W'), SectionPlan::new("CX")]);
     let named = |key: &str| format!("MSH|^~\\&|CAB|C1|REG|{key}|||VXU^V04|M1|P|2.5.1\nPID\n");
-    let answered = |key: &str, control: u32, rest: &str| {
-        format!(
-            "MSH|^~\\&|REG|{key}|CAB|C1|20250113120000+0000||ACK^V04^ACK|{control}|P|2.5.1|||NE|NE|||||Z23^CDCPHINVS\n\
-             MSA|{rest}"
-        )
-    };
     let ax = "AE|M1\nERR||PID^1^3^1|101^Required field missing^HL70357|E|1^^L\n";
     let bx = "AE|M1\nERR||PID^1^5^1|101^Required field missing^HL70357|W|1^^L\n";
     let cx = "AA|M1\n";
@@ -168,12 +161,6 @@ fn quotes() -> Vec<BatchSample> {
     ]);
     let named = |key: &str, id: &str, born: &str| {
         format!("MSH|^~\\&|CAB|C1|REG|{key}|||VXU^V04|{id}|P|2.5.1\nPID|||||||{born}\n")
-    };
-    let answered = |key: &str, control: u32, rest: &str| {
-        format!(
-            "MSH|^~\\&|REG|{key}|CAB|C1|20250113120000+0000||ACK^V04^ACK|{control}|P|2.5.1|||NE|NE|||||Z23^CDCPHINVS\n\
-             MSA|{rest}"
-        )
     };
     let missing = "ERR||PID^1^7^1^1|101^Required field missing^HL70357|W|2^^L\n";
     let wrong = "ERR||PID^1^7^1^1|102^Data type error^HL70357|E|1^^L\n";

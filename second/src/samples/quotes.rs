@@ -1,7 +1,7 @@
 //! Two quotes, which are no value (A3 of 02), and values near to them, under each kind of rule; and places where they are
 //! what they were: the key, MSH-10 and copied fields. Those of the header are among its samples.
 
-use super::{at, book_ax, case, graded, lines, sample, Sample, END_FINDING};
+use super::{at, book_ax, case, graded, lines, sample, Sample, ACK_HEADER, END_FINDING};
 use crate::books::{self, rule, RuleBytes, SectionPlan};
 
 pub fn samples() -> Vec<Sample> {
@@ -274,19 +274,18 @@ fn segments() -> Vec<Sample> {
 
 /// What stands between the message's own delimiters is compared.
 fn own_delimiters() -> Vec<Sample> {
-    let ack = "MSH|^~\\&|REG|AX|CAB|C1|20250113120000+0000||ACK^V04^ACK|7|P|2.5.1|||NE|NE|||||Z23^CDCPHINVS\n";
     let five = lines(
         "MSH!#$%'!CAB!C1!REG!AX!!!VXU#V04!M1!P!2.5.1\n\
          PID!!!\"\"#x$\"\"$y#\"\"$\"\"^x$\"\"~\"\"\n",
     );
-    let five_ack = format!("{ack}{}", told(1, &[MISSING, PASSED, OF_1, OF_4, OF_5]));
+    let five_ack = format!("{ACK_HEADER}{}", told(1, &[MISSING, PASSED, OF_1, OF_4, OF_5]));
     let five_ack = five_ack.replace("|^~\\&|", "!#$%'!").replace('|', "!").replace('^', "#");
     // Caret and tilde have each other's meaning.
     let turned = lines(
         "MSH|~^\\&|CAB|C1|REG|AX|||VXU~V04|M1|P|2.5.1\n\
          PID|||\"\"^x^\"\"~y^x~\"\"\n",
     );
-    let turned_ack = format!("{ack}{}", told(1, &[MISSING, OF_1, PASSED, OF_1]));
+    let turned_ack = format!("{ACK_HEADER}{}", told(1, &[MISSING, OF_1, PASSED, OF_1]));
     let turned_ack = turned_ack.replace("^~\\&", "\t").replace('^', "~").replace('\t', "~^\\&");
     vec![
         at([2, 3, 1, 1], "\"\"", sample("quotes: other delimiters", case(five, book(1)), &five_ack)),

@@ -3,12 +3,12 @@
 use crate::coverage::{kind_index, Row, KINDS, USUAL};
 use crate::judged;
 use second::book::{Kind, Rule, Section, Set};
+use second::cases::QUOTES;
 use second::cutting::{Fields, Message, Part};
 use second::findings::first_value;
 use second::order::Name;
 use std::collections::{HashMap, HashSet};
 
-const QUOTES: &[u8] = b"\"\"";
 const COMPONENTS: [&str; 3] =
     ["component 0", "another component, alone in the repetition", "another component, beside others"];
 const REPETITIONS: [&str; 4] = ["only repetition", "first repetition", "middle repetition", "last repetition"];
