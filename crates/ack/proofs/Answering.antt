@@ -1,27 +1,26 @@
 -- What the calls give, by a table of refusals in any numbers: the law of a table, answering as writing after grading, and the code's ways out.
 -- Assumes nothing.
 use mathlib.Core.Path.{_≡_, refl, sym, ap, ap₂, _∙_}
-use mathlib.Core.Bool.{Bool, true, false, cond, not}
+use mathlib.Core.Bool.{Bool, true, false, cond}
 use mathlib.Core.Logic.{_↔_}
 use mathlib.Core.List.{List, [], _∷_, _++_, append-assoc}
 use Prim.Native.Nat.{ℕ, _+_, _^_, _≤_, _<_}
 use native.Mathlib.Omega.{arith}
 use lib.Dec.{eqb}
 use lib.ListN.{length, getD, drop, length-append}
-use borrow.Author.Tests.{eq-eqb, ne-eqb, lt-ltb, le-ltb, eqb-true, eqb-false}
+use borrow.Author.Tests.{eq-eqb, ne-eqb, lt-ltb, le-ltb, eqb-true}
 use Rattle.hl7.specs.declared.place.Delims.{Delims}
-use Rattle.hl7.specs.Bytes.{isIn, distinct}
-use Rattle.hl7.specs.Refusals.{messageLimit, Told, told, Row, firstRow, passes, numbersOf, apart, holdsAt, First, messageRows, formRows}
+use Rattle.hl7.specs.Refusals.{messageLimit, Told, told, Row, firstRow, passes, numbersOf, apart, holdsAt, First}
 use Rattle.hl7.proofs.Refusing.{rows-append, row-exactly, none-exactly}
 use Rattle.grade.specs.Values.{isStamp}
-use Rattle.grade.specs.Admission.{bookRows, admitRows}
+use Rattle.grade.specs.Admission.{admitRows, stampRow, tenRows}
 use Rattle.grade.specs.Grading.{findingsFor, gradeOf}
 use Rattle.grade.specs.declared.finding.Finding.{Finding}
-use Rattle.grade.proofs.Admitting.{admit-apart, admit-bounded}
-use Rattle.ack.specs.declared.refusal.Answer.{Answer}
+use Rattle.grade.proofs.Admitting.{admit-apart, ten-apart}
+use Rattle.grade.specs.declared.refusal.Answer.{Answer}
 use Rattle.ack.specs.Splice.{Wrote}
 use Rattle.ack.specs.Layout.{verdict, ackBytes}
-use Rattle.ack.specs.Answers.{Outcome, outcome, outcomeBy, byRows, stampRow, shortRow, writeRows, ackOf, writeOf, thenWrite, ackFor, tenRows, answerOf, Gives}
+use Rattle.ack.specs.Answers.{Outcome, outcome, outcomeBy, byRows, shortRow, writeRows, ackOf, writeOf, thenWrite, ackFor, answerOf, Gives}
 use Rattle.ack.specs.Pieces.{findingLimit, heading, errs, shortOr}
 use Rattle.ack.proofs.Writing.{_then_, wrote-as, wrote-at-start}
 use Rattle.ack.proofs.Lines.{ack-is}
@@ -110,48 +109,16 @@ module _ (m b stamp : List ℕ) (control : ℕ) (out : List ℕ) where
       by false = refl
 
 -- ---- rows 1 to 10, and then row 11
-module _ (m b stamp : List ℕ) where
-  ten-apart : apart (numbersOf (tenRows m b stamp)) ≡ true
-  unfolding admitRows messageRows formRows bookRows numbersOf distinct isIn
-  ten-apart = refl
+module _ (m b stamp : List ℕ) (control : ℕ) (out : List ℕ) where
+  by-ten : answerOf m b stamp control out ≡ cond (passes (tenRows m b stamp)) (shortOr (ackFor m b stamp control) out) (outcome (firstRow (tenRows m b stamp)) out)
+  unfolding answerOf
+  by-ten = table-append (tenRows m b stamp) (ten-apart m b stamp) (ackFor m b stamp control) out (shortRow (ackFor m b stamp control) out ∷ [])
 
-  ten-first : firstRow (tenRows m b stamp) ≡ cond (passes (admitRows m b)) (firstRow (stampRow stamp ∷ [])) (firstRow (admitRows m b))
-  ten-first = rows-append (admitRows m b) (stampRow stamp ∷ []) (admit-apart m b)
+  pub answer-ten-stopped : passes (tenRows m b stamp) ≡ false → answerOf m b stamp control out ≡ outcome (firstRow (tenRows m b stamp)) out
+  answer-ten-stopped e = by-ten ∙ rw e
 
-  -- a message that passes them is admitted, and the stamp is right
-  pub ten-passes : passes (tenRows m b stamp) ≡ true → (firstRow (admitRows m b) .number ≡ 0) × (isStamp stamp ≡ true)
-  unfolding firstRow
-  ten-passes e = by (passes (admitRows m b)) (isStamp stamp) refl refl (sym (ap (λ (t : Told). t .number) ten-first) ∙ eqb-true _ 0 e)
-    where
-      by : (passed right : Bool) → passes (admitRows m b) ≡ passed → isStamp stamp ≡ right → cond passed (cond (not right) (told 10 0) (told 0 0)) (firstRow (admitRows m b)) .number ≡ 0
-          → (firstRow (admitRows m b) .number ≡ 0) × (isStamp stamp ≡ true)
-      by true true f g none = (eqb-true _ 0 f, g)
-      by true false f g none = absurd (omega (arith, none))
-      by false right f g none = absurd (eqb-false _ 0 f none)
-
-  ten-small : firstRow (tenRows m b stamp) .number < 11
-  unfolding firstRow
-  ten-small = rw ten-first (by (passes (admitRows m b)) (isStamp stamp))
-    where
-      by : (passed right : Bool) → cond passed (cond (not right) (told 10 0) (told 0 0)) (firstRow (admitRows m b)) .number < 11
-      by true true = omega arith
-      by true false = omega arith
-      by false right = omega (arith, admit-bounded m b .0)
-
-  -- where one of them holds, its number is neither 0 nor 11
-  pub ten-refuses : passes (tenRows m b stamp) ≡ false → (firstRow (tenRows m b stamp) .number ≡ 0 → ⊥) × (firstRow (tenRows m b stamp) .number ≡ 11 → ⊥)
-  ten-refuses e = (eqb-false _ 0 e, λ is. omega (arith, is, ten-small))
-
-  module _ (control : ℕ) (out : List ℕ) where
-    by-ten : answerOf m b stamp control out ≡ cond (passes (tenRows m b stamp)) (shortOr (ackFor m b stamp control) out) (outcome (firstRow (tenRows m b stamp)) out)
-    unfolding answerOf
-    by-ten = table-append (tenRows m b stamp) ten-apart (ackFor m b stamp control) out (shortRow (ackFor m b stamp control) out ∷ [])
-
-    pub answer-ten-stopped : passes (tenRows m b stamp) ≡ false → answerOf m b stamp control out ≡ outcome (firstRow (tenRows m b stamp)) out
-    answer-ten-stopped e = by-ten ∙ rw e
-
-    pub answer-ten-passed : passes (tenRows m b stamp) ≡ true → answerOf m b stamp control out ≡ shortOr (ackFor m b stamp control) out
-    answer-ten-passed e = by-ten ∙ rw e
+  pub answer-ten-passed : passes (tenRows m b stamp) ≡ true → answerOf m b stamp control out ≡ shortOr (ackFor m b stamp control) out
+  answer-ten-passed e = by-ten ∙ rw e
 
 -- ---- length first, then bytes: what was measured in two parts, and written in two
 module _ (d : Delims) (msh stamp : List ℕ) (control : ℕ) (findings : List Finding) (out : List ℕ) (h : length msh ≤ messageLimit) (s : length stamp ≤ 19) (few : length findings ≤ findingLimit) where

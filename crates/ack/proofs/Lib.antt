@@ -8,5 +8,7 @@ pub mod Admitting
 pub mod Texts
 pub mod Reading
 pub mod Promises
+pub mod YesOrNo
 pub mod Exchanging
 pub mod Samples
+pub mod LampSamples

@@ -1,14 +1,16 @@
 -- The ERRs of lists of findings, one after the other, and the loops that write them. Assumes nothing.
 use mathlib.Core.Path.{_≡_, refl, sym, ap, subst, subst⁻¹, _∙_}
-use mathlib.Core.Bool.{Bool, true, false, cond, _||_, or-false, or-assoc}
+use mathlib.Core.Bool.{Bool, true, false, cond, not, _&&_, _||_, or-false, or-assoc, true≢false}
 use mathlib.Core.List.{List, [], _∷_, _++_, map, flatMap, append-nil, append-assoc}
 use Prim.Native.Nat.{ℕ, zero, suc, _+_, _≤_, _<_, min}
 use native.Mathlib.Omega.{arith}
 use lib.ListN.{length, take, drop}
 use lib.Seq.{take-append-seam}
+use borrow.Author.Tests.{not-true}
 use Prim.Native.Char.{code}
 use Rattle.hl7.specs.declared.place.Delims.{Delims}
-use Rattle.grade.specs.Header.{headerFindings, anyWrong}
+use Rattle.hl7.proofs.Comparing.{and-both}
+use Rattle.grade.specs.Header.{headerFinding, headerFindings, anyWrong}
 use Rattle.grade.specs.declared.header.Header.{Header}
 use Rattle.grade.specs.Strict.{keep}
 use Rattle.grade.specs.Rule.{errorCode}
@@ -23,7 +25,7 @@ use Rattle.grade.specs.declared.finding.Finding.{Finding}
 use Rattle.grade.proofs.Heading.{checks}
 use Rattle.ack.specs.Splice.{Wrote, limit}
 use Rattle.ack.specs.Layout.{has, isHeader, isFault, letter, verdict, errLine, ended}
-use Rattle.ack.specs.Pieces.{findingLimit, errs, Puts}
+use Rattle.ack.specs.Pieces.{findingLimit, errs, Puts, Goes}
 use Rattle.ack.specs.declared.errs.Put.{Put}
 use Rattle.ack.proofs.Sizes.{errs-short}
 use Rattle.ack.proofs.Writing.{_then_, wrote-none, wrote-as, wrote-length, wrote-at-start}
@@ -100,16 +102,24 @@ module _ (o : ℕ → ℕ → Bool) (rules : List Rule) (sets : List (List (List
       of n (suc i) r = rule-code (ruleNumbered o rules sets m i .kind)
 
 -- ---- one about the header is listed exactly where a header check fails
-pub header-told : (h : Header) → has isHeader (headerFindings h) ≡ anyWrong h
+-- and so is an E
+header-has : (test : Finding → Bool) → test (headerFinding 200 9 1) ≡ true → test (headerFinding 201 9 2) ≡ true → test (headerFinding 202 11 1) ≡ true → test (headerFinding 203 12 1) ≡ true
+    → (h : Header) → has test (headerFindings h) ≡ anyWrong h
 unfolding headerFindings has
-header-told h = by (h .«type_wrong») (h .«event_wrong») (h .«processing_wrong») (h .«version_wrong»)
+header-has test p q r s h = by (h .«type_wrong») (h .«event_wrong») (h .«processing_wrong») (h .«version_wrong»)
   where
-    by : (a b c e : Bool) → has isHeader (headerFindings (checks a b c e)) ≡ anyWrong (checks a b c e)
-    by true b c e = refl
-    by false true c e = refl
-    by false false true e = refl
-    by false false false true = refl
+    by : (a b c e : Bool) → has test (headerFindings (checks a b c e)) ≡ anyWrong (checks a b c e)
+    by true b c e = rw p
+    by false true c e = rw q
+    by false false true e = rw r
+    by false false false true = rw s
     by false false false false = refl
+
+pub header-told : (h : Header) → has isHeader (headerFindings h) ≡ anyWrong h
+header-told = header-has isHeader refl refl refl refl
+
+pub header-faults : (h : Header) → has isFault (headerFindings h) ≡ anyWrong h
+header-faults = header-has isFault refl refl refl refl
 
 pub listed-told : (b : List ℕ) (s : Section) (h : Header) (m : List ℕ) → has isHeader (findingsIn b s h m) ≡ anyWrong h
 listed-told b s h m = by (anyWrong h) refl
@@ -133,3 +143,28 @@ completes-more fault {put} inv split w after r others =
 
 pub completes-over : {d : Delims} {whole left : List Finding} {o now : List ℕ} {at to : ℕ} (fault : Bool) → Completes d whole left o at now to fault → left ≡ [] → length now < limit → to ≤ limit → Puts d whole o at now (record { at = to; fault = fault })
 completes-over {d} fault inv e room near = rw (or-false fault) at (inv _ _ (puts-as e (puts-none d room near)))
+
+-- whether a fault is among the whole is known of what was told, or is told by what is still to come
+abbrev pub Faults : (whole left : List Finding) → Bool → Type 0
+Faults whole left fault = has isFault whole ≡ (fault || has isFault left)
+
+pub faults-more : (whole : List Finding) {left rest : List Finding} {f : Finding} (fault : Bool) → Faults whole left fault → left ≡ f ∷ rest → Faults whole rest (fault || isFault f)
+unfolding has
+faults-more whole {rest = rest} {f} fault inv split = inv ∙ rw split (sym (or-assoc fault (isFault f) (has isFault rest)))
+
+-- the first fault ends a run in brief
+pub goes-brief : {brief next ends : Bool} {d : Delims} {whole left rest : List Finding} {f : Finding} {o now : List ℕ} {at to : ℕ} (fault : Bool)
+    → Faults whole left fault → left ≡ f ∷ rest → (next ≡ (fault || isFault f)) × (ends ≡ (not fault && (brief && isFault f))) → ends ≡ true
+    → Goes brief d whole o at now (record { at = to; fault = next })
+goes-brief {brief} {next} {whole = whole} {rest = rest} {f} fault inv split look e =
+    let first = and-both (not fault) (brief && isFault f) (sym (look .1) ∙ e) in
+    let both = and-both brief (isFault f) (first .1) in
+    let is : next ≡ true = look .0 ∙ rw (not-true fault (first .0), both .1) in
+    let known : has isFault whole ≡ true = faults-more whole fault inv split ∙ ap (λ (b : Bool). b || has isFault rest) (sym (look .0) ∙ is) in
+    record { puts = λ not-brief. absurd (true≢false (sym (both .0) ∙ not-brief)); faulty = is ∙ sym known }
+
+pub goes-puts : {brief : Bool} {d : Delims} {findings : List Finding} {o p : List ℕ} {at : ℕ} {r : Put} → Puts d findings o at p r → Goes brief d findings o at p r
+goes-puts w = record { puts = λ _. w; faulty = w .faulty }
+
+pub goes-as : {brief : Bool} {d : Delims} {l k : List Finding} {o p : List ℕ} {at : ℕ} {r : Put} → l ≡ k → Goes brief d k o at p r → Goes brief d l o at p r
+goes-as {brief} {d} {o = o} {p} {at} {r} e w = subst⁻¹ (λ (x : List Finding). Goes brief d x o at p r) e w

@@ -28,15 +28,14 @@ use Rattle.grade.specs.Grading.{sectionFor, findingsBy, findingsFor}
 use Rattle.grade.specs.declared.header.Header.{Header}
 use Rattle.grade.specs.declared.finding.Finding.{Finding}
 use Rattle.grade.proofs.Demand3.{findings-meet}
-use Rattle.grade.proofs.Heading.{checks}
 use Rattle.grade.proofs.Grading.{listed}
-use Rattle.grade.proofs.Admitting.{admitted-by, admits-passed, admit-bounded}
+use Rattle.grade.proofs.Admitting.{admitted-by, admitted-short, admits-passed, admit-bounded}
 use Rattle.ack.specs.Layout.{has, isHeader, isFault, mshLine, msaLine, errLine, ackLines}
 use Rattle.ack.specs.Answers.{Outcome, outcome, outcomeBy, ackFor, answerRows, answerOf}
 use Rattle.ack.specs.Pieces.{shortOr}
 use Rattle.ack.proofs.Sizes.{ack-size}
-use Rattle.ack.proofs.Admitting.{stamp-length, admitted-short, admitted-long, admitted-within}
-use Rattle.ack.proofs.Listing.{graded-plain, header-verdict}
+use Rattle.ack.proofs.Admitting.{stamp-length, admitted-long, admitted-within}
+use Rattle.ack.proofs.Listing.{graded-plain, header-told, header-faults, header-verdict}
 use Rattle.ack.proofs.Answering.{number-is, refused-is, written-is as ack-is, table-exactly, table-none, write-stamp, write-right, answer-admitted, answer-stopped}
 use Rattle.ack.proofs.Texts.{text-clean, stamp-text, listed-text}
 use Rattle.ack.proofs.Reading.{clean, part-without, ack-delims, ack-segments, ar-exactly, ae-exactly, aa-exactly}
@@ -44,15 +43,7 @@ use Rattle.ack.proofs.Reading.{clean, part-without, ack-delims, ack-seg
 -- ---- what is listed
 -- a finding about the header is an E
 header-errors : (h : Header) → has isHeader (headerFindings h) ≡ true → has isFault (headerFindings h) ≡ true
-unfolding headerFindings has
-header-errors h = by (h .«type_wrong») (h .«event_wrong») (h .«processing_wrong») (h .«version_wrong»)
-  where
-    by : (a b c e : Bool) → has isHeader (headerFindings (checks a b c e)) ≡ true → has isFault (headerFindings (checks a b c e)) ≡ true
-    by true b c e h = refl
-    by false true c e h = refl
-    by false false true e h = refl
-    by false false false true h = refl
-    by false false false false h = absurd (true≢false (sym h))
+header-errors h e = header-faults h ∙ sym (header-told h) ∙ e
 
 module _ (m b : List ℕ) where
   listed-errors : has isHeader (findingsFor m b) ≡ true → has isFault (findingsFor m b) ≡ true

@@ -1,19 +1,18 @@
 -- To be believed. What the calls give: number, detail and the output afterwards, for every input. Assumes nothing.
 use Prim.Native.Nat.{ℕ}
 use mathlib.Core.Path.{_≡_}
-use mathlib.Core.Bool.{cond, not}
+use mathlib.Core.Bool.{cond}
 use mathlib.Core.List.{List, [], _∷_, _++_}
 use lib.Dec.{eqb, ltb}
 use lib.ListN.{length, drop}
-use Rattle.hl7.specs.Refusals.{Told, told, Row, row, firstRow}
+use Rattle.hl7.specs.Refusals.{Told, told, Row, firstRow}
 use Rattle.hl7.specs.Place.{delimsOf}
-use Rattle.grade.specs.Values.{isStamp}
 use Rattle.grade.specs.Header.{mshOf}
-use Rattle.grade.specs.Admission.{admitRows}
+use Rattle.grade.specs.Admission.{stampRow, tenRows, paper}
 use Rattle.grade.specs.Grading.{findingsFor, Graded}
 use Rattle.grade.specs.declared.finding.Finding.{Finding}
+use Rattle.grade.specs.declared.refusal.Answer.{Answer}
 use Rattle.ack.specs.Layout.{ackBytes}
-use Rattle.ack.specs.declared.refusal.Answer.{Answer}
 
 -- number and detail, and the output afterwards
 pub record Outcome : Type 0 where
@@ -31,10 +30,6 @@ outcomeBy t ack out = cond (eqb (t .number) 0) (outcome (told 0 (length ack)) (a
 -- the first row of a table that holds decides
 abbrev pub byRows : List Row → (ack out : List ℕ) → Outcome
 byRows rows ack out = outcomeBy (firstRow rows) ack out
-
--- row 10: the stamp is none
-abbrev pub stampRow : (stamp : List ℕ) → Row
-stampRow stamp = row 10 (not (isStamp stamp))
 
 -- row 11: the output is shorter than the ACK; its detail is the length needed
 abbrev pub shortRow : (ack out : List ℕ) → Row
@@ -60,10 +55,6 @@ thenWrite g m stamp control out = cond (eqb (g .told .number) 0) (writeOf m (g .
 abbrev pub ackFor : (m book stamp : List ℕ) → ℕ → List ℕ
 ackFor m book stamp control = ackOf m (findingsFor m book) stamp control
 
--- rows 1 to 10, which do not look at the output
-abbrev pub tenRows : (m book stamp : List ℕ) → List Row
-tenRows m book stamp = admitRows m book ++ (stampRow stamp ∷ [])
-
 -- the eleven rows, in the order in which they are tried
 abbrev pub answerRows : (m book stamp : List ℕ) → ℕ → (out : List ℕ) → List Row
 answerRows m book stamp control out = tenRows m book stamp ++ (shortRow (ackFor m book stamp control) out ∷ [])
@@ -71,10 +62,6 @@ answerRows m book stamp control out = tenRows m book stamp ++ (shortRow (ackFor 
 -- the answer to a message by a book
 unfoldable pub answerOf : (m book stamp : List ℕ) → ℕ → (out : List ℕ) → Outcome
 answerOf m book stamp control out = byRows (answerRows m book stamp control out) (ackFor m book stamp control) out
-
--- ---- the code's answer on paper
-abbrev pub paper : Answer → Told
-paper a = told (a .number) (a .detail)
 
 -- the call answered `answer` and left the output as `after`
 abbrev pub Gives : Answer → (after : List ℕ) → Outcome → Type 0

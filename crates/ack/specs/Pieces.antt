@@ -2,6 +2,7 @@
 -- The pieces in which an ACK is written. Assumes nothing.
 use Prim.Native.Nat.{ℕ, _^_}
 use mathlib.Core.Path.{_≡_}
+use mathlib.Core.Bool.{Bool, false}
 use mathlib.Core.List.{List, [], _∷_, _++_, flatMap}
 use Rattle.hl7.specs.declared.place.Delims.{Delims}
 use Rattle.grade.specs.declared.finding.Finding.{Finding}
@@ -31,4 +32,9 @@ errs d findings = flatMap (λ f. ended (errLine d f)) findings
 -- findings
 pub record Puts (d : Delims) (findings : List Finding) (before : List ℕ) (at : ℕ) (after : List ℕ) (r : Put) : Type 0 where
   pub wrote : Wrote before at (errs d findings) after (r .at)
+  pub faulty : r .fault ≡ has isFault findings
+
+-- likewise, but in brief nothing is said of the ERRs
+pub record Goes (brief : Bool) (d : Delims) (findings : List Finding) (before : List ℕ) (at : ℕ) (after : List ℕ) (r : Put) : Type 0 where
+  pub puts : brief ≡ false → Puts d findings before at after r
   pub faulty : r .fault ≡ has isFault findings

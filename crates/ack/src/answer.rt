@@ -4,15 +4,10 @@ use crate::layout::letter_of;
 use crate::layout::put_heading;
 use crate::measure::heading_length;
 use crate::output::put;
-use crate::refusal::Answer;
-use crate::refusal::of_reading;
-use crate::refusal::refused;
 use grade::admit::Admitted;
-use grade::admit::admit;
+use grade::admit::admit_stamped;
 use grade::book::Indexed;
 use grade::book::index_book;
-use grade::date::is_stamp;
-use grade::header::Header;
 use grade::header::any_wrong;
 use grade::limits::FIELD_PLACES;
 use grade::limits::LINKS;
@@ -20,8 +15,8 @@ use grade::limits::SECTION_LIMIT;
 use grade::limits::SET_PLACES;
 use grade::lookup::links_of;
 use grade::lookup::sets_of;
+use grade::refusal::Answer;
 use grade::step::Terms;
-use grade::walk::Section;
 use hl7::bytes::front;
 use hl7::place::delims_of;
 use hl7::place::note_fields;
@@ -32,8 +27,7 @@ ghost use Prim.Native.Nat.{_≤_};
 ghost use lib.ListN.{length, take};
 ghost use Rattle.hl7.specs.Place.{delimsOf, isMsh};
 ghost use Rattle.hl7.specs.Refusals.{messageLimit};
-ghost use Rattle.grade.specs.declared.admit.Admitted.the-variants.{By};
-ghost use Rattle.grade.specs.Standing.{Indexes, Admits, Holds, Placed, rulesIn};
+ghost use Rattle.grade.specs.Standing.{Indexes, Holds, Placed, rulesIn};
 ghost use Rattle.grade.specs.Limits.{fieldPlaces};
 ghost use Rattle.grade.specs.Linked.{Linked};
 ghost use Rattle.grade.specs.Rest.{findingsIn};
@@ -64,7 +58,7 @@ fn put_listed(
     if all <= kept.len() {
         return put(out, at, front(kept, all));
     }
-    let again = put_errs(out, at, by, m, book, sets, links, starts);
+    let again = put_errs(false, out, at, by, m, book, sets, links, starts);
     again.at
 }
 
@@ -86,7 +80,7 @@ fn answer_listed(
     let links = links_of(book, by.section);
     let mut starts = [0usize; FIELD_PLACES];
     let mut kept = [0u8; KEPT];
-    let first = put_errs(&mut kept, 0, by, m, book, &sets, &links, &mut starts);
+    let first = put_errs(false, &mut kept, 0, by, m, book, &sets, &links, &mut starts);
     let all = first.at;
     let d = by.d;
     let count = note_fields(d, msh, &mut starts);
@@ -106,27 +100,6 @@ fn answer_listed(
     }
 }
 
-// The answer to a message that was admitted: refusals 10 and 11, or the ACK.
-fn answer_admitted(
-    out: &mut [u8],
-    m: &[u8],
-    book: &[u8],
-    section: Section,
-    header: Header,
-    stamp: &[u8],
-    control: u32,
-) -> Answer
-    requires { ⌜ Admits (now m) (now book) (By section header) ⌝ }
-    ensures { λ r. ⌜ Gives r (now (out .exit)) (answerOf (now (m .entry)) (now (book .entry)) (now (stamp .entry)) control (now (out .entry))) ⌝ }
-{
-    if is_stamp(stamp) {
-        let d = delims_of(m);
-        let by = Terms { d, section, header };
-        return answer_listed(out, by, m, book, segment(m, 1), stamp, control);
-    }
-    refused(10)
-}
-
 // The answer to a message by a book whose sections' starts were noted by `index_book`: many messages can be answered by one index.
 pub fn answer_indexed(
     m: &[u8],
@@ -140,15 +113,13 @@ pub fn answer_indexed(
     requires { ⌜ Indexes (now book) (now sections) indexed ⌝ }
     ensures { λ r. ⌜ Gives r (now (out .exit)) (answerOf (now (m .entry)) (now (book .entry)) (now (stamp .entry)) control (now (out .entry))) ⌝ }
 {
-    match admit(m, book, sections, indexed) {
+    match admit_stamped(m, book, sections, indexed, stamp) {
         Admitted::By(section, header) => {
-            answer_admitted(out, m, book, section, header, stamp, control)
+            let d = delims_of(m);
+            let by = Terms { d, section, header };
+            answer_listed(out, by, m, book, segment(m, 1), stamp, control)
         }
-        Admitted::Unreadable(reading) => of_reading(reading),
-        Admitted::NoControlId => refused(6),
-        Admitted::MalformedBook => refused(7),
-        Admitted::OtherVersion => refused(8),
-        Admitted::NoSection => refused(9),
+        Admitted::Refused(answer) => answer,
     }
 }
 

@@ -13,7 +13,7 @@ use grade::step::next;
 use grade::step::start;
 use hl7::place::Delims;
 ghost use mathlib.Core.Path.{_≡_};
-ghost use mathlib.Core.Bool.{_||_};
+ghost use mathlib.Core.Bool.{not, _&&_, _||_};
 ghost use Prim.Native.Nat.{_≤_};
 ghost use lib.ListN.{length, replicate};
 ghost use Rattle.hl7.specs.Place.{delimsOf};
@@ -27,7 +27,7 @@ ghost use Rattle.grade.specs.Standing.{Holds, Placed, rulesIn};
 ghost use Rattle.grade.specs.Rest.{gradeFrom, findingsIn};
 ghost use Rattle.ack.specs.Splice.{Wrote, limit};
 ghost use Rattle.ack.specs.Layout.{isFault, errLine, ended};
-ghost use Rattle.ack.specs.Pieces.{Puts};
+ghost use Rattle.ack.specs.Pieces.{Goes};
 
 // Where ERRs end, and whether an E or W is among their findings.
 pub struct Put {
@@ -42,14 +42,27 @@ fn is_fault(finding: Finding) -> bool
     (finding.severity == b'E') | (finding.severity == b'W')
 }
 
-// Whether there was a fault so far, or the finding is one: once there is one, no severity is asked.
-fn still_fault(fault: bool, finding: Finding) -> bool
-    ensures { λ r. ⌜ r ≡ (fault || isFault finding) ⌝ }
+// Whether a fault was seen, and whether it ends the run.
+struct Seen {
+    fault: bool,
+    ends: bool,
+}
+
+// The same with one finding more: the first fault ends a run in brief. Once there is one, no severity is asked.
+fn look_at(brief: bool, fault: bool, finding: Finding) -> Seen
+    ensures { λ r. ⌜ (r .fault ≡ (fault || isFault finding)) × (r .ends ≡ (not fault && (brief && isFault finding))) ⌝ }
 {
     if fault {
-        return true;
+        return Seen {
+            fault: true,
+            ends: false,
+        };
     }
-    is_fault(finding)
+    let first = is_fault(finding);
+    Seen {
+        fault: first,
+        ends: brief & first,
+    }
 }
 
 // The ERR of a finding; where nothing of it would fit, its length is all that is asked.
@@ -65,9 +78,10 @@ fn put_finding(out: &mut [u8], at: usize, d: Delims, finding: Finding) -> usize
     put_err(out, at, marks, found)
 }
 
-// The ERRs of all findings of a message by a follow table: one for each.
+// The ERRs of all findings of a message by a follow table: one for each; or, in brief, those up to the first E or W.
 fn put_errs_by(
     table: &[[bool; 11]; 10],
+    brief: bool,
     out: &mut [u8],
     from: usize,
     by: Terms,
@@ -78,7 +92,7 @@ fn put_errs_by(
     starts: &mut [usize],
 ) -> Put
     requires { ⌜ (from ≤ limit) × (length (now m) ≤ messageLimit) × Holds (now book) (by .section) × Placed (now book) (by .section) (now sets) × Linked (rulesIn (now book) (by .section)) (now links) × (fieldPlaces ≤ length (now starts)) ⌝ }
-    ensures { λ r. ⌜ Puts (by .d) (headerOr (by .header) (gradeFrom (outOfOrder (tableSays (now (table .entry)))) (by .d) (now (m .entry)) (now (book .entry)) (by .section) 0 otherNumber (replicate namePlaces 0))) (now (out .entry)) from (now (out .exit)) r ⌝ }
+    ensures { λ r. ⌜ Goes brief (by .d) (headerOr (by .header) (gradeFrom (outOfOrder (tableSays (now (table .entry)))) (by .d) (now (m .entry)) (now (book .entry)) (by .section) 0 otherNumber (replicate namePlaces 0))) (now (out .entry)) from (now (out .exit)) r ⌝ }
 {
     let mut counts = [0u32; NAME_PLACES];
     let mut cursor = start(by, m);
@@ -88,7 +102,11 @@ fn put_errs_by(
         match next(table, by, m, book, sets, links, starts, &mut counts, cursor) {
             Step::Found(finding, then) => {
                 to = put_finding(out, to, by.d, finding);
-                fault = still_fault(fault, finding);
+                let seen = look_at(brief, fault, finding);
+                fault = seen.fault;
+                if seen.ends {
+                    return Put { at: to, fault };
+                }
                 cursor = then;
             }
             Step::End => {
@@ -98,8 +116,10 @@ fn put_errs_by(
     }
 }
 
-// The ERRs of all findings of a message.
+// The ERRs of all findings of a message, or in brief of those up to the first E or W. Every call goes by this one loop: with a second
+// place from which the grader is asked, its cursor would go through memory at each finding.
 pub(crate) fn put_errs(
+    brief: bool,
     out: &mut [u8],
     at: usize,
     by: Terms,
@@ -110,8 +130,8 @@ pub(crate) fn put_errs(
     starts: &mut [usize],
 ) -> Put
     requires { ⌜ (at ≤ limit) × (length (now m) ≤ messageLimit) × Holds (now book) (by .section) × Placed (now book) (by .section) (now sets) × Linked (rulesIn (now book) (by .section)) (now links) × (fieldPlaces ≤ length (now starts)) × (by .d ≡ delimsOf (now m)) ⌝ }
-    ensures { λ r. ⌜ Puts (by .d) (findingsIn (now (book .entry)) (by .section) (by .header) (now (m .entry))) (now (out .entry)) at (now (out .exit)) r ⌝ }
+    ensures { λ r. ⌜ Goes brief (by .d) (findingsIn (now (book .entry)) (by .section) (by .header) (now (m .entry))) (now (out .entry)) at (now (out .exit)) r ⌝ }
 {
     let table = follow_table();
-    put_errs_by(&table, out, at, by, m, book, sets, links, starts)
+    put_errs_by(&table, brief, out, at, by, m, book, sets, links, starts)
 }

@@ -1,7 +1,7 @@
-// Writing: the ACK's bytes, and the one call that answers.
+// Writing: the ACK's bytes, the one call that answers, and the lamp, which only says whether the ACK would say AA.
 pub mod answer;
 pub mod errs;
+pub mod lamp;
 pub mod layout;
 pub mod measure;
 pub mod output;
-pub mod refusal;

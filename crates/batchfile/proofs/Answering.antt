@@ -13,8 +13,9 @@ use Rattle.hl7.specs.Delimiters.{opens}
 use Rattle.hl7.specs.Place.{delimsOf}
 use Rattle.hl7.specs.Refusals.{told, rowAt, isSome, firstRow}
 use Rattle.hl7.proofs.Comparing.{and-both, or-neither, none-of}
-use Rattle.ack.specs.declared.refusal.Answer.{Answer}
-use Rattle.ack.specs.Answers.{outcome, outcomeBy, byRows, shortRow, paper, Gives}
+use Rattle.grade.specs.declared.refusal.Answer.{Answer}
+use Rattle.grade.specs.Admission.{paper}
+use Rattle.ack.specs.Answers.{outcome, outcomeBy, byRows, shortRow, Gives}
 use Rattle.ack.specs.Splice.{Wrote}
 use Rattle.ack.proofs.Writing.{splice-at-start, wrote-length, _then_}
 use Rattle.batchfile.specs.Messages.{gathered}

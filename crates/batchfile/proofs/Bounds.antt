@@ -14,9 +14,10 @@ use Rattle.hl7.specs.Place.{carriageReturn, isMsh}
 use Rattle.hl7.specs.Refusals.{Told, told, isSome, firstRow, passes}
 use Rattle.hl7.proofs.Comparing.{begins-long}
 use Rattle.grade.specs.Values.{isStamp}
-use Rattle.ack.specs.Answers.{Outcome, outcome, outcomeBy, ackFor, tenRows}
+use Rattle.grade.specs.Admission.{tenRows}
+use Rattle.grade.proofs.Admitting.{ten-passes}
+use Rattle.ack.specs.Answers.{Outcome, outcome, outcomeBy, ackFor}
 use Rattle.ack.proofs.Admitting.{stamp-front}
-use Rattle.ack.proofs.Answering.{ten-passes}
 use Rattle.ack.proofs.Promises.{writtenOf, ack-within}
 use Rattle.batchfile.specs.Messages.{inFront, linesOf, isFrame, nothing, gather, gathered}
 use Rattle.batchfile.specs.Frame.{messagesIn}

@@ -8,7 +8,7 @@ use lib.ListN.{length, take, drop, length-take, length-drop, length-append, take
 use lib.Seq.{drop-drop, take-at}
 use Rattle.hl7.specs.Spans.{between}
 use Rattle.hl7.proofs.Comparing.{tail-whole}
-use Rattle.ack.specs.declared.refusal.Answer.{Answer}
+use Rattle.grade.specs.declared.refusal.Answer.{Answer}
 use Rattle.ack.specs.Answers.{Outcome, ackFor, answerOf, Gives}
 use Rattle.ack.specs.Splice.{limit, Wrote}
 use Rattle.ack.proofs.Promises.{refusal-alters-nothing}

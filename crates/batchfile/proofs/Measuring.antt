@@ -9,10 +9,12 @@ use lib.ListN.{length, getD, drop, length-take, length-drop, length-append}
 use borrow.Author.Tests.{ne-eqb, le-ltb, ltb-false, not-false}
 use Rattle.hl7.specs.Refusals.{Told, told, firstRow, passes}
 use Rattle.hl7.specs.Spans.{between}
-use Rattle.ack.specs.declared.refusal.Answer.{Answer}
-use Rattle.ack.specs.Answers.{Outcome, outcome, outcomeBy, ackFor, tenRows, answerOf, paper, Gives}
+use Rattle.grade.specs.Admission.{tenRows, paper}
+use Rattle.grade.specs.declared.refusal.Answer.{Answer}
+use Rattle.grade.proofs.Admitting.{ten-passes, ten-refuses}
+use Rattle.ack.specs.Answers.{Outcome, outcome, outcomeBy, ackFor, answerOf, Gives}
 use Rattle.ack.specs.Pieces.{shortOr}
-use Rattle.ack.proofs.Answering.{ten-passes, ten-refuses, answer-ten-passed, answer-ten-stopped}
+use Rattle.ack.proofs.Answering.{answer-ten-passed, answer-ten-stopped}
 use Rattle.ack.proofs.Promises.{ack-within}
 use Rattle.batchfile.specs.Batch.{fileLimit, meetsOne, refusedFrom, acksFrom}
 use Rattle.batchfile.specs.Walk.{gatheredAt, messagesAt, MessageEnds}

@@ -15,8 +15,9 @@ use Rattle.hl7.specs.Cut.{partAt}
 use Rattle.hl7.specs.Place.{delimsOf}
 use Rattle.hl7.specs.Refusals.{Told, told, isSome, firstRow, passes, numbersOf, apart, holdsAt, First}
 use Rattle.grade.specs.Header.{mshOf, headerOf, anyWrong}
-use Rattle.ack.specs.declared.refusal.Answer.{Answer}
-use Rattle.ack.specs.Answers.{Outcome, outcome, outcomeBy, ackFor, tenRows, answerOf, Gives}
+use Rattle.grade.specs.Admission.{tenRows}
+use Rattle.grade.specs.declared.refusal.Answer.{Answer}
+use Rattle.ack.specs.Answers.{Outcome, outcome, outcomeBy, ackFor, answerOf, Gives}
 use Rattle.ack.proofs.Answering.{gives-once, number-is, refused-is, written-is, table-exactly, table-none, answer-ten-passed}
 use Rattle.ack.proofs.Promises.{writtenOf, MeetsDemand3, demand-3}
 use Rattle.batchfile.specs.Frame.{messagesIn}

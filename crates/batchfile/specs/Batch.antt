@@ -5,7 +5,8 @@ use mathlib.Core.List.{List, [], _∷_, _++_}
 use lib.Dec.{ltb}
 use lib.ListN.{length}
 use Rattle.hl7.specs.Refusals.{Row, row, rowAt, passes}
-use Rattle.ack.specs.Answers.{Outcome, byRows, shortRow, tenRows, ackFor}
+use Rattle.grade.specs.Admission.{tenRows}
+use Rattle.ack.specs.Answers.{Outcome, byRows, shortRow, ackFor}
 use Rattle.batchfile.specs.Frame.{messagesIn, isFramed, isCounted}
 
 -- ---- 14

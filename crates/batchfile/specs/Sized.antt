@@ -7,9 +7,9 @@ use mathlib.Core.List.{List, [], _∷_, _++_}
 use lib.Dec.{eqb}
 use lib.ListN.{length, getD, take}
 use Rattle.hl7.specs.Refusals.{Told, rowAt}
+use Rattle.grade.specs.declared.refusal.Answer.{Answer}
 use Rattle.ack.specs.Answers.{Outcome, byRows, shortRow, ackFor}
 use Rattle.ack.specs.Splice.{Wrote}
-use Rattle.ack.specs.declared.refusal.Answer.{Answer}
 use Rattle.batchfile.specs.Batch.{fileLimit, meetsOne, refusedFrom, acksFrom, joinedRows}
 use Rattle.batchfile.specs.Walk.{gatheredAt, messagesAt}
 use Rattle.batchfile.specs.declared.batch.Kept.{Kept}

@@ -19,23 +19,23 @@ use Rattle.grade.specs.Admission.{bookRows}
 
 -- ---- the parts of a book, as bytes
 
-head : ℕ → ℕ → List ℕ
+unfoldable pub head : ℕ → ℕ → List ℕ
 head high low = bytes "VXB" ++ (high ∷ low ∷ [])
 
 -- name, field, component, kind, severity, set, low, high
-rule : String → ℕ → ℕ → ℕ → Char → ℕ → ℕ → ℕ → List ℕ
+unfoldable pub rule : String → ℕ → ℕ → ℕ → Char → ℕ → ℕ → ℕ → List ℕ
 rule name field component kind severity set low high = bytes name ++ (field ∷ component ∷ kind ∷ code severity ∷ set ∷ low ∷ high ∷ [])
 
 -- a length byte and the text
-sized : String → List ℕ
+unfoldable pub sized : String → List ℕ
 sized t = length (bytes t) ∷ bytes t
 
 -- key, number of rules, number of sets, and these
-part : String → ℕ → ℕ → List ℕ → List ℕ
+unfoldable pub part : String → ℕ → ℕ → List ℕ → List ℕ
 part key rules sets body = sized key ++ (0 ∷ rules ∷ sets ∷ body)
 
 -- a book of version 1 with so many sections
-book : ℕ → List ℕ → List ℕ
+unfoldable pub book : ℕ → List ℕ → List ℕ
 book count body = head 0 1 ++ (count ∷ body)
 
 -- the section AX of the paper's example

@@ -14,7 +14,7 @@ use Rattle.grade.specs.Limits.{headSize, ruleLimit, ruleSize, setLimit}
 use Rattle.grade.specs.Reader.{Parsed, fault, found, isFound, itemsOf, Reader, andThen, pair, times}
 use Rattle.grade.specs.Book.{plain, ruleIn, codeSet, Contents, section, malformed, otherVersion}
 use Rattle.grade.specs.Header.{mshOf, headerOf}
-use Rattle.grade.specs.Admission.{keyOf, admitRows, indexedTold, openedTold, admittedTold}
+use Rattle.grade.specs.Admission.{keyOf, admitRows, tenRows, indexedTold, openedTold, admittedTold}
 use Rattle.grade.specs.declared.rule.Rule.{Rule}
 use Rattle.grade.specs.declared.walk.Next.{Next}
 use Rattle.grade.specs.declared.walk.Section.{Section}
@@ -144,6 +144,10 @@ pub record AdmitsBy (rows : List Row) (d : Delims) (msh b : List ℕ) (r : Admit
 -- a message and a book: rows 1 to 9
 abbrev pub Admits : (m b : List ℕ) → Admitted → Type 0
 Admits m b r = AdmitsBy (admitRows m b) (delimsOf m) (mshOf m) b r
+
+-- and a stamp: rows 1 to 10
+abbrev pub AdmitsStamped : (m b stamp : List ℕ) → Admitted → Type 0
+AdmitsStamped m b stamp r = AdmitsBy (tenRows m b stamp) (delimsOf m) (mshOf m) b r
 
 -- ---- what a section holds
 

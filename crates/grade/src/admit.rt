@@ -1,10 +1,14 @@
-// Refusals 1 to 9, in the order in which they are tried, or the section that the message names with what its header says.
+// Refusals 1 to 10, in the order in which they are tried, or the section that the message names with what its header says.
 use crate::book::Indexed;
 use crate::book::Opened;
 use crate::book::open_at;
+use crate::date::is_stamp;
 use crate::header::Header;
 use crate::header::header_of;
 use crate::header::msh_value;
+use crate::refusal::Answer;
+use crate::refusal::of_reading;
+use crate::refusal::refused;
 use crate::walk::Section;
 use hl7::place::Delims;
 use hl7::place::MSH_PLACES;
@@ -12,7 +16,6 @@ use hl7::place::delims_of;
 use hl7::place::note_fields;
 use hl7::place::noted_field;
 use hl7::place::segment;
-use hl7::refusal::Reading;
 use hl7::refusal::check;
 use hl7::refusal::is_sound_reading;
 ghost use mathlib.Core.Path.{_≡_};
@@ -20,17 +23,14 @@ ghost use mathlib.Core.Bool.{true};
 ghost use Rattle.hl7.specs.Noted.{MshNoted};
 ghost use Rattle.hl7.specs.Place.{isMsh};
 ghost use Rattle.grade.specs.Admission.{hasControlId, mshRows, openedTold, admittedTold};
-ghost use Rattle.grade.specs.Standing.{Indexes, AdmitsBy, Admits};
+ghost use Rattle.grade.specs.Standing.{Indexes, AdmitsBy, Admits, AdmitsStamped};
 ghost use Rattle.grade.specs.declared.walk.Section.{Section};
 ghost use Rattle.grade.specs.declared.book.Opened.{Opened};
 ghost use Rattle.grade.specs.declared.admit.Admitted.the-variants.{By};
 
+// The first refusal that applies, or by what the message is graded.
 pub enum Admitted {
-    Unreadable(Reading),
-    NoControlId,
-    MalformedBook,
-    OtherVersion,
-    NoSection,
+    Refused(Answer),
     By(Section, Header),
 }
 
@@ -47,9 +47,9 @@ fn by_section(opened: Opened, header: Header) -> Admitted
 {
     match opened {
         Opened::At(section) => Admitted::By(section, header),
-        Opened::Malformed => Admitted::MalformedBook,
-        Opened::OtherVersion => Admitted::OtherVersion,
-        Opened::NoSection => Admitted::NoSection,
+        Opened::Malformed => Admitted::Refused(refused(7)),
+        Opened::OtherVersion => Admitted::Refused(refused(8)),
+        Opened::NoSection => Admitted::Refused(refused(9)),
     }
 }
 
@@ -65,7 +65,7 @@ fn admit_msh(d: Delims, msh: &[u8], book: &[u8], sections: &[usize], indexed: In
         let opened = open_at(book, sections, indexed, key);
         by_section(opened, header_of(d, msh, &starts, count))
     } else {
-        Admitted::NoControlId
+        Admitted::Refused(refused(6))
     }
 }
 
@@ -78,6 +78,29 @@ pub fn admit(m: &[u8], book: &[u8], sections: &[usize], indexed: Indexed) -> Adm
     if is_sound_reading(reading) {
         admit_msh(delims_of(m), segment(m, 1), book, sections, indexed)
     } else {
-        Admitted::Unreadable(reading)
+        Admitted::Refused(of_reading(reading))
+    }
+}
+
+// The same with a stamp: row 10 stands here for every call that takes one.
+pub fn admit_stamped(
+    m: &[u8],
+    book: &[u8],
+    sections: &[usize],
+    indexed: Indexed,
+    stamp: &[u8],
+) -> Admitted
+    requires { ⌜ Indexes (now book) (now sections) indexed ⌝ }
+    ensures { λ r. ⌜ AdmitsStamped (now (m .entry)) (now (book .entry)) (now (stamp .entry)) r ⌝ }
+{
+    match admit(m, book, sections, indexed) {
+        Admitted::By(section, header) => {
+            if is_stamp(stamp) {
+                Admitted::By(section, header)
+            } else {
+                Admitted::Refused(refused(10))
+            }
+        }
+        Admitted::Refused(answer) => Admitted::Refused(answer),
     }
 }

@@ -9,6 +9,7 @@ pub mod limits;
 pub mod lookup;
 pub mod order;
 mod plain;
+pub mod refusal;
 pub mod rule;
 pub mod step;
 pub mod value;

@@ -28,17 +28,27 @@ use hl7::bytes::same_bytes;
 use hl7::bytes::wide;
 use hl7::bytes::wide16;
 
-// The rule with a number, counted from 0. Its limits are not looked at again.
+// The rule with a number, counted from 0, whose name is known. Its limits are not looked at again.
+pub(crate) fn rule_named(book: &[u8], section: Section, i: usize, segment: u8) -> Rule
+    requires { ⌜ Holds (now book) section × (i < section .«rule_count») × (segment ≡ getD (rulesIn (now book) section) i noRule .place .segment) ⌝ }
+    ensures { λ r. ⌜ r ≡ getD (rulesIn (now (book .entry)) section) i noRule ⌝ }
+{
+    let rules_at = section.rules_at;
+    let at = rules_at + RULE_SIZE * i;
+    let RuleRead::Is(rule) = rule_said(book, at, segment) else {
+        return no_rule();
+    };
+    rule
+}
+
+// The rule with a number, counted from 0.
 pub fn rule_at(book: &[u8], section: Section, i: usize) -> Rule
     requires { ⌜ Holds (now book) section × (i < section .«rule_count») ⌝ }
     ensures { λ r. ⌜ r ≡ getD (rulesIn (now (book .entry)) section) i noRule ⌝ }
 {
     let rules_at = section.rules_at;
     let at = rules_at + RULE_SIZE * i;
-    let RuleRead::Is(rule) = rule_said(book, at, name_at(book, at)) else {
-        return no_rule();
-    };
-    rule
+    rule_named(book, section, i, name_at(book, at))
 }
 
 // The number of the name that the rule with a number is about.

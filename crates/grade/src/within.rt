@@ -7,7 +7,7 @@ use crate::limits::NAME_PLACES;
 use crate::limits::SET_PLACES;
 use crate::lookup::link_at;
 use crate::lookup::place_at;
-use crate::lookup::rule_at;
+use crate::lookup::rule_named;
 use crate::rule::Kind;
 use crate::rule::Rule;
 use crate::rule::error_code;
@@ -227,7 +227,7 @@ fn at_rule(
     ensures { λ r. ⌜ NextOfRule d (now (m .entry)) (now (book .entry)) section here spot r ⌝ }
 {
     let i = spot.rule;
-    let rule = rule_at(book, section, i);
+    let rule = rule_named(book, section, i, here.name as u8);
     let field = field_of(d, m, book, section, sets, starts, here, spot, rule);
     let start = field.start;
     let end = field.end;

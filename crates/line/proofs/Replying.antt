@@ -5,8 +5,9 @@ use Prim.Native.Nat.{ℕ, _≤_}
 use native.Mathlib.Omega.{arith}
 use lib.ListN.{length, take, drop}
 use lib.Seq.{take-at}
-use Rattle.ack.specs.declared.refusal.Answer.{Answer}
-use Rattle.ack.specs.Answers.{Outcome, paper, Gives}
+use Rattle.grade.specs.declared.refusal.Answer.{Answer}
+use Rattle.grade.specs.Admission.{paper}
+use Rattle.ack.specs.Answers.{Outcome, Gives}
 use Rattle.ack.specs.Splice.{Wrote}
 use Rattle.ack.proofs.Writing.{splice-at-start}
 use Rattle.show.specs.Shown.{refusalRoom, badText, printedIn, printedLength, Printed}

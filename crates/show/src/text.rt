@@ -2,13 +2,13 @@
 use ack::output::put;
 use ack::output::put_byte;
 use ack::output::put_number;
-use ack::refusal::Answer;
+use grade::refusal::Answer;
 use hl7::bytes::pick;
 ghost use mathlib.Core.Path.{_≡_};
 ghost use Prim.Native.Nat.{min};
 ghost use mathlib.Core.List.{_++_};
 ghost use lib.ListN.{length, take, drop};
-ghost use Rattle.ack.specs.Answers.{paper};
+ghost use Rattle.grade.specs.Admission.{paper};
 ghost use Rattle.ack.specs.Splice.{Wrote};
 ghost use Rattle.show.specs.Shown.{lineFeed, lineFeeds, refusal, badText, Printed};
 

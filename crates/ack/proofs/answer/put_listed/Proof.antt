@@ -1,5 +1,5 @@
 -- `ack::answer::put_listed` meets its contract. Assumes nothing.
-use mathlib.Core.Path.{_∙_}
+use mathlib.Core.Path.{refl, _∙_}
 use native.Mathlib.Omega.{arith}
 use borrow.Author.Needs.{needs}
 use Rattle.ack.proofs.Writing.{wrote-as}
@@ -12,6 +12,9 @@ returns c =
     let begin = at-put .before .before .before .before .before .before .before .before .before in
     wrote-as (at-put .put .ensures) (at-put .before .front .ensures ∙ begin .pre .7 (omega arith))
 
+returns-2 : tie.Need-returns-2
+returns-2 c = c .before .before .before .before .put-errs .ensures .puts refl .wrote
+
 pub put-listed-spec : {M : Type 1} → statement M
 put-listed-spec =
     tie.close
@@ -23,4 +26,4 @@ put-listed-spec =
     (λ c κs. search needs)
     (λ c. search needs)
     (λ c. search needs)
-    (λ c. search needs))
+    returns-2)

@@ -34,8 +34,10 @@ returns c =
 
 returns-2 : tie.Need-returns-2
 returns-2 c =
-    let checked = c .before .before in
-    admit-refused _ _ (sym (sound-is _ (checked .check .result) (checked .check .ensures)) ∙ sym (c .before .is-sound-reading .ensures) ∙ c .if1 .left) (checked .check .ensures)
+    let left = c .before in
+    let checked = left .before .before in
+    admit-refused _ _ (sym (sound-is _ (checked .check .result) (checked .check .ensures)) ∙ sym (left .before .is-sound-reading .ensures) ∙ left .if1 .left)
+    (c .of-reading .ensures ∙ checked .check .ensures)
 
 pub admit-spec : {M : Type 1} → statement M
 admit-spec =
@@ -46,5 +48,6 @@ admit-spec =
     delims-of-requires
     segment-requires
     admit-msh-requires
+    (λ c κs. tt)
     returns
     returns-2)

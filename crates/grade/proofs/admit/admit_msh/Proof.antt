@@ -43,7 +43,7 @@ returns c =
     admit-some _ _ _ (sym (chosen .before .has-control-id .ensures) ∙ chosen .if1 .taken) (key .msh-value .ensures) (opened .open-at .ensures) (c .before .header-of .ensures) (c .by-section .ensures)
 
 returns-2 : tie.Need-returns-2
-returns-2 c = admit-none _ _ _ (sym (c .before .has-control-id .ensures) ∙ c .if1 .left)
+returns-2 c = let left = c .before in admit-none _ _ _ (sym (left .before .has-control-id .ensures) ∙ left .if1 .left) (c .refused .ensures)
 
 pub admit-msh-spec : {M : Type 1} → statement M
 admit-msh-spec =
@@ -59,5 +59,6 @@ admit-msh-spec =
     slice-aggregate-header-of
     header-of-requires
     by-section-requires
+    (λ c κs. tt)
     returns
     returns-2)

@@ -2,9 +2,9 @@
 use hl7::refusal::Reading;
 ghost use mathlib.Core.Path.{_≡_};
 ghost use Rattle.hl7.specs.Refusals.{told, readingTold};
-ghost use Rattle.ack.specs.Answers.{paper};
+ghost use Rattle.grade.specs.Admission.{paper};
 
-// What a call answers: number 0 and the length of the ACK that was written, or the number and the detail of the first refusal.
+// What a call answers: number 0 and, in its detail, what was asked for, or the number and the detail of the first refusal.
 pub struct Answer {
     pub number: u8,
     pub detail: usize,

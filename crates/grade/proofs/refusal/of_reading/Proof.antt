@@ -1,7 +1,7 @@
--- `ack::refusal::of_reading` meets its contract: each arm is a case of `readingTold`. Assumes nothing.
+-- `grade::refusal::of_reading` meets its contract: each arm is a case of `readingTold`. Assumes nothing.
 use borrow.Author.Needs.{needs}
-use Rattle.ack.proofs.refusal.of_reading.Statement.{statement}
-use Rattle.ack.proofs.refusal.of_reading.Tie as tie
+use Rattle.grade.proofs.refusal.of_reading.Statement.{statement}
+use Rattle.grade.proofs.refusal.of_reading.Tie as tie
 
 returns : tie.Need-returns
 returns c = rw (c .before .enum-told .given .1) (c .refused .ensures)
