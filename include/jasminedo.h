@@ -24,6 +24,11 @@ uint64_t jasminedo_answer(const uint8_t *message, size_t message_length, const u
                           const uint8_t *stamp, size_t stamp_length, uint32_t control, uint8_t *output,
                           size_t output_length);
 
+/* Only whether the ACK would say AA, for a lamp: number 0 with detail 1 for yes or 0 for no, or one of refusals 1 to 10, which are
+ * those of jasminedo_answer. Grading stops at the first finding of severity E or W; findings of severity I alone are yes. */
+uint64_t jasminedo_lamp(const uint8_t *message, size_t message_length, const uint8_t *book, size_t book_length,
+                        const uint8_t *stamp, size_t stamp_length);
+
 /* A batch file: FHS, BHS, messages, BTS, FTS. Number 0: the ACKs of its messages stand one after the other in the first
  * bytes of the output, with control numbers counting up from the one given; the detail is their joined length, 0 without
  * messages, and all later bytes are as they were. Otherwise the whole output is as it was, and the number is the first of

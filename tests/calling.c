@@ -1,5 +1,5 @@
-/* Calls the library as a C program would: the worked example, a refusal at each end, places, other delimiters, a batch, a book from
- * text, its own text and the legend, a text with changes and what they change in the book. Says what differs. */
+/* Calls the library as a C program would: the worked example, a refusal at each end, the lamp, places, other delimiters, a batch, a
+ * book from text, its own text and the legend, a text with changes and what they change in the book. Says what differs. */
 #include "../include/jasminedo.h"
 
 #include <stdio.h>
@@ -15,6 +15,30 @@ static void expect(const char *what, int holds) {
 }
 
 #define BYTES(s) (const uint8_t *)(s), sizeof(s) - 1
+
+/* A lamp's yes, its no by a finding of each severity that makes one, an I that does not, a header finding, and refusals 9 and 10. */
+static void expect_lamps(void) {
+#define LAMP(type, key, pid) "MSH|^~\\&|CAB|C1|REG|" key "|||" type "^V04|M1|P|2.5.1\rPID|" pid "\r"
+    static const char clean[] = LAMP("VXU", "AX", "1||77"), informed[] = LAMP("VXU", "AX", "1"), warned[] = LAMP("VXU", "AX", "||77");
+    static const char wrong_type[] = LAMP("ADT", "AX", "1||77"), elsewhere[] = LAMP("VXU", "AY", "1||77");
+    static const char unordered[] = "MSH|^~\\&|CAB|C1|REG|AX|||VXU^V04|M1|P|2.5.1\r";
+    static const char book[] = "VXB\0\1\1\2AX\0\2\0"
+                               "PID\1\1\1W\0\0\0"
+                               "PID\3\1\1I\0\0\0";
+    static const char stamp[] = "20250113120000+0000";
+
+    uint64_t got = jasminedo_lamp(BYTES(clean), BYTES(book), BYTES(stamp));
+    expect("the lamp says yes to a message without findings", jasminedo_number(got) == 0 && jasminedo_detail(got) == 1);
+    got = jasminedo_lamp(BYTES(informed), BYTES(book), BYTES(stamp));
+    expect("the lamp says yes to an I", jasminedo_number(got) == 0 && jasminedo_detail(got) == 1);
+    expect("the lamp says no to a W", jasminedo_lamp(BYTES(warned), BYTES(book), BYTES(stamp)) == 0);
+    expect("the lamp says no to a broken order", jasminedo_lamp(BYTES(unordered), BYTES(book), BYTES(stamp)) == 0);
+    expect("the lamp says no to a header finding", jasminedo_lamp(BYTES(wrong_type), BYTES(book), BYTES(stamp)) == 0);
+    got = jasminedo_lamp(BYTES(clean), BYTES(book), BYTES("20250113"));
+    expect("the lamp refuses a stamp that is none by 10", jasminedo_number(got) == 10 && jasminedo_detail(got) == 0);
+    got = jasminedo_lamp(BYTES(elsewhere), BYTES(book), BYTES("20250113"));
+    expect("the lamp refuses a key without a section by 9 first", jasminedo_number(got) == 9 && jasminedo_detail(got) == 0);
+}
 
 /* Two messages in a file, each refusal of a batch, and a file without messages. */
 static void expect_batches(void) {
@@ -198,6 +222,7 @@ int main(void) {
     expect("the example is answered with its length", jasminedo_number(got) == 0 && jasminedo_detail(got) == length);
     expect("the ACK is the example's", memcmp(output, ack, length) == 0);
     expect("what follows the ACK is left", output[length] == '.' && output[sizeof(output) - 1] == '.');
+    expect("the lamp says no to the example", jasminedo_lamp(BYTES(message), BYTES(book), BYTES(stamp)) == 0);
 
     got = jasminedo_check(output, 0);
     expect("an empty message is refusal 1", jasminedo_number(got) == 1 && jasminedo_detail(got) == 0);
@@ -212,6 +237,7 @@ int main(void) {
     got = jasminedo_check(BYTES("MSH|^~\\^|\r"));
     expect("a delimiter that stands twice is refusal 4", jasminedo_number(got) == 4);
 
+    expect_lamps();
     expect_batches();
     expect_books();
     expect_changes();

@@ -2,7 +2,7 @@
 use mathlib.Core.Path.{_≡_, refl, sym, ap, subst, _∙_}
 use mathlib.Core.Bool.{Bool, true, false}
 use mathlib.Core.List.{List}
-use Prim.Native.Nat.{ℕ, _-_, _/_, _%_, _^_, _≤_, _<_}
+use Prim.Native.Nat.{ℕ, _+_, _-_, _/_, _%_, _^_, _≤_, _<_}
 use native.Mathlib.Omega.{arith}
 use lib.ListN.{length, drop, length-take, length-drop}
 use Rattle.hl7.specs.Cut.{Piece}
@@ -10,9 +10,12 @@ use Rattle.hl7.specs.Spans.{Spans}
 use Rattle.hl7.specs.Refusals.{messageLimit, Told, firstRow, messageRows, isSound, located}
 use Rattle.hl7.specs.declared.cut.Span.{Span}
 use Rattle.hl7.proofs.Refusing.{reading-bounded, sound-short, located-refused}
-use Rattle.ack.specs.Answers.{Outcome, answerOf, paper, Gives}
-use Rattle.ack.specs.declared.refusal.Answer.{Answer}
+use Rattle.grade.specs.Admission.{paper}
+use Rattle.grade.specs.declared.refusal.Answer.{Answer}
+use Rattle.ack.specs.Answers.{Outcome, answerOf, Gives}
+use Rattle.ack.specs.Lamp.{lampOf}
 use Rattle.ack.proofs.Promises.{answer-bounded}
+use Rattle.ack.proofs.YesOrNo.{lamp-bounded}
 use Rattle.batchfile.specs.Batch.{batchOf}
 use Rattle.batchfile.proofs.Bounds.{batch-bounded}
 use Rattle.booktext.specs.Refusals.{Outcome as BookOutcome, compileOf}
@@ -47,6 +50,9 @@ batch-unpacked f b stamp control out =
 pub reading-unpacked : (m : List ℕ) → (packed (firstRow (messageRows m)) % 256 ≡ firstRow (messageRows m) .number) × (packed (firstRow (messageRows m)) / 256 ≡ firstRow (messageRows m) .detail)
 reading-unpacked m = let bounded = reading-bounded m in packed-back (firstRow (messageRows m)) (omega arith)
 
+pub lamp-unpacked : (m b stamp : List ℕ) → (packed (lampOf m b stamp) % 256 ≡ lampOf m b stamp .number) × (packed (lampOf m b stamp) / 256 ≡ lampOf m b stamp .detail)
+lamp-unpacked m b stamp = let bounded = lamp-bounded m b stamp in packed-back (lampOf m b stamp) (omega arith)
+
 -- ---- answers, in the words of the code
 module _ {o : Outcome} {a : Answer} {after : List ℕ} (w : Gives a after o) where
   given-small : o .told .detail ≤ 2 ^ 52 → a .detail ≤ 2 ^ 52
@@ -62,12 +68,18 @@ module _ (m b stamp : List ℕ) (control : ℕ) (out : List ℕ) {a : Answer} {a
   pub batch-small : Gives a after (batchOf m b stamp control out) → a .detail ≤ 2 ^ 52
   batch-small w = given-small w (batch-bounded m b stamp control out .1)
 
-module _ (m : List ℕ) {a : Answer} (w : paper a ≡ firstRow (messageRows m)) where
-  pub reading-small : a .detail ≤ 2 ^ 52
-  reading-small = let bounded = reading-bounded m in let same = ap (λ (t : Told). t .detail) w in omega arith
+module _ {t : Told} {a : Answer} (w : paper a ≡ t) where
+  told-within : t .detail ≤ messageLimit + 1 → a .detail ≤ 2 ^ 52
+  told-within h = let same = ap (λ (t : Told). t .detail) w in omega arith
 
-  pub reading-packed : {code : ℕ} → code ≡ packed (paper a) → code ≡ packed (firstRow (messageRows m))
-  reading-packed e = e ∙ ap packed w
+  pub paper-packed : {code : ℕ} → code ≡ packed (paper a) → code ≡ packed t
+  paper-packed e = e ∙ ap packed w
+
+pub reading-small : (m : List ℕ) {a : Answer} → paper a ≡ firstRow (messageRows m) → a .detail ≤ 2 ^ 52
+reading-small m w = told-within w (reading-bounded m .1)
+
+pub lamp-small : (m b stamp : List ℕ) {a : Answer} → paper a ≡ lampOf m b stamp → a .detail ≤ 2 ^ 52
+lamp-small m b stamp w = told-within w (lamp-bounded m b stamp .1)
 
 -- ---- places
 module _ {m : List ℕ} {p : Piece} {x : Span} (w : Spans m p x) where

@@ -1,12 +1,13 @@
 // The calls for other languages, on numbers and byte slices alone: each answers one number.
 use ack::answer::answer;
-use ack::refusal::Answer;
-use ack::refusal::of_reading;
+use ack::lamp::lamp;
 use batchfile::batch::answer_batch;
 use booktext::compile::compile;
 use booktext::told::Told;
 use canonical::show::show;
 use difference::difference::difference;
+use grade::refusal::Answer;
+use grade::refusal::of_reading;
 use hl7::cut::Span;
 use hl7::locate::locate_span;
 use hl7::refusal::check;
@@ -14,7 +15,9 @@ use legend::legend::legend;
 ghost use mathlib.Core.Path.{_≡_};
 ghost use Prim.Native.Nat.{_≤_, _^_};
 ghost use Rattle.hl7.specs.Refusals.{firstRow, messageRows, located};
-ghost use Rattle.ack.specs.Answers.{answerOf, paper};
+ghost use Rattle.grade.specs.Admission.{paper};
+ghost use Rattle.ack.specs.Answers.{answerOf};
+ghost use Rattle.ack.specs.Lamp.{lampOf};
 ghost use Rattle.batchfile.specs.Batch.{batchOf};
 ghost use Rattle.booktext.specs.Refusals.{compileOf};
 ghost use Rattle.canonical.specs.Shown.{showOf};
@@ -70,6 +73,13 @@ pub extern "C" fn jasminedo_batch(
     ensures { λ r. ⌜ (r ≡ packed (batchOf (now (file .entry)) (now (book .entry)) (now (stamp .entry)) control (now (output .entry)) .told)) × (now (output .exit) ≡ batchOf (now (file .entry)) (now (book .entry)) (now (stamp .entry)) control (now (output .entry)) .output) ⌝ }
 {
     pack(answer_batch(file, book, stamp, control, output))
+}
+
+#[no_mangle]
+pub extern "C" fn jasminedo_lamp(message: &[u8], book: &[u8], stamp: &[u8]) -> u64
+    ensures { λ r. ⌜ r ≡ packed (lampOf (now (message .entry)) (now (book .entry)) (now (stamp .entry))) ⌝ }
+{
+    pack(lamp(message, book, stamp))
 }
 
 #[no_mangle]

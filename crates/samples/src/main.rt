@@ -1,4 +1,5 @@
-// Runs the packed cases of a file, one after the other, and prints the answer to each; for a message, before it, the place that is asked for.
+// Runs the packed cases of a file, one after the other, and prints the answer to each; for a message, before it, the place that is asked for and what the
+// lamp tells.
 //
 // A number has four bytes, the high byte first. A case is its kind (1 a message, 2 a batch file), the length of the message or file, its
 // bytes, book length, book, stamp length, stamp, control number, output length. A message's case goes on with a place: segment, field,
@@ -6,12 +7,13 @@
 // length, its bytes, output length. A case of kind 6 is two books of which the difference is asked for: length and bytes of the old one, of the new one,
 // output length.
 use ack::answer::answer;
-use ack::refusal::Answer;
+use ack::lamp::lamp;
 use batchfile::batch::answer_batch;
 use booktext::compile::compile;
 use booktext::told::Told;
 use canonical::show::show;
 use difference::difference::difference;
+use grade::refusal::Answer;
 use hl7::bytes::front;
 use hl7::bytes::pick;
 use hl7::bytes::wide;
@@ -109,8 +111,22 @@ fn print_place(message: &[u8], asked: Asked) {
     io::write_all(STDOUT_FILENO, b"\n");
 }
 
-// The place of a message's case; a batch file's asks for none. Answers whether the case is whole.
-fn run_place(fd: i32, kind: u32, input: &[u8]) -> bool {
+// Prints a number and a detail.
+fn print_numbers(number: usize, detail: usize) {
+    io::print_decimal(STDOUT_FILENO, number as u64);
+    io::write_all(STDOUT_FILENO, b" ");
+    io::print_decimal(STDOUT_FILENO, detail as u64);
+}
+
+// Prints what the lamp tells on a line.
+fn print_lamp(message: &[u8], book: &[u8], stamp: &[u8]) {
+    let told = lamp(message, book, stamp);
+    print_numbers(told.number as usize, told.detail);
+    io::write_all(STDOUT_FILENO, b"\n");
+}
+
+// The place and the lamp of a message's case; a batch file's asks for neither. Answers whether the case is whole.
+fn run_asked(fd: i32, kind: u32, input: &[u8], book: &[u8], stamp: &[u8]) -> bool {
     if kind == MESSAGE {
         let asked = read_place(fd);
         // the last number is there only where the ones before it are
@@ -118,6 +134,7 @@ fn run_place(fd: i32, kind: u32, input: &[u8]) -> bool {
             return false;
         }
         print_place(input, asked);
+        print_lamp(input, book, stamp);
     }
     true
 }
@@ -160,7 +177,7 @@ fn print_answer(
 fn run_rest(fd: i32, kind: u32, input: &[u8], book: &[u8], stamp: &[u8]) -> bool {
     let control = read_number(fd);
     let length = read_number(fd);
-    if (length.count == 4) && run_place(fd, kind, input) {
+    if (length.count == 4) && run_asked(fd, kind, input, book, stamp) {
         return print_answer(
             kind,
             input,
@@ -196,9 +213,7 @@ fn run_case(fd: i32, kind: u32) -> bool {
 
 // Prints number, detail and section on a line.
 fn print_told(told: Told) {
-    io::print_decimal(STDOUT_FILENO, told.number as u64);
-    io::write_all(STDOUT_FILENO, b" ");
-    io::print_decimal(STDOUT_FILENO, told.detail as u64);
+    print_numbers(told.number, told.detail);
     io::write_all(STDOUT_FILENO, b" ");
     io::print_decimal(STDOUT_FILENO, told.section as u64);
     io::write_all(STDOUT_FILENO, b"\n");
