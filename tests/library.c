@@ -1,7 +1,7 @@
 /* The library as a program, for machines whose own programs cannot be linked with it. Takes packed cases (second/README.md
  * says how they look) from standard input until it ends. Gives for each the answer and the whole lent output, for a message
- * also the check and the place; numbers have eight bytes, the high byte first. A case is a message, a batch, a text, a book or two
- * books. */
+ * also the lamp, the check and the place; numbers have eight bytes, the high byte first. A case is a message, a batch, a
+ * text, a book or two books. */
 #include "../include/jasminedo.h"
 
 #include <stdio.h>
@@ -86,6 +86,7 @@ static void run_answer(uint32_t kind) {
     write_output(output, length);
     if (kind == MESSAGE) {
         size_t segment = read_number(), field = read_number(), repetition = read_number(), component = read_number();
+        write_number(jasminedo_lamp(given.start, given.length, book.start, book.length, stamp.start, stamp.length));
         write_number(jasminedo_check(given.start, given.length));
         write_number(jasminedo_locate(given.start, given.length, segment, field, repetition, component));
     }

@@ -1,9 +1,11 @@
 //! The answer: refusals in their order, or the ACK.
 
-use crate::book::{Book, Severity};
+use crate::book::Book;
 use crate::cutting::{Delimiters, Fields, Message, Refusal};
 use crate::findings::{self, Finding, Place};
-use crate::values;
+use crate::refusals::Accepted;
+use std::convert::Infallible;
+use std::ops::ControlFlow::Continue;
 
 /// Number 0 and the ACK's length, or a refusal that leaves `out` as it is.
 pub fn answer(m: &[u8], book: &[u8], stamp: &[u8], control: u32, out: &mut [u8]) -> (u8, u64) {
@@ -47,29 +49,20 @@ impl<'a> Ack<'a> {
         control: u32,
         room: u64,
     ) -> Result<Self, Refusal> {
-        let message = Message::read(m)?;
-        let header = message.header();
-        if !(1..=199).contains(&message.text(header.field(10)).len()) {
-            return Err((6, 0));
-        }
-        let book = book.as_ref().map_err(|refusal| *refusal)?;
-        let section = book.section(findings::first_value(message, &header, 6, 1))?;
-        if !is_stamp(stamp) {
-            return Err((10, 0));
-        }
-
+        let Accepted { message, header, section } = Accepted::of(m, book, stamp)?;
         let head = Head::new(message, &header, stamp, control);
         let mut length = Length(0);
         head.write("AA", &mut length);
         // Findings are kept while they still fit; those of an ACK that is too long are only measured.
         let mut kept: Vec<Finding> = Vec::new();
         let mut grave = false;
-        let rejected = findings::grade(message, &header, &section, |finding| {
-            grave |= finding.severity != Severity::Informational;
+        let Continue(rejected) = findings::grade(message, &header, &section, |finding| {
+            grave |= finding.severity.is_grave();
             write_err(&finding, &mut length);
             if length.0 <= room {
                 kept.push(finding);
             }
+            Continue::<Infallible>(())
         });
         let code = match (rejected, grave) {
             (true, _) => "AR",
@@ -86,12 +79,6 @@ impl<'a> Ack<'a> {
             write_err(finding, &mut output);
         }
     }
-}
-
-/// Whether refusal 10 is not met.
-pub fn is_stamp(stamp: &[u8]) -> bool {
-    // Of the TIMEs of 19 bytes only one with a fraction has another form, and its sign stands elsewhere.
-    stamp.len() == 19 && matches!(stamp[14], b'+' | b'-') && values::time_digits(stamp) == Some(14)
 }
 
 /// What the ACK's layout is written to: the output, or a mere count of its bytes.

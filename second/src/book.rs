@@ -22,6 +22,11 @@ impl Severity {
             Severity::Informational => b"I",
         }
     }
+
+    /// Whether a finding of it keeps a message from AA.
+    pub fn is_grave(self) -> bool {
+        self != Severity::Informational
+    }
 }
 
 #[derive(Clone, Copy, Debug, PartialEq, Eq)]
@@ -73,6 +78,8 @@ impl Rule {
     }
 
     /// Whether what stands at the rule's place in a repetition breaks it. What is no value breaks REQUIRED alone.
+    // By itself the compiler inlines it into one of the two gradings alone, the answer's or the lamp's.
+    #[inline]
     pub fn broken(&self, value: &[u8], sets: &[Set]) -> bool {
         if !values::is_value(value) {
             return self.kind == Kind::Required;

@@ -107,6 +107,8 @@ impl<'m> Message<'m> {
     }
 
     /// Component 0 is the whole repetition.
+    // Inlined like `Rule::broken`.
+    #[inline]
     pub fn component(self, repetition: Part, component: usize) -> Part {
         match component {
             0 => repetition,

@@ -1,8 +1,9 @@
 //! Grading: header, order and rule findings in the order in which the ACK lists them.
 
 use crate::book::{Kind, Rule, Section, Severity};
-use crate::cutting::{Fields, Message};
+use crate::cutting::{Fields, Message, Part};
 use crate::order::{Name, NAMES};
+use std::ops::ControlFlow::{self, Continue};
 
 #[derive(Clone, Copy, Debug, PartialEq, Eq)]
 pub enum Place {
@@ -42,16 +43,25 @@ fn code_of(kind: Kind) -> u8 {
     }
 }
 
-/// Gives `found` every finding in turn; says whether they are header findings.
-pub fn grade(message: Message, header: &Fields, section: &Section, mut found: impl FnMut(Finding)) -> bool {
-    if grade_header(message, header, &mut found) {
-        return true;
+/// Gives `found` every finding in turn until it breaks off; says whether they are header findings.
+pub fn grade<B>(
+    message: Message,
+    header: &Fields,
+    section: &Section,
+    mut found: impl FnMut(Finding) -> ControlFlow<B>,
+) -> ControlFlow<B, bool> {
+    let rejected = grade_header(message, header, &mut found)?;
+    if !rejected {
+        grade_segments(message, section, &mut found)?;
     }
-    grade_segments(message, section, &mut found);
-    false
+    Continue(rejected)
 }
 
-fn grade_header(message: Message, header: &Fields, found: &mut impl FnMut(Finding)) -> bool {
+fn grade_header<B>(
+    message: Message,
+    header: &Fields,
+    found: &mut impl FnMut(Finding) -> ControlFlow<B>,
+) -> ControlFlow<B, bool> {
     let checks: [(u8, u8, u8, &[&[u8]]); 4] =
         [(200, 9, 1, &[b"VXU"]), (201, 9, 2, &[b"V04"]), (202, 11, 1, &[b"P", b"T", b"D"]), (203, 12, 1, &[b"2.5.1"])];
     let mut any = false;
@@ -60,10 +70,10 @@ fn grade_header(message: Message, header: &Fields, found: &mut impl FnMut(Findin
         if !supported.contains(&value) {
             any = true;
             let place = Place::Value { name: Name::Msh, number: 1, field, repetition: 1, component };
-            found(Finding { place, code, severity: Severity::Error, rule: 0 });
+            found(Finding { place, code, severity: Severity::Error, rule: 0 })?;
         }
     }
-    any
+    Continue(any)
 }
 
 /// A component of a field's first repetition.
@@ -73,20 +83,22 @@ pub fn first_value<'m>(message: Message<'m>, fields: &Fields, field: usize, comp
     message.text(message.component(first, component))
 }
 
-fn grade_segments(message: Message, section: &Section, found: &mut impl FnMut(Finding)) {
+fn grade_segments<B>(
+    message: Message,
+    section: &Section,
+    found: &mut impl FnMut(Finding) -> ControlFlow<B>,
+) -> ControlFlow<B> {
     let rules = RulesByName::new(section);
     let sets = section.sets();
     let mut fields = Fields::new();
     let mut numbers = [0u32; NAMES.len()];
     let mut before: Option<Name> = None;
-    for segment in message.segments() {
-        let Some(name) = Name::of(message.name(segment)) else {
-            continue;
-        };
+    let counted = message.segments().filter_map(|segment| Some((segment, Name::of(message.name(segment))?)));
+    for (segment, name) in counted {
         numbers[name as usize] += 1;
         let number = numbers[name as usize];
         if before.is_some_and(|before| !name.may_follow(before)) {
-            found(order_finding(Place::Segment { name, number }));
+            found(order_finding(Place::Segment { name, number }))?;
         }
         before = Some(name);
         let rules = rules.of(name);
@@ -95,23 +107,25 @@ fn grade_segments(message: Message, section: &Section, found: &mut impl FnMut(Fi
         }
         fields.cut(message, segment);
         for &(rule_number, rule) in rules {
-            let Rule { field, component, severity, .. } = rule;
-            for (repetition, part) in (1..).zip(message.repetitions(fields.field(field.into()))) {
+            let Rule { field, component, severity, kind, .. } = rule;
+            for (repetition, part) in (1..).zip(judged(message, fields.field(field.into()), kind)) {
                 let value = message.text(message.component(part, component.into()));
                 if rule.broken(value, &sets) {
                     let place = Place::Value { name, number, field, repetition, component };
-                    found(Finding { place, code: code_of(rule.kind), severity, rule: rule_number });
-                }
-                if rule.kind == Kind::Required {
-                    // Repetition 1 alone.
-                    break;
+                    found(Finding { place, code: code_of(kind), severity, rule: rule_number })?;
                 }
             }
         }
     }
     if before.is_some_and(|last| !last.may_end()) {
-        found(order_finding(Place::End));
+        found(order_finding(Place::End))?;
     }
+    Continue(())
+}
+
+/// The repetitions that a kind looks at: REQUIRED at the first alone.
+fn judged(message: Message<'_>, field: Part, kind: Kind) -> impl Iterator<Item = Part> + '_ {
+    message.repetitions(field).take(if kind == Kind::Required { 1 } else { usize::MAX })
 }
 
 fn order_finding(place: Place) -> Finding {
@@ -135,5 +149,47 @@ impl RulesByName {
 
     fn of(&self, name: Name) -> &[(u16, Rule)] {
         &self.rules[self.starts[name as usize]..self.starts[name as usize + 1]]
+    }
+}
+
+#[cfg(test)]
+mod tests {
+    use super::*;
+    use crate::book::Book;
+    use std::ops::ControlFlow::Break;
+
+    /// The codes of the findings up to the one that breaks off, and what grading says.
+    fn codes_until(m: &[u8], last: usize) -> (Vec<u8>, ControlFlow<(), bool>) {
+        // Section AX: PID-3 NUMBER I, then PID-5 REQUIRED E.
+        let book = b"VXB\0\x01\x01\x02AX\0\x02\0PID\x03\0\x03I\0\0\0PID\x05\0\x01E\0\0\0";
+        let message = Message::read(m).unwrap_or_else(|_| panic!("the message"));
+        let book = Book::read(book).unwrap_or_else(|_| panic!("the book"));
+        let section = book.section(b"AX").unwrap_or_else(|_| panic!("the section"));
+        let mut codes = Vec::new();
+        let graded = grade(message, &message.header(), &section, |finding| {
+            codes.push(finding.code);
+            if codes.len() < last {
+                Continue(())
+            } else {
+                Break(())
+            }
+        });
+        (codes, graded)
+    }
+
+    #[test]
+    fn whoever_breaks_off_is_given_nothing_more() {
+        let m = b"MSH|^~\\&|CAB|C1|REG|AX|||VXU^V04|M1|P|2.5.1\rPID|||x~y\rRXA\rORC\r";
+        let all = [102, 102, 101, 100, 100];
+        for last in 1..=all.len() {
+            assert_eq!(codes_until(m, last), (all[..last].to_vec(), Break(())));
+        }
+        assert_eq!(codes_until(m, 6), (all.to_vec(), Continue(false)));
+        let m = b"MSH|^~\\&|CAB|C1|REG|AX|||ADT^A01|M1|X|2.5\rPID|||x\r";
+        let all = [200, 201, 202, 203];
+        for last in 1..=all.len() {
+            assert_eq!(codes_until(m, last), (all[..last].to_vec(), Break(())));
+        }
+        assert_eq!(codes_until(m, 5), (all.to_vec(), Continue(true)));
     }
 }

@@ -1,6 +1,6 @@
-//! A second, independent program of 01 and of A1, A3, A4 and A5 in 02: reads a VXU message, grades it by a section
-//! of a rule book and answers with an ACK, or with the ACKs of a batch file's messages. It also compiles
-//! rule books from text, shows them as text and tells two of them apart.
+//! A second, independent program of 01 and of A1, A3, A4, A5 and A8 in 02: reads a VXU message, grades it by a section
+//! of a rule book and answers with an ACK, with the ACKs of a batch file's messages, or with yes or no alone. It also
+//! compiles rule books from text, shows them as text and tells two of them apart.
 
 pub mod ack;
 pub mod batch;
@@ -12,11 +12,13 @@ pub mod cases;
 pub mod cutting;
 pub mod findings;
 pub mod hostile;
+pub mod lamp;
 pub mod limits;
 pub mod line;
 pub mod locating;
 pub mod order;
 pub mod packing;
+pub mod refusals;
 pub mod registries;
 pub mod samples;
 pub mod values;
@@ -26,6 +28,7 @@ use std::process::ExitCode;
 pub use ack::answer;
 pub use batch::batch;
 pub use cutting::check;
+pub use lamp::lamp;
 pub use locating::locate;
 
 /// How a program ends: a problem is told in one line.

@@ -43,6 +43,16 @@ pub fn doses(count: usize) -> Vec<u8> {
     [&message[..dose], &message[dose..].repeat(count)].concat()
 }
 
+/// As many doses as a message holds, up to the last one's RXA: as the guide prints them, and with the first or the last
+/// segment alone breaking a rule of New Jersey's that has severity E, for MSH-3 or RXA-20.
+pub fn longest_doses() -> [Vec<u8>; 3] {
+    let text = String::from_utf8(doses(46)).expect("the guides' messages are ASCII");
+    let (clean, _) = text.rsplit_once("RXR").expect("a dose has RXR");
+    let first = clean.replacen("|NJIIS|", "||", 1);
+    let last = clean.strip_suffix("|CP|A\r").expect("RXA ends with RXA-20 and RXA-21").to_string() + "|XX|A\r";
+    [clean.into(), first.into(), last.into()]
+}
+
 /// A book of some bytes, up to 65,536, with New Jersey's section and a filler.
 pub fn book_of(length: usize) -> Vec<u8> {
     let sections = vec![books::section("NJDOH", "NJ")];
@@ -88,6 +98,7 @@ pub fn batch_of(length: usize) -> (Vec<u8>, usize) {
 mod tests {
     use super::*;
     use crate::batch::FILE_LIMIT;
+    use crate::cutting::MESSAGE_LIMIT;
     use crate::samples::{case, STAMP};
 
     fn digits(number: u64) -> u64 {
@@ -135,6 +146,21 @@ mod tests {
         for book in [book_of(65_536), rules_of(256), books::registries_book(), books::largest_book()] {
             assert!(!printed(doses(5), book).starts_with("refused"));
         }
+    }
+
+    #[test]
+    fn the_longest_doses_break_nothing_or_one_rule() {
+        let [clean, first, last] = longest_doses().map(|message| {
+            assert!((32_000..=MESSAGE_LIMIT).contains(&message.len()));
+            let case = case(message, books::registries_book());
+            let printed = String::from_utf8(case.printed()).unwrap_or_default();
+            let errs: Vec<String> = printed.lines().skip(2).map(Into::into).collect();
+            (case.lamp(), errs)
+        });
+        let of = |text: &str| vec![text.to_string()];
+        assert_eq!(clean, ((0, 1), vec![]));
+        assert_eq!(first, ((0, 0), of("ERR||MSH^1^3^1^1|101^Required field missing^HL70357|E|1^^L")));
+        assert_eq!(last, ((0, 0), of("ERR||RXA^46^20^1|103^Table value not found^HL70357|E|113^^L")));
     }
 
     #[test]

@@ -1,7 +1,7 @@
-//! The main code's static library, by its eight C functions.
+//! The main code's static library, by its nine C functions.
 
 use second::booktext::Told;
-use second::cases::BookCall;
+use second::cases::{AnyCase, BookCall};
 use second::packing::{self, number_and_detail, start_and_length};
 
 #[link(name = "jasminedo", kind = "static")]
@@ -27,6 +27,14 @@ extern "C" {
         control: u32,
         output: *mut u8,
         output_length: usize,
+    ) -> u64;
+    fn jasminedo_lamp(
+        message: *const u8,
+        message_length: usize,
+        book: *const u8,
+        book_length: usize,
+        stamp: *const u8,
+        stamp_length: usize,
     ) -> u64;
     fn jasminedo_check(message: *const u8, message_length: usize) -> u64;
     fn jasminedo_locate(
@@ -77,6 +85,23 @@ fn ask(call: Call, given: &[u8], book: &[u8], stamp: &[u8], control: u32, out: &
         )
     };
     number_and_detail(result)
+}
+
+pub fn lamp(m: &[u8], book: &[u8], stamp: &[u8]) -> (u8, u64) {
+    // SAFETY: every pointer comes with the length of its own slice.
+    number_and_detail(unsafe {
+        jasminedo_lamp(m.as_ptr(), m.len(), book.as_ptr(), book.len(), stamp.as_ptr(), stamp.len())
+    })
+}
+
+/// The answer to a case; of messages and batches there is no section.
+pub fn answer_to(case: &AnyCase, out: &mut [u8]) -> Told {
+    match case {
+        AnyCase::Message(case) => answer(&case.message, &case.book, &case.stamp, case.control, out).into(),
+        AnyCase::Batch(case) => batch(&case.file, &case.book, &case.stamp, case.control, out).into(),
+        AnyCase::Book(case) => told(case.call, &case.given, out),
+        AnyCase::Diff(case) => diff(&case.old, &case.new, out),
+    }
 }
 
 /// What is told of a text or a book.

@@ -4,6 +4,7 @@
 pub mod batches;
 mod delimiters;
 pub mod diffs;
+pub mod lamp;
 mod months;
 mod quotes;
 pub mod sources;
@@ -50,6 +51,11 @@ fn lines(text: &str) -> Vec<u8> {
 fn book_ax(rules: &[RuleBytes]) -> Vec<u8> {
     let section = SectionPlan { rules: rules.to_vec(), ..SectionPlan::new("AX") };
     books::encode(&[section])
+}
+
+fn with_sets(rules: Vec<RuleBytes>, sets: &[&[&str]]) -> SectionPlan {
+    let sets = sets.iter().map(|codes| codes.iter().map(|code| code.as_bytes().to_vec()).collect()).collect();
+    SectionPlan { rules, sets, ..SectionPlan::new("AX") }
 }
 
 /// Control number 7, the stamp of the worked example, 65,536 bytes of output, and MSH-1.
@@ -489,34 +495,36 @@ fn book_refusals() -> Vec<Sample> {
         .collect()
 }
 
+/// Stamps, and whether they are good.
+const STAMPS: [(&str, bool); 24] = [
+    ("20250113120000+0000", true),
+    ("20250113120000-0000", true),
+    ("00010101000000+0000", true),
+    ("00000101000000+0000", false),
+    ("99991231235959+2359", true),
+    ("20251231235959+2400", false),
+    ("20251231235959+2360", false),
+    ("20251231240000+0000", false),
+    ("20251231236000+0000", false),
+    ("20251231235960+0000", false),
+    ("20251301000000+0000", false),
+    ("20250001000000+0000", false),
+    ("20250100000000+0000", false),
+    ("20250431000000+0000", false),
+    ("20230229000000+0000", false),
+    ("20240229000000+0000", true),
+    ("20250113120000 0000", false),
+    ("20250113120000.1234", false),
+    ("2025011312000+00000", false),
+    ("20250113120000+000", false),
+    ("20250113120000+00000", false),
+    ("20250113120000", false),
+    ("", false),
+    ("2025011312000x+0000", false),
+];
+
 fn stamps() -> Vec<Sample> {
-    let rows: [(&str, bool); 24] = [
-        ("20250113120000+0000", true),
-        ("20250113120000-0000", true),
-        ("00010101000000+0000", true),
-        ("00000101000000+0000", false),
-        ("99991231235959+2359", true),
-        ("20251231235959+2400", false),
-        ("20251231235959+2360", false),
-        ("20251231240000+0000", false),
-        ("20251231236000+0000", false),
-        ("20251231235960+0000", false),
-        ("20251301000000+0000", false),
-        ("20250001000000+0000", false),
-        ("20250100000000+0000", false),
-        ("20250431000000+0000", false),
-        ("20230229000000+0000", false),
-        ("20240229000000+0000", true),
-        ("20250113120000 0000", false),
-        ("20250113120000.1234", false),
-        ("2025011312000+00000", false),
-        ("20250113120000+000", false),
-        ("20250113120000+00000", false),
-        ("20250113120000", false),
-        ("", false),
-        ("2025011312000x+0000", false),
-    ];
-    rows.into_iter().map(|(stamp, good)| stamped(stamp, good)).collect()
+    STAMPS.into_iter().map(|(stamp, good)| stamped(stamp, good)).collect()
 }
 
 /// A message that breaks nothing, with a stamp that is good or not.
@@ -635,6 +643,15 @@ mod tests {
             if let Some(text) = located {
                 assert_eq!(String::from_utf8_lossy(case.located()), text, "{name}");
             }
+        }
+    }
+
+    #[test]
+    fn the_lamp_goes_with_every_answer() {
+        for Sample { name, case, .. } in samples() {
+            let mut out = vec![0; case.output_length];
+            let answer = case.answer(&mut out);
+            assert!(crate::lamp::agrees(case.lamp(), answer, &out), "{name}");
         }
     }
 

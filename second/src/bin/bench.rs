@@ -5,7 +5,7 @@
 mod ours;
 
 use second::batch::FILE_LIMIT;
-use second::booktext::{Told, TEXT_LIMIT, TOO_SHORT};
+use second::booktext::{TEXT_LIMIT, TOO_SHORT};
 use second::cases::{AnyCase, BookCall, BookCase, DiffCase};
 use second::line::BATCH;
 use second::samples::{self, STAMP};
@@ -64,6 +64,7 @@ fn usual() -> Result<(), String> {
     println!("Medians of {ROUNDS} samples, of {SLOW_ROUNDS} where one run takes 2 ms or more. Bytes are those of message and book.");
     answers()?;
     growths()?;
+    lamps()?;
     batches()?;
     sources()?;
     reading();
@@ -110,6 +111,46 @@ fn growths() -> Result<(), String> {
         }
     }
     Ok(())
+}
+
+/// Where grading can stop at once, where it has to go on to the last segment, and where nothing stops it.
+fn lamps() -> Result<(), String> {
+    println!("\nThe lamp beside the whole answer, in microseconds; a rule that is broken has severity E\n");
+    println!(
+        "{:36} {:>7} {:>7} {:>4} {:>11} {:>11} {:>11} {:>11}",
+        "input", "message", "book", "says", "ours lamp", "second", "ours answer", "second"
+    );
+    let [clean, first, last] = limits::longest_doses();
+    for (book, named) in [(books::registries_book(), "618 rules"), (books::largest_book(), "largest book")] {
+        for (message, name) in [
+            (&first, "first segment broken"),
+            (&last, "last segment broken"),
+            (&clean, "46 doses"),
+            (&limits::doses(1), "one dose"),
+        ] {
+            let (says, times) = measure_lamp(message, &book)?;
+            let [ours, second, ours_answer, second_answer] = times.map(|time| time / 1000.0);
+            print!("{:36} {:>7} {:>7} {says:>4}", format!("{name}, {named}"), message.len(), book.len());
+            println!(" {ours:>11.3} {second:>11.3} {ours_answer:>11.3} {second_answer:>11.3}");
+        }
+    }
+    Ok(())
+}
+
+/// What it says, and medians of the lamps and of the answers.
+fn measure_lamp(message: &[u8], book: &[u8]) -> Result<(&'static str, [f64; 4]), String> {
+    let (mut out_ours, mut out_second) = (vec![0; OUTPUT_LENGTH], vec![0; OUTPUT_LENGTH]);
+    let mut ours_answer = || ours::answer(black_box(message), black_box(book), STAMP, 7, &mut out_ours);
+    let mut second_answer = || second::answer(black_box(message), black_box(book), STAMP, 7, &mut out_second);
+    let ours = || ours::lamp(black_box(message), black_box(book), STAMP);
+    let second = || second::lamp(black_box(message), black_box(book), STAMP);
+    if ours() != second() || ours_answer() != second_answer() {
+        return Err(format!("the lamp of {} bytes: ours and second say different things", message.len()));
+    }
+    let says = if second().1 == 1 { "yes" } else { "no" };
+    let runs: [&mut dyn FnMut() -> u64; 4] =
+        [&mut || ours().1, &mut || second().1, &mut || ours_answer().1, &mut || second_answer().1];
+    Ok((says, medians(runs)))
 }
 
 /// Files of one-dose messages, as many as 1 MiB holds and half of them, beside a call for each message.
@@ -183,10 +224,10 @@ fn time_source(name: &str, source: String) -> Result<(), String> {
     for (call, case) in calls {
         let (mut out_ours, mut out_second) = (vec![0; LENT], vec![0; LENT]);
         let told = case.answer(&mut out_second);
-        if told_by_ours(&case, &mut out_ours) != told || out_ours != out_second {
+        if ours::answer_to(&case, &mut out_ours) != told || out_ours != out_second {
             return Err(format!("{name}, {call}: ours and second answer differently"));
         }
-        let [ours, second] = medians([&mut || told_by_ours(black_box(&case), &mut out_ours).detail, &mut || {
+        let [ours, second] = medians([&mut || ours::answer_to(black_box(&case), &mut out_ours).detail, &mut || {
             black_box(&case).answer(&mut out_second).detail
         }]);
         let (ours, second) = (ours / 1000.0, second / 1000.0);
@@ -200,16 +241,6 @@ fn bytes_in(case: &AnyCase) -> usize {
         AnyCase::Book(case) => case.given.len(),
         AnyCase::Diff(case) => case.old.len() + case.new.len(),
         AnyCase::Message(_) | AnyCase::Batch(_) => 0,
-    }
-}
-
-/// What the main code tells of books as text.
-fn told_by_ours(case: &AnyCase, out: &mut [u8]) -> Told {
-    match case {
-        AnyCase::Book(case) => ours::told(case.call, &case.given, out),
-        AnyCase::Diff(case) => ours::diff(&case.old, &case.new, out),
-        AnyCase::Message(case) => ours::answer(&case.message, &case.book, &case.stamp, case.control, out).into(),
-        AnyCase::Batch(case) => ours::batch(&case.file, &case.book, &case.stamp, case.control, out).into(),
     }
 }
 
@@ -245,7 +276,7 @@ fn measure_once(name: &str, case: AnyCase) -> Result<(u8, f64, f64), String> {
     let needed = if told.number == TOO_SHORT { told.detail } else { 0 };
     let length = if needed > MOST_LENT { 0 } else { needed as usize };
     let (mut out_ours, mut out_second) = (vec![0; length], vec![0; length]);
-    let (told, ours) = once(|| told_by_ours(&case, &mut out_ours));
+    let (told, ours) = once(|| ours::answer_to(&case, &mut out_ours));
     let (expected, second) = once(|| case.answer(&mut out_second));
     if told != expected || out_ours != out_second {
         return Err(format!("{name}: ours {told:?}, second {expected:?}"));

@@ -6,7 +6,7 @@ use second::cases::{
     number_of, AnyCase, BatchCase, BookCall, BookCase, BookGenerator, Case, DiffCase, DiffGenerator, Pair, BOOK_ROWS,
 };
 use second::cutting::MESSAGE_LIMIT;
-use second::samples::{self, batches, case, diffs, sources, PLACES, STAMP};
+use second::samples::{self, batches, case, diffs, lamp, sources, PLACES, STAMP};
 use second::{books, limits, packing};
 use std::process::ExitCode;
 use std::{env, fs};
@@ -35,26 +35,8 @@ fn run() -> Result<(), String> {
     cases.extend(diff_cases()?.into_iter().map(AnyCase::Diff));
     let mut text = Vec::new();
     for (number, case) in (1..).zip(&cases) {
-        let (lengths, room) = match case {
-            AnyCase::Message(case) => {
-                text.extend(case.located());
-                text.push(b'\n');
-                text.extend(case.printed());
-                ([case.message.len(), case.book.len(), case.stamp.len(), case.output_length], ROOM)
-            }
-            AnyCase::Batch(case) => {
-                text.extend(case.printed());
-                ([case.file.len(), case.book.len(), case.stamp.len(), case.output_length], BATCH_ROOM)
-            }
-            AnyCase::Book(case) => {
-                text.extend(case.printed());
-                ([case.given.len(), 0, 0, case.output_length], BOOK_ROOM)
-            }
-            AnyCase::Diff(case) => {
-                text.extend(case.printed());
-                ([case.old.len(), case.new.len(), 0, case.output_length], DIFF_ROOM)
-            }
-        };
+        text.extend(printed(case));
+        let (lengths, room) = lengths_and_room(case);
         if lengths.iter().zip(room).any(|(length, room)| *length > room) {
             return Err(format!("case {number} is too long for the runner: {lengths:?}"));
         }
@@ -63,6 +45,28 @@ fn run() -> Result<(), String> {
         fs::write(path, bytes).map_err(|e| format!("{}: {e}", path.display()))?;
     }
     Ok(())
+}
+
+/// What a program that runs packed cases prints for one.
+fn printed(case: &AnyCase) -> Vec<u8> {
+    match case {
+        AnyCase::Message(case) => {
+            let (number, detail) = case.lamp();
+            [case.located(), format!("\n{number} {detail}\n").as_bytes(), &case.printed()].concat()
+        }
+        AnyCase::Batch(case) => case.printed(),
+        AnyCase::Book(case) => case.printed(),
+        AnyCase::Diff(case) => case.printed(),
+    }
+}
+
+fn lengths_and_room(case: &AnyCase) -> ([usize; 4], [usize; 4]) {
+    match case {
+        AnyCase::Message(case) => ([case.message.len(), case.book.len(), case.stamp.len(), case.output_length], ROOM),
+        AnyCase::Batch(case) => ([case.file.len(), case.book.len(), case.stamp.len(), case.output_length], BATCH_ROOM),
+        AnyCase::Book(case) => ([case.given.len(), 0, 0, case.output_length], BOOK_ROOM),
+        AnyCase::Diff(case) => ([case.old.len(), case.new.len(), 0, case.output_length], DIFF_ROOM),
+    }
 }
 
 /// What has to be printed as written by hand.
@@ -81,6 +85,10 @@ fn message_cases() -> Result<Vec<Case>, String> {
         let printed = sample.case.printed() == sample.expected.as_bytes();
         let located = sample.located.is_none_or(|text| sample.case.located() == text.as_bytes());
         expect(&sample.name, printed && located)?;
+        cases.push(sample.case);
+    }
+    for sample in lamp::samples() {
+        expect(&sample.name, sample.case.lamp() == sample.told)?;
         cases.push(sample.case);
     }
     let guides = books::guide_cases().into_iter().zip(PLACES.into_iter().cycle());

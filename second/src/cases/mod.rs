@@ -50,6 +50,10 @@ impl Case {
         line::printed_answer(self.output_length, |out| self.answer(out))
     }
 
+    pub fn lamp(&self) -> (u8, u64) {
+        crate::lamp(&self.message, &self.book, &self.stamp)
+    }
+
     /// The bytes at the case's place.
     pub fn located(&self) -> &[u8] {
         let (start, length) = crate::locate(&self.message, self.place.map(|number| number as usize));
@@ -193,7 +197,8 @@ pub struct Generator {
 
 impl Generator {
     pub fn new(seed: u64) -> Self {
-        let samples = samples::samples().into_iter().map(|sample| sample.case).collect();
+        let graded = samples::samples().into_iter().map(|sample| sample.case);
+        let samples = graded.chain(samples::lamp::samples().into_iter().map(|sample| sample.case)).collect();
         Generator { seed, samples, pairs: pairs(), guides: books::guide_cases() }
     }
 

@@ -1,7 +1,7 @@
 //! Two quotes, which are no value (A3 of 02), and values near to them, under each kind of rule; and places where they are
 //! what they were: the key, MSH-10 and copied fields. Those of the header are among its samples.
 
-use super::{at, book_ax, case, graded, lines, sample, Sample, ACK_HEADER, END_FINDING};
+use super::{at, book_ax, case, graded, lines, sample, with_sets, Sample, ACK_HEADER, END_FINDING};
 use crate::books::{self, rule, RuleBytes, SectionPlan};
 
 pub fn samples() -> Vec<Sample> {
@@ -47,11 +47,6 @@ const OF_20: &[u16] = OF_3;
 fn book(component: u8) -> Vec<u8> {
     let rules = RULES.map(|(kind, uses)| rule("PID", 3, component, kind, b'E', uses)).to_vec();
     books::encode(&[with_sets(rules, &[&["\"\"", "X"], &["X", "Y"]])])
-}
-
-fn with_sets(rules: Vec<RuleBytes>, sets: &[&[&str]]) -> SectionPlan {
-    let sets = sets.iter().map(|codes| codes.iter().map(|code| code.as_bytes().to_vec()).collect()).collect();
-    SectionPlan { rules, sets, ..SectionPlan::new("AX") }
 }
 
 /// What the ACK says after its header of a PID-3 whose repetitions each break these of the ten rules.

@@ -1,9 +1,11 @@
 //! What the cases hit: refusals and their pairs, findings, combinations of header findings and of severities, what other
-//! delimiters bring, the ends of months, two quotes, what batches do, what books as text do and what differences tell.
+//! delimiters bring, the ends of months, two quotes, what the lamp says, what batches do, what books as text do and what
+//! differences tell.
 
 use crate::batches::Batches;
 use crate::books::Books;
 use crate::diffs::Diffs;
+use crate::lamps::{Decided, Lamps};
 use crate::months::{self, Edge, Months};
 use crate::quotes::{self, Quotes};
 use second::book::{Book, Kind, Rule};
@@ -12,6 +14,8 @@ use second::cases::{AnyCase, Case, Pair};
 use second::cutting::{self, Message, Refusal};
 use second::findings::{self, Finding, Place};
 use std::collections::HashSet;
+use std::convert::Infallible;
+use std::ops::ControlFlow::Continue;
 
 /// Longer ACKs are not graded once more to be counted.
 pub const LONGEST: u64 = 100_000;
@@ -47,6 +51,7 @@ pub struct Coverage {
     caret_in_key: u64,
     months: Months,
     quotes: Quotes,
+    lamps: Lamps,
     batches: Batches,
     books: Books,
     diffs: Diffs,
@@ -66,6 +71,7 @@ impl Coverage {
 
     fn count_message(&mut self, case: &Case, pair: Option<Pair>, (number, detail): (u8, u64)) {
         self.numbers[usize::from(number)] += 1;
+        self.lamps.count(case.lamp(), number);
         if let Some((earlier, later)) = pair {
             // A book's late faults are tried after the version.
             if number == earlier || (earlier, later, number) == (7, 8, 8) {
@@ -104,6 +110,7 @@ impl Coverage {
         self.order += u64::from(hits.order);
         self.end += u64::from(hits.end);
         self.headers[hits.header] += 1;
+        self.lamps.count_decided(&hits.decided);
         if written {
             self.quotes.count(&hits.quotes);
         }
@@ -126,6 +133,7 @@ impl Coverage {
         rows.extend(self.delimiter_rows());
         rows.extend(self.months.rows());
         rows.extend(self.quotes.rows());
+        rows.extend(self.lamps.rows());
         rows.extend(self.batches.rows());
         rows.extend(self.books.rows());
         rows.extend(self.diffs.rows());
@@ -225,6 +233,7 @@ pub struct Hits {
     /// One bit for each of E, W, I.
     severities: usize,
     edges: HashSet<Edge>,
+    pub decided: Decided,
     pub quotes: HashSet<quotes::Hit>,
 }
 
@@ -237,7 +246,13 @@ impl Hits {
         let section = book.section(findings::first_value(message, &header, 6, 1))?;
         let rules: Vec<Rule> = section.rules().collect();
         let mut hits = Hits { edges: months::edges(message, &rules), ..Hits::default() };
-        let rejected = findings::grade(message, &header, &section, |finding| hits.add(&rules, finding));
+        let mut found = Vec::new();
+        let Continue(rejected) = findings::grade(message, &header, &section, |finding| {
+            found.push(finding);
+            Continue::<Infallible>(())
+        });
+        found.iter().for_each(|finding| hits.add(&rules, finding));
+        hits.decided = Decided::of(message, &rules, &found);
         hits.quotes = quotes::hits(message, &header, &section, rejected);
         Ok(hits)
     }
@@ -251,7 +266,7 @@ impl Hits {
         }
     }
 
-    fn add(&mut self, rules: &[Rule], finding: Finding) {
+    fn add(&mut self, rules: &[Rule], finding: &Finding) {
         self.severities |= 1 << finding.severity as usize;
         match (finding.code, finding.place) {
             (100, Place::End) => self.end = true,

@@ -1,7 +1,7 @@
 //! The library in a program of its own, `tests/library.c`: packed cases go in, what was made of them comes out.
 
-use crate::library::{Library, Made};
-use second::cases::AnyCase;
+use crate::library::{Besides, Library, Made};
+use second::cases::{AnyCase, Case};
 use second::packing::{self, number_and_detail, start_and_length, told};
 use std::io::{self, BufReader, Read, Write};
 use std::process::{ChildStdin, ChildStdout, Command, Stdio};
@@ -41,13 +41,18 @@ fn read(from: &mut impl Read, case: &AnyCase) -> io::Result<Made> {
     };
     let mut output = vec![0; case.output_length()];
     from.read_exact(&mut output)?;
-    let mut made = Made { answer, output, check: None, places: Vec::new() };
-    if let AnyCase::Message(case) = case {
-        made.check = Some(number_and_detail(number(from)?));
-        let place = case.place.map(|number| number as usize);
-        made.places.push((place, start_and_length(number(from)?)));
-    }
-    Ok(made)
+    let besides = match case {
+        AnyCase::Message(case) => Some(read_besides(from, case)?),
+        AnyCase::Batch(_) | AnyCase::Book(_) | AnyCase::Diff(_) => None,
+    };
+    Ok(Made { answer, output, besides })
+}
+
+fn read_besides(from: &mut impl Read, case: &Case) -> io::Result<Besides> {
+    let lamp = number_and_detail(number(from)?);
+    let check = number_and_detail(number(from)?);
+    let place = case.place.map(|number| number as usize);
+    Ok(Besides { lamp, check, places: vec![(place, start_and_length(number(from)?))] })
 }
 
 fn number(from: &mut impl Read) -> io::Result<u64> {

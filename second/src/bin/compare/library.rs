@@ -1,10 +1,10 @@
-//! Case by case through the library, linked or in a program of its own: answer and whole output, of a message also check
-//! and locate.
+//! Case by case through the library, linked or in a program of its own: answer and whole output, of a message also the
+//! lamp, check and locate.
 
 use crate::coverage::Coverage;
 use second::booktext::Told;
 use second::cases::{AllCases, AnyCase, Pair};
-use second::packing;
+use second::{lamp, packing};
 use std::fmt::Debug;
 use std::path::{Path, PathBuf};
 use std::time::{Duration, Instant};
@@ -21,8 +21,14 @@ pub struct Made {
     /// The lent output, and what stands after it where that can be seen.
     pub output: Vec<u8>,
     /// Of a message alone.
-    pub check: Option<(u8, u64)>,
-    /// Places of a message with their start and length.
+    pub besides: Option<Besides>,
+}
+
+/// What is asked of a message besides its answer.
+pub struct Besides {
+    pub lamp: (u8, u64),
+    pub check: (u8, u64),
+    /// Places with their start and length.
     pub places: Vec<([usize; 4], (usize, usize))>,
 }
 
@@ -105,20 +111,29 @@ fn compare_one(case: &AnyCase, made: &Made) -> (Told, Result<(), String>) {
     let answer = case.answer(&mut output[..case.output_length()]);
     let compared = same("answer", made.answer, answer)
         .and_then(|()| same_output(&made.output, &output))
-        .and_then(|()| same_reading(case, made));
+        .and_then(|()| same_besides(case, made));
     (answer, compared)
 }
 
-fn same_reading(case: &AnyCase, made: &Made) -> Result<(), String> {
-    match case {
-        AnyCase::Message(case) => {
-            same("check", made.check, Some(second::check(&case.message)))?;
-            let mut places = made.places.iter();
-            places.try_for_each(|(place, found)| {
-                same(&format!("locate {place:?}"), *found, second::locate(&case.message, *place))
-            })
-        }
-        AnyCase::Batch(_) | AnyCase::Book(_) | AnyCase::Diff(_) => Ok(()),
+fn same_besides(case: &AnyCase, made: &Made) -> Result<(), String> {
+    let (AnyCase::Message(case), Some(Besides { lamp, check, places })) = (case, &made.besides) else {
+        return Ok(());
+    };
+    same("lamp", *lamp, case.lamp())?;
+    goes_with_answer(*lamp, made)?;
+    same("check", *check, second::check(&case.message))?;
+    places.iter().try_for_each(|(place, found)| {
+        same(&format!("locate {place:?}"), *found, second::locate(&case.message, *place))
+    })
+}
+
+/// The lamp beside the answer that was given with it, which is known to be right.
+fn goes_with_answer(lamp: (u8, u64), made: &Made) -> Result<(), String> {
+    let answer = (made.answer.number, made.answer.detail);
+    if lamp::agrees(lamp, answer, &made.output) {
+        Ok(())
+    } else {
+        Err(format!("lamp {lamp:?} beside answer {answer:?}"))
     }
 }
 

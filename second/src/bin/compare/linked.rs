@@ -1,8 +1,8 @@
 //! The library as it is linked into this program.
 
-use crate::library::{filled, Library, Made};
+use crate::library::{filled, Besides, Library, Made};
 use crate::ours;
-use second::cases::{self, AnyCase, BatchCase, BookCase, Case, DiffCase, Random};
+use second::cases::{self, AnyCase, Case, Random};
 
 /// Bytes after the output that nobody may write.
 const GUARD: usize = 64;
@@ -18,27 +18,18 @@ impl Library for Linked {
 fn make(case: &AnyCase) -> Made {
     let length = case.output_length();
     let mut output = filled(length + GUARD);
-    let lent = &mut output[..length];
-    match case {
-        AnyCase::Message(case) => {
-            let Case { message, book, stamp, control, .. } = case;
-            let answer = ours::answer(message, book, stamp, *control, lent).into();
-            let places = places(case).into_iter().map(|place| (place, ours::locate(message, place)));
-            Made { answer, check: Some(ours::check(message)), places: places.collect(), output }
-        }
-        AnyCase::Batch(BatchCase { file, book, stamp, control, .. }) => {
-            let answer = ours::batch(file, book, stamp, *control, lent).into();
-            Made { answer, check: None, places: Vec::new(), output }
-        }
-        AnyCase::Book(BookCase { call, given, .. }) => {
-            let answer = ours::told(*call, given, lent);
-            Made { answer, check: None, places: Vec::new(), output }
-        }
-        AnyCase::Diff(DiffCase { old, new, .. }) => {
-            let answer = ours::diff(old, new, lent);
-            Made { answer, check: None, places: Vec::new(), output }
-        }
-    }
+    let answer = ours::answer_to(case, &mut output[..length]);
+    let besides = match case {
+        AnyCase::Message(case) => Some(besides(case)),
+        AnyCase::Batch(_) | AnyCase::Book(_) | AnyCase::Diff(_) => None,
+    };
+    Made { answer, output, besides }
+}
+
+fn besides(case: &Case) -> Besides {
+    let Case { message, book, stamp, .. } = case;
+    let places = places(case).into_iter().map(|place| (place, ours::locate(message, place)));
+    Besides { lamp: ours::lamp(message, book, stamp), check: ours::check(message), places: places.collect() }
 }
 
 /// The case's place and more, since asking costs little here; also numbers that no packed case can hold.

@@ -7,6 +7,7 @@ mod coverage;
 mod diffs;
 mod driven;
 mod judged;
+mod lamps;
 mod library;
 #[cfg(feature = "ours")]
 mod linked;

@@ -2,9 +2,9 @@
 
 use crate::coverage::Row;
 use crate::judged;
-use second::ack::is_stamp;
 use second::book::{Kind, Rule};
 use second::cutting::Message;
+use second::refusals::is_stamp;
 use std::collections::HashSet;
 
 const USES: [&str; 3] = ["DATE", "TIME", "stamp"];
