@@ -14,10 +14,10 @@ use Rattle.hl7.specs.Text.{bytes}
 use Rattle.hl7.specs.Place.{delimsOf, place}
 use Rattle.hl7.specs.Refusals.{messageLimit, Told, told, firstRow, passes, numbersOf, holdsAt, First, messageRows, formRows}
 use Rattle.hl7.proofs.Comparing.{or-neither}
-use Rattle.hl7.proofs.Refusing.{rows-append, row-exactly, none-exactly}
+use Rattle.hl7.proofs.Refusing.{row-exactly, none-exactly}
 use Rattle.grade.specs.Values.{isStamp}
 use Rattle.grade.specs.Header.{mshOf, headerOf, anyWrong, headerOr}
-use Rattle.grade.specs.Admission.{bookRows, admitRows, stampRow, tenRows, paper}
+use Rattle.grade.specs.Admission.{bookRows, admitRows, tenRows, paper}
 use Rattle.grade.specs.Grading.{findingsBy, findingsFor, Graded, gradeOf}
 use Rattle.grade.specs.Standing.{AdmitsStamped}
 use Rattle.grade.specs.Rest.{findingsIn}
@@ -26,7 +26,7 @@ use Rattle.grade.specs.declared.finding.Finding.{Finding}
 use Rattle.grade.specs.declared.header.Header.{Header}
 use Rattle.grade.specs.declared.walk.Section.{Section}
 use Rattle.grade.specs.declared.admit.Admitted.the-variants.{Refused, By}
-use Rattle.grade.proofs.Admitting.{admit-apart, admitted-by, refused-some, ten-apart, ten-bounded, ten-refuses, stamped-passes, stamped-admitted}
+use Rattle.grade.proofs.Admitting.{admitted-by, refused-some, ten-apart, ten-first, ten-bounded, ten-refuses, stamped-passes, stamped-admitted}
 use Rattle.grade.proofs.Grading.{listed}
 use Rattle.ack.specs.Layout.{has, isFault}
 use Rattle.ack.specs.Answers.{Outcome, outcomeBy, ackFor, answerOf}
@@ -87,7 +87,7 @@ lampFrom g stamp = cond (eqb (g .told .number) 0) (cond (isStamp stamp) (yesOrNo
 pub lamp-grades : (m b stamp : List ℕ) → lampOf m b stamp ≡ lampFrom (gradeOf m b) stamp
 unfolding lampOf gradeOf firstRow
 lamp-grades m b stamp =
-    ap (λ (t : Told). cond (eqb (t .number) 0) (yesOrNo (getsAA (findingsFor m b))) t) (rows-append (admitRows m b) (stampRow stamp ∷ []) (admit-apart m b))
+    ap (λ (t : Told). cond (eqb (t .number) 0) (yesOrNo (getsAA (findingsFor m b))) t) (ten-first m b stamp)
     ∙ by (passes (admitRows m b)) (isStamp stamp) refl
   where
     first : (passed right : Bool) → Told

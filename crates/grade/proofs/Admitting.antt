@@ -168,7 +168,8 @@ module _ (m b stamp : List ℕ) where
   unfolding admitRows messageRows formRows bookRows numbersOf distinct isIn
   ten-apart = refl
 
-  ten-first : firstRow (tenRows m b stamp) ≡ cond (passes (admitRows m b)) (firstRow (stampRow stamp ∷ [])) (firstRow (admitRows m b))
+  -- the stamp's row is tried after the nine
+  pub ten-first : firstRow (tenRows m b stamp) ≡ cond (passes (admitRows m b)) (firstRow (stampRow stamp ∷ [])) (firstRow (admitRows m b))
   ten-first = rows-append (admitRows m b) (stampRow stamp ∷ []) (admit-apart m b)
 
   -- a message that passes them is admitted, and the stamp is right

@@ -1,7 +1,6 @@
 -- `ack::lamp::gets_aa` meets its contract: by the header, or else by whether an E or W is among the findings. Assumes nothing.
 use mathlib.Core.Path.{sym, ap, _∙_}
 use mathlib.Core.Bool.{not}
-use native.Mathlib.Omega.{arith}
 use borrow.Author.Needs.{needs}
 use Rattle.ack.proofs.YesOrNo.{aa-header}
 use Rattle.ack.proofs.lamp.gets_aa.Statement.{statement}
