@@ -20,7 +20,7 @@ use Rattle.grade.proofs.Admitting.{admit-apart, ten-apart}
 use Rattle.grade.specs.declared.refusal.Answer.{Answer}
 use Rattle.ack.specs.Splice.{Wrote}
 use Rattle.ack.specs.Layout.{verdict, ackBytes}
-use Rattle.ack.specs.Answers.{Outcome, outcome, outcomeBy, byRows, shortRow, writeRows, ackOf, writeOf, thenWrite, ackFor, answerOf, Gives}
+use Rattle.ack.specs.Answers.{Outcome, outcome, outcomeBy, byRows, shortRow, writeRows, writeOf, thenWrite, ackFor, answerOf, Gives}
 use Rattle.ack.specs.Pieces.{findingLimit, heading, errs, shortOr}
 use Rattle.ack.proofs.Writing.{_then_, wrote-as, wrote-at-start}
 use Rattle.ack.proofs.Lines.{ack-is}
@@ -72,13 +72,9 @@ module _ (rows : List Row) (e : apart (numbersOf rows) ≡ true) (ack out : List
 
 -- ---- writing, in the words of the code
 module _ (m : List ℕ) (findings : List Finding) (stamp : List ℕ) (control : ℕ) (out : List ℕ) where
-  pub write-stamp : isStamp stamp ≡ false → writeOf m findings stamp control out ≡ outcome (told 10 0) out
+  write-stamp : isStamp stamp ≡ false → writeOf m findings stamp control out ≡ outcome (told 10 0) out
   unfolding writeOf firstRow
   write-stamp e = rw e
-
-  pub write-right : isStamp stamp ≡ true → writeOf m findings stamp control out ≡ shortOr (ackOf m findings stamp control) out
-  unfolding writeOf firstRow
-  write-right e = rw e
 
 -- ---- answering is writing after grading
 module _ (m b stamp : List ℕ) (control : ℕ) (out : List ℕ) where
@@ -88,12 +84,6 @@ module _ (m b stamp : List ℕ) (control : ℕ) (out : List ℕ) where
       let ack = ackFor m b stamp control in
       ap (λ (rows : List Row). byRows rows ack out) (append-assoc (admitRows m b) (stampRow stamp ∷ []) (shortRow ack out ∷ []))
       ∙ table-append (admitRows m b) (admit-apart m b) ack out (writeRows stamp ack out)
-
-  pub answer-admitted : firstRow (admitRows m b) .number ≡ 0 → answerOf m b stamp control out ≡ writeOf m (findingsFor m b) stamp control out
-  answer-admitted e = by-admission ∙ rw (eq-eqb (firstRow (admitRows m b) .number) 0 e)
-
-  pub answer-stopped : (firstRow (admitRows m b) .number ≡ 0 → ⊥) → answerOf m b stamp control out ≡ outcome (firstRow (admitRows m b)) out
-  answer-stopped some = by-admission ∙ rw (ne-eqb (firstRow (admitRows m b) .number) 0 some)
 
   -- without a right stamp nothing of it shows
   pub answer-unstamped : isStamp stamp ≡ false → answerOf m b stamp control out ≡ cond (passes (admitRows m b)) (outcome (told 10 0) out) (outcome (firstRow (admitRows m b)) out)

@@ -102,7 +102,7 @@ module _ (o : ℕ → ℕ → Bool) (rules : List Rule) (sets : List (List (List
       of n (suc i) r = rule-code (ruleNumbered o rules sets m i .kind)
 
 -- ---- one about the header is listed exactly where a header check fails
--- and so is an E
+-- a test that the four findings pass is passed by one of them exactly there
 header-has : (test : Finding → Bool) → test (headerFinding 200 9 1) ≡ true → test (headerFinding 201 9 2) ≡ true → test (headerFinding 202 11 1) ≡ true → test (headerFinding 203 12 1) ≡ true
     → (h : Header) → has test (headerFindings h) ≡ anyWrong h
 unfolding headerFindings has

@@ -16,27 +16,27 @@ use Rattle.hl7.specs.Text.{bytes}
 use Rattle.hl7.specs.Bytes.{isIn, distinct, all}
 use Rattle.hl7.specs.Place.{carriageReturn, delimsOf, nthOf, cutUnless, segmentsOf, place}
 use Rattle.hl7.specs.Delimiters.{opens}
-use Rattle.hl7.specs.Refusals.{Told, told, firstRow, numbersOf, apart, holdsAt, First, messageRows, formRows}
+use Rattle.hl7.specs.Refusals.{Told, told, firstRow, passes, numbersOf, apart, holdsAt, First, messageRows, formRows}
 use Rattle.hl7.proofs.Cutting.{part-short}
 use Rattle.hl7.proofs.Delimiting.{Delimiting, opens-delimiting}
 use Rattle.grade.specs.Values.{isStamp}
 use Rattle.grade.specs.Order.{mayFollow}
 use Rattle.grade.specs.Findings.{findings, Demand3}
 use Rattle.grade.specs.Header.{mshOf, headerOf, anyWrong, headerFindings}
-use Rattle.grade.specs.Admission.{bookRows, admitRows}
+use Rattle.grade.specs.Admission.{bookRows, admitRows, tenRows}
 use Rattle.grade.specs.Grading.{sectionFor, findingsBy, findingsFor}
 use Rattle.grade.specs.declared.header.Header.{Header}
 use Rattle.grade.specs.declared.finding.Finding.{Finding}
 use Rattle.grade.proofs.Demand3.{findings-meet}
 use Rattle.grade.proofs.Grading.{listed}
-use Rattle.grade.proofs.Admitting.{admitted-by, admitted-short, admits-passed, admit-bounded}
+use Rattle.grade.proofs.Admitting.{admitted-by, admitted-short, admits-passed, ten-passes, ten-bounded}
 use Rattle.ack.specs.Layout.{has, isHeader, isFault, mshLine, msaLine, errLine, ackLines}
 use Rattle.ack.specs.Answers.{Outcome, outcome, outcomeBy, ackFor, answerRows, answerOf}
 use Rattle.ack.specs.Pieces.{shortOr}
 use Rattle.ack.proofs.Sizes.{ack-size}
 use Rattle.ack.proofs.Admitting.{stamp-length, admitted-long, admitted-within}
 use Rattle.ack.proofs.Listing.{graded-plain, header-told, header-faults, header-verdict}
-use Rattle.ack.proofs.Answering.{number-is, refused-is, written-is as ack-is, table-exactly, table-none, write-stamp, write-right, answer-admitted, answer-stopped}
+use Rattle.ack.proofs.Answering.{number-is, refused-is, written-is as ack-is, table-exactly, table-none, answer-ten-stopped, answer-ten-passed}
 use Rattle.ack.proofs.Texts.{text-clean, stamp-text, listed-text}
 use Rattle.ack.proofs.Reading.{clean, part-without, ack-delims, ack-segments, ar-exactly, ae-exactly, aa-exactly}
 
@@ -186,7 +186,7 @@ module _ (m b stamp : List ℕ) (control : ℕ) (out : List ℕ) where
   -- no detail reaches 2 ^ 48, and no number 12
   pub answer-bounded : (answerOf m b stamp control out .told .number < 12) × (answerOf m b stamp control out .told .detail ≤ 2 ^ 48)
   unfolding firstRow
-  answer-bounded = by (ℕ-discrete (firstRow (admitRows m b) .number) 0)
+  answer-bounded = by (passes (tenRows m b stamp)) refl
     where
       Small : Told → Type 0
       Small t = (t .number < 12) × (t .detail ≤ 2 ^ 48)
@@ -202,15 +202,11 @@ module _ (m b stamp : List ℕ) (control : ℕ) (out : List ℕ) where
           by true = (omega arith, h)
           by false = (omega arith, h)
 
-      stamped : firstRow (admitRows m b) .number ≡ 0 → (right : Bool) → isStamp stamp ≡ right → Small (answerOf m b stamp control out .told)
-      stamped e false w = rw (answer-admitted m b stamp control out e, write-stamp m (findingsFor m b) stamp control out w) (omega arith, omega arith)
-      stamped e true w =
-          rw (answer-admitted m b stamp control out e, write-right m (findingsFor m b) stamp control out w)
-          (last (omega (arith, ack-within m b stamp control e w, admitted-short m b (admits-passed m b e))))
-
-      by : Dec (firstRow (admitRows m b) .number ≡ 0) → Small (answerOf m b stamp control out .told)
-      by (yes e) = stamped e (isStamp stamp) refl
-      by (no some) = let told = admit-bounded m b in rw (answer-stopped m b stamp control out some) (omega arith, omega arith)
+      by : (passed : Bool) → passes (tenRows m b stamp) ≡ passed → Small (answerOf m b stamp control out .told)
+      by true e =
+          let right = ten-passes m b stamp e in
+          rw (answer-ten-passed m b stamp control out e) (last (omega (arith, ack-within m b stamp control (right .0) (right .1), admitted-short m b (admits-passed m b (right .0)))))
+      by false e = let told = ten-bounded m b stamp in rw (answer-ten-stopped m b stamp control out e) (omega arith, omega arith)
 
 -- ---- demand 3
 -- where the header is accepted, the ACK's segments after MSH and MSA are one ERR for each event that breaks the order or a rule of the section that the

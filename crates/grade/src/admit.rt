@@ -70,7 +70,7 @@ fn admit_msh(d: Delims, msh: &[u8], book: &[u8], sections: &[usize], indexed: In
 }
 
 // Whether a message can be graded by a book, and by which section; `index_book` noted where the book's sections start.
-pub fn admit(m: &[u8], book: &[u8], sections: &[usize], indexed: Indexed) -> Admitted
+fn admit(m: &[u8], book: &[u8], sections: &[usize], indexed: Indexed) -> Admitted
     requires { ⌜ Indexes (now book) (now sections) indexed ⌝ }
     ensures { λ r. ⌜ Admits (now (m .entry)) (now (book .entry)) r ⌝ }
 {

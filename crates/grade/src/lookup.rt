@@ -46,9 +46,7 @@ pub fn rule_at(book: &[u8], section: Section, i: usize) -> Rule
     requires { ⌜ Holds (now book) section × (i < section .«rule_count») ⌝ }
     ensures { λ r. ⌜ r ≡ getD (rulesIn (now (book .entry)) section) i noRule ⌝ }
 {
-    let rules_at = section.rules_at;
-    let at = rules_at + RULE_SIZE * i;
-    rule_named(book, section, i, name_at(book, at))
+    rule_named(book, section, i, name_of_rule(book, section, i) as u8)
 }
 
 // The number of the name that the rule with a number is about.
