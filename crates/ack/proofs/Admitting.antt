@@ -27,7 +27,7 @@ use Rattle.grade.specs.declared.walk.Section.{Section}
 use Rattle.grade.specs.declared.admit.Admitted.the-variants.{Refused, By}
 use Rattle.grade.specs.declared.refusal.Answer.{Answer}
 use Rattle.ack.specs.Layout.{ackBytes}
-use Rattle.ack.specs.Pieces.{findingLimit, shortOr}
+use Rattle.ack.specs.Pieces.{shortOr}
 use Rattle.ack.specs.Answers.{outcome, answerOf, Gives}
 use Rattle.ack.proofs.Answering.{answer-ten-stopped, answer-ten-passed}
 
@@ -63,9 +63,6 @@ module _ (m b : List ℕ) {s : Section} {h : Header} (is : Admits m b (By s h)) 
 
   pub admitted-within : length (findingsIn b s h m) ≤ (length m + 1) * (257 * 32769)
   admitted-within = all-within m b s h (admitted-short m b is) (admitted-holds m b is)
-
-  pub admitted-few : length (findingsIn b s h m) ≤ findingLimit
-  admitted-few = omega (arith, admitted-within, admitted-short m b is)
 
 -- ---- the ways out of the call
 module _ (m b stamp : List ℕ) (control : ℕ) (out : List ℕ) where

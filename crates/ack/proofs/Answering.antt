@@ -20,8 +20,9 @@ use Rattle.grade.proofs.Admitting.{admit-apart, ten-apart}
 use Rattle.grade.specs.declared.refusal.Answer.{Answer}
 use Rattle.ack.specs.Splice.{Wrote}
 use Rattle.ack.specs.Layout.{verdict, ackBytes}
-use Rattle.ack.specs.Answers.{Outcome, outcome, outcomeBy, byRows, shortRow, writeRows, writeOf, thenWrite, ackFor, answerOf, Gives}
-use Rattle.ack.specs.Pieces.{findingLimit, heading, errs, shortOr}
+use Rattle.ack.specs.Answers.{Outcome, outcome, outcomeBy, byRows, shortRow, writeRows, writeOf, thenWrite, ackOf, ackFor, answerOf, Gives}
+use Rattle.grade.specs.Sheet.{findingLimit}
+use Rattle.ack.specs.Pieces.{heading, errs, shortOr}
 use Rattle.ack.proofs.Writing.{_then_, wrote-as, wrote-at-start}
 use Rattle.ack.proofs.Lines.{ack-is}
 use Rattle.ack.proofs.Sizes.{ack-short}
@@ -72,13 +73,17 @@ module _ (rows : List Row) (e : apart (numbersOf rows) ≡ true) (ack out : List
 
 -- ---- writing, in the words of the code
 module _ (m : List ℕ) (findings : List Finding) (stamp : List ℕ) (control : ℕ) (out : List ℕ) where
-  write-stamp : isStamp stamp ≡ false → writeOf m findings stamp control out ≡ outcome (told 10 0) out
+  pub write-stamp : isStamp stamp ≡ false → writeOf m findings stamp control out ≡ outcome (told 10 0) out
   unfolding writeOf firstRow
   write-stamp e = rw e
 
+  pub write-stamped : isStamp stamp ≡ true → writeOf m findings stamp control out ≡ shortOr (ackOf m findings stamp control) out
+  unfolding writeOf firstRow
+  write-stamped e = rw e
+
 -- ---- answering is writing after grading
 module _ (m b stamp : List ℕ) (control : ℕ) (out : List ℕ) where
-  by-admission : answerOf m b stamp control out ≡ cond (passes (admitRows m b)) (writeOf m (findingsFor m b) stamp control out) (outcome (firstRow (admitRows m b)) out)
+  pub by-admission : answerOf m b stamp control out ≡ cond (passes (admitRows m b)) (writeOf m (findingsFor m b) stamp control out) (outcome (firstRow (admitRows m b)) out)
   unfolding answerOf writeOf
   by-admission =
       let ack = ackFor m b stamp control in
@@ -113,7 +118,7 @@ module _ (m b stamp : List ℕ) (control : ℕ) (out : List ℕ) where
 -- ---- length first, then bytes: what was measured in two parts, and written in two
 module _ (d : Delims) (msh stamp : List ℕ) (control : ℕ) (findings : List Finding) (out : List ℕ) (h : length msh ≤ messageLimit) (s : length stamp ≤ 19) (few : length findings ≤ findingLimit) where
   module _ {a b : ℕ} (first : (second : ℕ) → a ≡ length (heading d msh stamp control second)) (others : b ≡ length (errs d findings)) where
-    need-is : a + b ≡ length (ackBytes d msh stamp control findings)
+    pub need-is : a + b ≡ length (ackBytes d msh stamp control findings)
     need-is =
         let whole = ap length (ack-is d msh stamp control findings) ∙ length-append (heading d msh stamp control (verdict findings)) (errs d findings) in
         omega (arith, first (verdict findings), others, whole, ack-short d msh stamp control findings h s few)

@@ -26,7 +26,8 @@ use Rattle.grade.specs.Grading.{findingsFor, gradeOf}
 use Rattle.grade.specs.declared.finding.Finding.{Finding}
 use Rattle.grade.proofs.Exchanging.{Unmoved, allIn, unmoved-by, msh-exchanged, admit-kept, listed-kept, exchanged-grade}
 use Rattle.ack.specs.Decimal.{decimal}
-use Rattle.ack.specs.Layout.{ownByte, own, marked, joined, copied, mshLine, has, isHeader, isFault, verdict, msaLine, placeParts, codeText, errLine, ended, ackLines, ackBytes}
+use Rattle.grade.specs.Deciding.{has, isHeader, isFault}
+use Rattle.ack.specs.Layout.{ownByte, own, marked, joined, copied, mshLine, verdict, msaLine, placeParts, codeText, errLine, ended, ackLines, ackBytes}
 use Rattle.ack.specs.Answers.{outcomeBy, byRows, shortRow, ackFor, answerOf}
 use Rattle.ack.proofs.Answering.{answer-unstamped}
 use Rattle.ack.proofs.Texts.{isText, isOwn, Each, IsText, isOdd, text-plain, decimal-text, stamp-text, letter-text, place-text, code-own, severity-is, listed-text}

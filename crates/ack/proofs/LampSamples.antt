@@ -24,7 +24,7 @@ use Rattle.grade.specs.Header.{mshAt, isProcessingId, headerOf, headerFindings}
 use Rattle.grade.specs.Admission.{bookRows, admitRows}
 use Rattle.grade.specs.Grading.{sectionFor, findingsBy}
 use Rattle.grade.proofs.BookSamples.{head, rule, sized, part, book}
-use Rattle.ack.specs.Layout.{has}
+use Rattle.grade.specs.Deciding.{has}
 use Rattle.ack.specs.Lamp.{lampOf}
 
 -- PID-7.1 DATE E, PID-8 REQUIRED W, PID-5 REQUIRED I

@@ -1,15 +1,12 @@
--- The ERRs of lists of findings, one after the other, and the loops that write them. Assumes nothing.
-use mathlib.Core.Path.{_≡_, refl, sym, ap, subst, subst⁻¹, _∙_}
-use mathlib.Core.Bool.{Bool, true, false, cond, not, _&&_, _||_, or-false, or-assoc, true≢false}
+-- The ERRs of lists of findings, one after the other, and the loop that writes them from sheet to sheet. Assumes nothing.
+use mathlib.Core.Path.{_≡_, refl, sym, ap, ap₂, _∙_}
+use mathlib.Core.Bool.{Bool, true, false, cond, _||_, or-false}
 use mathlib.Core.List.{List, [], _∷_, _++_, map, flatMap, append-nil, append-assoc}
-use Prim.Native.Nat.{ℕ, zero, suc, _+_, _≤_, _<_, min}
-use native.Mathlib.Omega.{arith}
-use lib.ListN.{length, take, drop}
-use lib.Seq.{take-append-seam}
-use borrow.Author.Tests.{not-true}
+use Prim.Native.Nat.{ℕ, zero, suc, _≤_, _<_}
 use Prim.Native.Char.{code}
+use native.Mathlib.Omega.{arith}
+use lib.ListN.{length}
 use Rattle.hl7.specs.declared.place.Delims.{Delims}
-use Rattle.hl7.proofs.Comparing.{and-both}
 use Rattle.grade.specs.Header.{headerFinding, headerFindings, anyWrong}
 use Rattle.grade.specs.declared.header.Header.{Header}
 use Rattle.grade.specs.Strict.{keep}
@@ -18,64 +15,32 @@ use Rattle.grade.specs.Order.{mayFollow}
 use Rattle.grade.specs.Standing.{rulesIn, setsIn}
 use Rattle.grade.specs.Rest.{findingsIn}
 use Rattle.grade.specs.Findings.{Event, findings, findingOf, findingAt, ruleNumbered, breaks, places}
+use Rattle.grade.specs.Deciding.{has, isHeader, isFault}
+use Rattle.grade.specs.Sheet.{findingLimit, held, toCome, Sheeted, Gets}
+use Rattle.grade.specs.Filling.{allFrom}
 use Rattle.grade.specs.declared.rule.Kind.{Kind}
 use Rattle.grade.specs.declared.rule.Rule.{Rule}
 use Rattle.grade.specs.declared.walk.Section.{Section}
 use Rattle.grade.specs.declared.finding.Finding.{Finding}
+use Rattle.grade.specs.declared.sheet.Sheet.{Sheet}
+use Rattle.grade.specs.declared.step.Terms.{Terms}
 use Rattle.grade.proofs.Heading.{checks}
+use Rattle.grade.proofs.Sheets.{none-to-come}
 use Rattle.ack.specs.Splice.{Wrote, limit}
-use Rattle.ack.specs.Layout.{has, isHeader, isFault, letter, verdict, errLine, ended}
-use Rattle.ack.specs.Pieces.{findingLimit, errs, Puts, Goes}
+use Rattle.ack.specs.Layout.{letter, verdict, errLine, ended}
+use Rattle.ack.specs.Pieces.{errs, Puts}
 use Rattle.ack.specs.declared.errs.Put.{Put}
 use Rattle.ack.proofs.Sizes.{errs-short}
-use Rattle.ack.proofs.Writing.{_then_, wrote-none, wrote-as, wrote-length, wrote-at-start}
+use Rattle.ack.proofs.Writing.{_then_, wrote-as, wrote-length}
 
-has-append : (test : Finding → Bool) (l k : List Finding) → has test (l ++ k) ≡ (has test l || has test k)
-unfolding has
-has-append test [] k = refl
-has-append test (f ∷ l) k = ap (λ (b : Bool). test f || b) (has-append test l k) ∙ sym (or-assoc (test f) (has test l) (has test k))
-
-errs-append : (d : Delims) (l k : List Finding) → errs d l ++ errs d k ≡ errs d (l ++ k)
+pub errs-append : (d : Delims) (l k : List Finding) → errs d l ++ errs d k ≡ errs d (l ++ k)
 unfolding errs flatMap
 errs-append d [] k = refl
 errs-append d (f ∷ l) k = append-assoc (ended (errLine d f)) (errs d l) (errs d k) ∙ ap (λ (t : List ℕ). ended (errLine d f) ++ t) (errs-append d l k)
 
--- ---- ERRs written, one list of findings after the other
-pub puts-none : (d : Delims) {o : List ℕ} {at : ℕ} → length o < limit → at ≤ limit → Puts d [] o at o (record { at = at; fault = false })
-unfolding errs flatMap has
-puts-none d {o} {at} room near =
-    let kept : min at limit ≡ at = omega arith in
-    record { wrote = rw kept at (wrote-none o at room); faulty = refl }
-
-pub puts-one : {d : Delims} {f : Finding} {o p : List ℕ} {at next : ℕ} {fault : Bool} → Wrote o at (ended (errLine d f)) p next → fault ≡ isFault f → Puts d (f ∷ []) o at p (record { at = next; fault = fault })
-unfolding errs flatMap has
-puts-one {d} {f} w e = record {
-  wrote = wrote-as w (sym (append-nil (ended (errLine d f))));
-  faulty = e ∙ sym (or-false (isFault f));
-}
-
-pub puts-then : {d : Delims} {l k : List Finding} {o p q : List ℕ} {at : ℕ} {r s : Put} → Puts d l o at p r → Puts d k p (r .at) q s → Puts d (l ++ k) o at q (record { at = s .at; fault = r .fault || s .fault })
-puts-then {d} {l} {k} f g = record {
-  wrote = wrote-as (f .wrote then g .wrote) (errs-append d l k);
-  faulty = rw (has-append, f .faulty, g .faulty);
-}
-
-pub puts-as : {d : Delims} {l k : List Finding} {o p : List ℕ} {at : ℕ} {r : Put} → l ≡ k → Puts d k o at p r → Puts d l o at p r
-puts-as {d} {o = o} {p} {at} {r} e w = subst⁻¹ (λ (x : List Finding). Puts d x o at p r) e w
-
--- ERRs put into a buffer of their own: where they fit, they can be taken from there
-module _ {d : Delims} {findings : List Finding} {o p : List ℕ} {r : Put} (w : Puts d findings o 0 p r) (few : length findings ≤ findingLimit) where
-  pub whole-is : r .at ≡ length (errs d findings)
-  whole-is = omega (arith, w .wrote .ends, errs-short d findings)
-
-  pub kept-is : r .at ≤ length p → take (r .at) p ≡ errs d findings
-  kept-is h =
-      rw (whole-is, wrote-at-start (w .wrote) (omega (arith, whole-is, wrote-length (w .wrote))))
-      (take-append-seam (errs d findings) (drop (length (errs d findings)) o))
-
-  -- the letter, where it is known whether one is about the header
-  pub verdict-is : {wrong : Bool} → has isHeader findings ≡ wrong → letter wrong (r .fault) ≡ verdict findings
-  verdict-is told = rw (told, w .faulty)
+-- ---- ERRs that were written from the start on: where they end is how long they are
+pub whole-is : (d : Delims) (findings : List Finding) {o p : List ℕ} {at : ℕ} → Wrote o 0 (errs d findings) p at → length findings ≤ findingLimit → at ≡ length (errs d findings)
+whole-is d findings w few = omega (arith, w .ends, errs-short d findings)
 
 -- ---- what the grader finds is not about the header
 -- no rule has a header code
@@ -132,39 +97,51 @@ listed-told b s h m = by (anyWrong h) refl
 pub header-verdict : (h : Header) → anyWrong h ≡ true → verdict (headerFindings h) ≡ code "R"
 header-verdict h e = rw (header-told h, e)
 
--- ---- a loop over lists of findings: whatever puts what is still to come completes the whole
-abbrev pub Completes : Delims → (whole left : List Finding) → (o : List ℕ) → ℕ → (now : List ℕ) → ℕ → Bool → Type 0
-Completes d whole left o at now to fault = (after : List ℕ) (r : Put) → Puts d left now to after r → Puts d whole o at after (record { at = r .at; fault = fault || r .fault })
-
-pub completes-more : {d : Delims} {whole left one rest : List Finding} {o now next : List ℕ} {at to : ℕ} (fault : Bool) {put : Put}
-    → Completes d whole left o at now to fault → left ≡ one ++ rest → Puts d one now to next put → Completes d whole rest o at next (put .at) (fault || put .fault)
-completes-more fault {put} inv split w after r others =
-    rw (or-assoc fault (put .fault) (r .fault)) (inv after _ (puts-as split (puts-then w others)))
-
-pub completes-over : {d : Delims} {whole left : List Finding} {o now : List ℕ} {at to : ℕ} (fault : Bool) → Completes d whole left o at now to fault → left ≡ [] → length now < limit → to ≤ limit → Puts d whole o at now (record { at = to; fault = fault })
-completes-over {d} fault inv e room near = rw (or-false fault) at (inv _ _ (puts-as e (puts-none d room near)))
-
--- whether a fault is among the whole is known of what was told, or is told by what is still to come
-abbrev pub Faults : (whole left : List Finding) → Bool → Type 0
-Faults whole left fault = has isFault whole ≡ (fault || has isFault left)
-
-pub faults-more : (whole : List Finding) {left rest : List Finding} {f : Finding} (fault : Bool) → Faults whole left fault → left ≡ f ∷ rest → Faults whole rest (fault || isFault f)
+-- ---- where the sheets end, it is known whether a fault was among all
+pub ended-told : (m b : List ℕ) (s : Sheet) {known : Bool} → s .ended ≡ true → (s .fault || has isFault (toCome m b s)) ≡ known → s .fault ≡ known
 unfolding has
-faults-more whole {rest = rest} {f} fault inv split = inv ∙ rw split (sym (or-assoc fault (isFault f) (has isFault rest)))
+ended-told m b s e told = sym (or-false (s .fault)) ∙ ap (λ (l : List Finding). s .fault || has isFault l) (sym (none-to-come m b s e)) ∙ told
 
--- the first fault ends a run in brief
-pub goes-brief : {brief next ends : Bool} {d : Delims} {whole left rest : List Finding} {f : Finding} {o now : List ℕ} {at to : ℕ} (fault : Bool)
-    → Faults whole left fault → left ≡ f ∷ rest → (next ≡ (fault || isFault f)) × (ends ≡ (not fault && (brief && isFault f))) → ends ≡ true
-    → Goes brief d whole o at now (record { at = to; fault = next })
-goes-brief {brief} {next} {whole = whole} {rest = rest} {f} fault inv split look e =
-    let first = and-both (not fault) (brief && isFault f) (sym (look .1) ∙ e) in
-    let both = and-both brief (isFault f) (first .1) in
-    let is : next ≡ true = look .0 ∙ rw (not-true fault (first .0), both .1) in
-    let known : has isFault whole ≡ true = faults-more whole fault inv split ∙ ap (λ (b : Bool). b || has isFault rest) (sym (look .0) ∙ is) in
-    record { puts = λ not-brief. absurd (true≢false (sym (both .0) ∙ not-brief)); faulty = is ∙ sym known }
+-- ---- from sheet to sheet: whatever writes the ERRs of what is left has written those of the whole
+module _ (m b : List ℕ) (first : Sheet) (o : List ℕ) (from : ℕ) where
+  pub record Putting (sheet : Sheet) (now : List ℕ) (at : ℕ) : Type 0 where
+    pub sheeted : Sheeted m b sheet
+    pub whole : sheet .brief ≡ false
+    pub same : sheet .by ≡ first .by
+    pub room : length now < limit
+    pub near : at ≤ limit
+    pub left : (after : List ℕ) (r : ℕ) → Wrote now at (errs (first .by .d) (allFrom m b sheet)) after r → Wrote o from (errs (first .by .d) (allFrom m b first)) after r
+    pub told : (sheet .fault || has isFault (toCome m b sheet)) ≡ (first .fault || has isFault (toCome m b first))
 
-pub goes-puts : {brief : Bool} {d : Delims} {findings : List Finding} {o p : List ℕ} {at : ℕ} {r : Put} → Puts d findings o at p r → Goes brief d findings o at p r
-goes-puts w = record { puts = λ _. w; faulty = w .faulty }
+  pub putting-start : Sheeted m b first → first .brief ≡ false → length o < limit → from ≤ limit → Putting first o from
+  putting-start h whole room near = record { sheeted = h; whole = whole; same = refl; room = room; near = near; left = λ after r w. w; told = refl }
 
-pub goes-as : {brief : Bool} {d : Delims} {l k : List Finding} {o p : List ℕ} {at : ℕ} {r : Put} → l ≡ k → Goes brief d k o at p r → Goes brief d l o at p r
-goes-as {brief} {d} {o = o} {p} {at} {r} e w = subst⁻¹ (λ (x : List Finding). Goes brief d x o at p r) e w
+  module _ {sheet : Sheet} {now mid : List ℕ} {at next : ℕ} (h : Putting sheet now at) (one : Wrote now at (errs (first .by .d) (held sheet)) mid next) where
+    pub putting-more : {r : Sheet} → Gets m b (sheet .by) (sheet .brief) (sheet .fault) (toCome m b sheet) r → Putting r mid next
+    putting-more {r} w = record {
+      sheeted = w .sheeted;
+      whole = w .briefly ∙ h .whole;
+      same = w .same ∙ h .same;
+      room = omega (arith, wrote-length one, h .room);
+      near = omega (arith, one .ends);
+      left = λ after end more.
+          h .left after end (wrote-as (one then more) (errs-append (first .by .d) (held sheet) (allFrom m b r) ∙ ap (λ (l : List Finding). errs (first .by .d) (held sheet ++ l)) (sym (w .all (h .whole)))));
+      told = w .told ∙ h .told;
+    }
+
+    pub putting-over : sheet .ended ≡ true → Puts m b first o from mid (record { at = next; fault = sheet .fault })
+    putting-over e =
+        let none = none-to-come m b sheet e in
+        let all : held sheet ≡ allFrom m b sheet = sym (append-nil (held sheet)) ∙ ap (λ (l : List Finding). held sheet ++ l) (sym none) in
+        record {
+          wrote = h .left mid next (wrote-as one (ap (errs (first .by .d)) all));
+          told = ended-told m b sheet e (h .told);
+        }
+
+-- ---- from the first sheet on, these are the ERRs of all findings
+module _ (m b : List ℕ) (by : Terms) (all : List Finding) {first : Sheet} (g : Gets m b by false false all first) {o p : List ℕ} {at : ℕ} {r : Put} (w : Puts m b first o at p r) where
+  pub put-all : Wrote o at (errs (by .d) all) p (r .at)
+  put-all = wrote-as (w .wrote) (ap₂ (λ (t : Terms) (l : List Finding). errs (t .d) l) (g .same) (sym (g .all refl)))
+
+  pub put-told : r .fault ≡ has isFault all
+  put-told = w .told ∙ g .told

@@ -30,7 +30,8 @@ use Rattle.grade.specs.declared.finding.Finding.{Finding}
 use Rattle.grade.proofs.Demand3.{findings-meet}
 use Rattle.grade.proofs.Grading.{listed}
 use Rattle.grade.proofs.Admitting.{admitted-by, admitted-short, admits-passed, ten-passes, ten-bounded}
-use Rattle.ack.specs.Layout.{has, isHeader, isFault, mshLine, msaLine, errLine, ackLines}
+use Rattle.grade.specs.Deciding.{has, isHeader, isFault}
+use Rattle.ack.specs.Layout.{mshLine, msaLine, errLine, ackLines}
 use Rattle.ack.specs.Answers.{Outcome, outcome, outcomeBy, ackFor, answerRows, answerOf}
 use Rattle.ack.specs.Pieces.{shortOr}
 use Rattle.ack.proofs.Sizes.{ack-size}

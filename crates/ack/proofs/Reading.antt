@@ -22,7 +22,8 @@ use Rattle.hl7.proofs.Placing.{field-stands}
 use Rattle.hl7.proofs.Delimiting.{Delimiting, plain-without, delimiters-without, delimiter-at}
 use Rattle.grade.specs.declared.finding.Finding.{Finding}
 use Rattle.ack.specs.Decimal.{decimal}
-use Rattle.ack.specs.Layout.{ownByte, own, marked, joined, copied, mshLine, has, isHeader, isFault, letter, verdict, msaLine, placeParts, codeText, errLine, ended, ackLines, ackBytes}
+use Rattle.grade.specs.Deciding.{has, isHeader, isFault}
+use Rattle.ack.specs.Layout.{ownByte, own, marked, joined, copied, mshLine, letter, verdict, msaLine, placeParts, codeText, errLine, ended, ackLines, ackBytes}
 use Rattle.ack.proofs.Texts.{isText, Each, _also_, each-as, text-plain, text-clean, own-text-clean, decimal-text, letter-text, place-text, code-own, isOdd, severity-is}
 
 -- ---- parts that hold no mark

@@ -11,7 +11,8 @@ use Rattle.grade.specs.Rule.{theEnd, pid, orc, segmentNames, nameBytes}
 use Rattle.grade.specs.Header.{mshAt, isProcessingId, headerOf, headerFindings}
 use Rattle.grade.specs.declared.finding.Finding.{Finding}
 use Rattle.ack.specs.Decimal.{decimal, lastDigits}
-use Rattle.ack.specs.Layout.{ownByte, marked, joined, copied, mshLine, msaLine, has, componentParts, valueParts, placeParts, codeText, errLine, ackBytes}
+use Rattle.grade.specs.Deciding.{has}
+use Rattle.ack.specs.Layout.{ownByte, marked, joined, copied, mshLine, msaLine, componentParts, valueParts, placeParts, codeText, errLine, ackBytes}
 
 birth : Finding
 birth = record { name = pid; ordinal = 1; field = 7; repetition = 1; component = 1; rule = 1; code = 102; severity = code "E" }

@@ -1,5 +1,5 @@
 -- How long the parts of an ACK are, in the words of the code that counts, and how long an ACK is at most. Assumes nothing.
-use mathlib.Core.Path.{_≡_, refl, ap, subst}
+use mathlib.Core.Path.{_≡_, refl, sym, ap, subst, _∙_}
 use mathlib.Core.Bool.{Bool, true, false, cond}
 use mathlib.Core.List.{List, [], _∷_, flatMap}
 use Prim.Native.Nat.{ℕ, _+_, _*_, _^_, _≤_, _<_}
@@ -36,6 +36,15 @@ joined-size : (mark : ℕ) (p : List ℕ) (ps : List (List ℕ)) → length (joi
 unfolding joined
 joined-size mark p ps = length-append p (marked mark ps)
 
+-- which mark it is does not matter
+marked-alike : (a b : ℕ) (ps : List (List ℕ)) → length (marked a ps) ≡ length (marked b ps)
+marked-alike a b [] = marked-empty a ∙ sym (marked-empty b)
+marked-alike a b (p ∷ ps) = omega (arith, marked-size a p ps, marked-size b p ps, marked-alike a b ps)
+
+joined-alike : (a b : ℕ) (ps : List (List ℕ)) → length (joined a ps) ≡ length (joined b ps)
+joined-alike a b [] = joined-empty a ∙ sym (joined-empty b)
+joined-alike a b (p ∷ ps) = omega (arith, joined-size a p ps, joined-size b p ps, marked-alike a b ps)
+
 pub decimal-as : {v n : ℕ} → v ≡ n → length (decimal v) ≡ length (decimal n)
 decimal-as e = ap (λ (k : ℕ). length (decimal k)) e
 
@@ -68,6 +77,10 @@ err-whole d f =
     rw (length-append, joined-size, marked-size, marked-size, marked-size, marked-size, marked-size, length-append, length-map (codeText (f .code)) (ownByte d))
     (omega (arith, marked-empty (d .bar)))
 
+-- an ERR is as long by any delimiters
+pub err-alike : (d e : Delims) (f : Finding) → length (ended (errLine d f)) ≡ length (ended (errLine e f))
+err-alike d e f = omega (arith, err-whole d f, err-whole e f, joined-alike (d .caret) (e .caret) (placeParts f))
+
 pub err-size : (f : Finding) {a b v k : ℕ} → ((mark : ℕ) → a ≡ length (joined mark (placeParts f))) → b ≡ length (codeText (f .code)) → v ≡ f .rule → k ≡ length (decimal v)
     → (d : Delims) → 13 + a + b + k ≡ length (ended (errLine d f))
 err-size f place text e rule d = omega (arith, err-whole d f, place (d .caret), decimal-as e)
@@ -84,7 +97,7 @@ pub copied-short : (d : Delims) (msh : List ℕ) (k : ℕ) → length (copied d 
 unfolding copied
 copied-short d msh k = field-short (isMsh msh) (d .bar) msh k
 
-heading-short : (d : Delims) (msh stamp : List ℕ) (control second : ℕ) → length (heading d msh stamp control second) ≤ 110 + length stamp + 6 * length msh
+pub heading-short : (d : Delims) (msh stamp : List ℕ) (control second : ℕ) → length (heading d msh stamp control second) ≤ 110 + length stamp + 6 * length msh
 heading-short d msh stamp control second =
     omega (
       arith,

@@ -28,7 +28,8 @@ use Rattle.grade.specs.declared.finding.Finding.{Finding}
 use Rattle.grade.proofs.Naming.{at-counted, no-name}
 use Rattle.grade.proofs.Spelling.{sign-passes, stamp-all}
 use Rattle.ack.specs.Decimal.{digit, lastDigits, decimal}
-use Rattle.ack.specs.Layout.{has, letter, componentParts, valueParts, placeParts, codeText}
+use Rattle.grade.specs.Deciding.{has}
+use Rattle.ack.specs.Layout.{letter, componentParts, valueParts, placeParts, codeText}
 use Rattle.ack.proofs.Listing.{has-none}
 
 abbrev pub isText : ℕ → Bool

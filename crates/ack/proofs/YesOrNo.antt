@@ -28,7 +28,7 @@ use Rattle.grade.specs.declared.walk.Section.{Section}
 use Rattle.grade.specs.declared.admit.Admitted.the-variants.{Refused, By}
 use Rattle.grade.proofs.Admitting.{admitted-by, refused-some, ten-apart, ten-first, ten-bounded, ten-refuses, stamped-passes, stamped-admitted}
 use Rattle.grade.proofs.Grading.{listed}
-use Rattle.ack.specs.Layout.{has, isFault}
+use Rattle.grade.specs.Deciding.{has, isFault}
 use Rattle.ack.specs.Answers.{Outcome, outcomeBy, ackFor, answerOf}
 use Rattle.ack.specs.Lamp.{getsAA, yesOrNo, lampOf}
 use Rattle.ack.specs.Pieces.{shortOr}

@@ -6,7 +6,7 @@ use Rattle.hl7.specs.Refusals.{Told, told, firstRow, passes}
 use Rattle.grade.specs.Admission.{tenRows}
 use Rattle.grade.specs.Grading.{findingsFor}
 use Rattle.grade.specs.declared.finding.Finding.{Finding}
-use Rattle.ack.specs.Layout.{has, isFault}
+use Rattle.grade.specs.Deciding.{has, isFault}
 
 -- AA: no finding is E or W
 abbrev pub getsAA : List Finding → Bool

@@ -1,14 +1,14 @@
 -- To be believed. The bytes of an ACK, in the layout's own order. Assumes nothing.
 use Prim.Native.Nat.{ℕ}
 use Prim.Native.Char.{code}
-use mathlib.Core.Bool.{Bool, false, cond, _||_}
+use mathlib.Core.Bool.{Bool, cond}
 use mathlib.Core.List.{List, [], _∷_, _++_, map, flatMap}
 use lib.Dec.{eqb}
 use Rattle.hl7.specs.Text.{bytes}
-use Rattle.hl7.specs.Bytes.{within}
 use Rattle.hl7.specs.Place.{carriageReturn, fieldOf}
 use Rattle.hl7.specs.declared.place.Delims.{Delims}
 use Rattle.grade.specs.Rule.{theEnd, nameBytes}
+use Rattle.grade.specs.Deciding.{has, isHeader, isFault}
 use Rattle.grade.specs.declared.finding.Finding.{Finding}
 use Rattle.ack.specs.Decimal.{decimal}
 
@@ -49,19 +49,6 @@ mshLine d msh stamp control =
     ∷ decimal control ∷ copied d msh 11 ∷ bytes "2.5.1" ∷ [] ∷ [] ∷ bytes "NE" ∷ bytes "NE" ∷ [] ∷ [] ∷ [] ∷ [] ∷ own d (bytes "Z23^CDCPHINVS") ∷ [])
 
 -- ---- MSA
--- the findings have one that passes the test
-unfoldable pub has : (Finding → Bool) → List Finding → Bool
-has test [] = false
-has test (f ∷ findings) = test f || has test findings
-
--- a finding about the header: a code from 200 to 203
-abbrev pub isHeader : Finding → Bool
-isHeader f = within 200 203 (f .code)
-
--- a finding of severity E or W
-abbrev pub isFault : Finding → Bool
-isFault f = eqb (f .severity) (code "E") || eqb (f .severity) (code "W")
-
 -- the second letter of MSA-1: AR if a header code is among the findings, else AE if an E or W is, else AA
 abbrev pub letter : (header fault : Bool) → ℕ
 letter header fault = cond header (code "R") (cond fault (code "E") (code "A"))

@@ -1,14 +1,12 @@
 // The lamp: only whether a message would get AA.
-use crate::errs::put_errs;
 use grade::admit::Admitted;
 use grade::admit::admit_stamped;
 use grade::book::index_book;
 use grade::header::any_wrong;
-use grade::limits::FIELD_PLACES;
 use grade::limits::SECTION_LIMIT;
-use grade::lookup::links_of;
-use grade::lookup::sets_of;
 use grade::refusal::Answer;
+use grade::sheet::first_sheet;
+use grade::sheet::next_sheet;
 use grade::step::Terms;
 use hl7::bytes::pick;
 use hl7::place::delims_of;
@@ -22,21 +20,19 @@ ghost use Rattle.grade.specs.Standing.{Holds};
 ghost use Rattle.grade.specs.Rest.{findingsIn};
 ghost use Rattle.ack.specs.Lamp.{getsAA, yesOrNo, lampOf};
 
-// Whether a message gets AA: a header finding decides before any rule is looked up, and then the first E or W. No ERR has room.
+// Whether a message gets AA: a header finding decides before any rule is looked up, and then the first E or W, at which the sheets end.
 fn gets_aa(by: Terms, m: &[u8], book: &[u8]) -> bool
     requires { ⌜ (length (now m) ≤ messageLimit) × Holds (now book) (by .section) × (by .d ≡ delimsOf (now m)) ⌝ }
     ensures { λ r. ⌜ r ≡ getsAA (findingsIn (now (book .entry)) (by .section) (by .header) (now (m .entry))) ⌝ }
 {
     if any_wrong(by.header) {
-        false
-    } else {
-        let sets = sets_of(book, by.section);
-        let links = links_of(book, by.section);
-        let mut starts = [0usize; FIELD_PLACES];
-        let mut none = [0u8; 0];
-        let put = put_errs(true, &mut none, 0, by, m, book, &sets, &links, &mut starts);
-        !put.fault
+        return false;
     }
+    let mut sheet = first_sheet(true, by, m, book);
+    while !sheet.ended {
+        sheet = next_sheet(m, book, sheet);
+    }
+    !sheet.fault
 }
 
 fn yes_or_no(yes: bool) -> Answer

@@ -16,7 +16,7 @@ use Rattle.hl7.specs.declared.place.Delims.{Delims}
 use Rattle.hl7.proofs.Refusing.{none-answers, rows-append, row-exactly, none-exactly, message-apart, bounded-first, reading-bounded, sound-short}
 use Rattle.grade.specs.Book.{noSection}
 use Rattle.grade.specs.Header.{mshOf, headerOf}
-use Rattle.grade.specs.Admission.{hasControlId, keyOf, bookRows, mshRows, admitRows, stampRow, tenRows, paper, openedTold, admittedTold}
+use Rattle.grade.specs.Admission.{hasControlId, keyOf, bookRows, controlRow, sixRows, mshRows, admitRows, stampRow, tenRows, paper, openedTold, admittedTold}
 use Rattle.grade.specs.Standing.{siteIn, OpensBook, AdmitsBy, Admits, AdmitsStamped, Holds}
 use Rattle.grade.specs.Values.{isStamp}
 use Rattle.grade.specs.declared.refusal.Answer.{Answer}
@@ -70,6 +70,33 @@ module _ (m b : List ℕ) where
 
     pub admit-refused : {a : Answer} → paper a ≡ firstRow (messageRows m) → Admits m b (Refused a)
     admit-refused p = record { toldIs = p ∙ sym unsound-rows; by = λ none. absurd (unsound-some none) }
+
+-- ---- rows 1 to 6
+module _ (m : List ℕ) where
+  six-rows : firstRow (sixRows m) ≡ cond (isSound m) (firstRow (controlRow (delimsOf m) (mshOf m) ∷ [])) (firstRow (messageRows m))
+  unfolding isSound
+  six-rows = rows-append (messageRows m) (controlRow (delimsOf m) (mshOf m) ∷ []) (message-apart m)
+
+  pub six-sound : {d : Delims} {msh : List ℕ} {a : Answer} → isSound m ≡ true → d ≡ delimsOf m → msh ≡ mshOf m → paper a ≡ firstRow (controlRow d msh ∷ []) → paper a ≡ firstRow (sixRows m)
+  six-sound e own first p = p ∙ rw (own, first) (sym (six-rows ∙ rw e))
+
+  pub six-apart : apart (numbersOf (sixRows m)) ≡ true
+  unfolding messageRows formRows numbersOf distinct isIn
+  six-apart = refl
+
+  -- a message that passes them is sound
+  pub six-passes : firstRow (sixRows m) .number ≡ 0 → isSound m ≡ true
+  unfolding isSound
+  six-passes none = by (isSound m) refl
+    where
+      by : (sound : Bool) → isSound m ≡ sound → isSound m ≡ true
+      by true e = e
+      by false e =
+          let rows : firstRow (sixRows m) ≡ firstRow (messageRows m) = six-rows ∙ rw e in
+          absurd (eqb-false (firstRow (messageRows m) .number) 0 e (sym (ap numberOf rows) ∙ none))
+
+  pub six-refused : {a : Answer} → isSound m ≡ false → paper a ≡ firstRow (messageRows m) → paper a ≡ firstRow (sixRows m)
+  six-refused e p = p ∙ sym (six-rows ∙ rw e)
 
 -- ---- exactly when
 pub admit-apart : (m b : List ℕ) → apart (numbersOf (admitRows m b)) ≡ true

@@ -26,7 +26,7 @@ T-fst true b h = tt
 T-fst false b h = h
 
 -- a counted name does not stand at the end
-counted-within : (s : List (List ℕ)) (n : ℕ) → T (counted (nameAt s n)) → n < length s
+pub counted-within : (s : List (List ℕ)) (n : ℕ) → T (counted (nameAt s n)) → n < length s
 counted-within s n h = by (decLt n (length s))
   where
     by : Dec (n < length s) → n < length s

@@ -38,7 +38,7 @@ pairs-few {A} n (suc k) b f h =
     simp (length-append, length-map) (omega (arith, h n, pairs-few (suc n) k b f h))
 
 -- ---- segments, fields, repetitions
-values-few : (d : Delims) (rule : Rule) (seg : List ℕ) → length (valuesOf d rule seg) ≤ length seg + 1
+pub values-few : (d : Delims) (rule : Rule) (seg : List ℕ) → length (valuesOf d rule seg) ≤ length seg + 1
 unfolding repetitionsOf
 values-few d rule seg =
     simp length-map

@@ -20,6 +20,17 @@ pub mod Spots
 pub mod Heading
 pub mod Segments
 pub mod Stepping
+pub mod Ranging
+pub mod Sheets
+pub mod Locals
+pub mod Again
+pub mod Called
+pub mod Owner
+pub mod Row
+pub mod Stored
+pub mod Filling
+pub mod Planning
+pub mod Tabling
 pub mod Few
 pub mod Grading
 pub mod Spelling

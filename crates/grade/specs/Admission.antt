@@ -28,9 +28,17 @@ keyOf d msh = mshAt d msh 6 1
 unfoldable pub bookRows : List ℕ → List ℕ → List Row
 bookRows b key = row 7 (malformed b) ∷ row 8 (otherVersion b) ∷ row 9 (noSection b key) ∷ []
 
+-- row 6: MSH-10
+abbrev pub controlRow : Delims → List ℕ → Row
+controlRow d msh = row 6 (not (hasControlId d msh))
+
+-- rows 1 to 6, which do not look at a book
+abbrev pub sixRows : List ℕ → List Row
+sixRows m = messageRows m ++ (controlRow (delimsOf m) (mshOf m) ∷ [])
+
 -- rows 6 to 9
 abbrev pub mshRows : Delims → List ℕ → List ℕ → List Row
-mshRows d msh b = row 6 (not (hasControlId d msh)) ∷ bookRows b (keyOf d msh)
+mshRows d msh b = controlRow d msh ∷ bookRows b (keyOf d msh)
 
 -- rows 1 to 9
 unfoldable pub admitRows : List ℕ → List ℕ → List Row

@@ -13,6 +13,11 @@ pub mod Findings
 pub mod Header
 pub mod Admission
 pub mod Grading
+pub mod Deciding
+pub mod Range
+pub mod Table
 pub mod Standing
 pub mod Linked
 pub mod Rest
+pub mod Sheet
+pub mod Filling

@@ -20,9 +20,11 @@ use hl7::refusal::check;
 use hl7::refusal::is_sound_reading;
 ghost use mathlib.Core.Path.{_≡_};
 ghost use mathlib.Core.Bool.{true};
+ghost use mathlib.Core.List.{[], _∷_};
 ghost use Rattle.hl7.specs.Noted.{MshNoted};
 ghost use Rattle.hl7.specs.Place.{isMsh};
-ghost use Rattle.grade.specs.Admission.{hasControlId, mshRows, openedTold, admittedTold};
+ghost use Rattle.hl7.specs.Refusals.{firstRow};
+ghost use Rattle.grade.specs.Admission.{hasControlId, controlRow, mshRows, sixRows, paper, openedTold, admittedTold};
 ghost use Rattle.grade.specs.Standing.{Indexes, AdmitsBy, Admits, AdmitsStamped};
 ghost use Rattle.grade.specs.declared.walk.Section.{Section};
 ghost use Rattle.grade.specs.declared.book.Opened.{Opened};
@@ -69,8 +71,34 @@ fn admit_msh(d: Delims, msh: &[u8], book: &[u8], sections: &[usize], indexed: In
     }
 }
 
+// Row 6 alone.
+fn admit_control(d: Delims, msh: &[u8]) -> Answer
+    requires { ⌜ isMsh (now msh) ≡ true ⌝ }
+    ensures { λ r. ⌜ paper r ≡ firstRow (controlRow d (now (msh .entry)) ∷ []) ⌝ }
+{
+    let mut starts = [0usize; MSH_PLACES];
+    let count = note_fields(d, msh, &mut starts);
+    if has_control_id(d, msh, &starts, count) {
+        refused(0)
+    } else {
+        refused(6)
+    }
+}
+
+// Rows 1 to 6, which do not look at a book.
+pub fn admit_message(m: &[u8]) -> Answer
+    ensures { λ r. ⌜ paper r ≡ firstRow (sixRows (now (m .entry))) ⌝ }
+{
+    let reading = check(m);
+    if is_sound_reading(reading) {
+        admit_control(delims_of(m), segment(m, 1))
+    } else {
+        of_reading(reading)
+    }
+}
+
 // Whether a message can be graded by a book, and by which section; `index_book` noted where the book's sections start.
-fn admit(m: &[u8], book: &[u8], sections: &[usize], indexed: Indexed) -> Admitted
+pub(crate) fn admit(m: &[u8], book: &[u8], sections: &[usize], indexed: Indexed) -> Admitted
     requires { ⌜ Indexes (now book) (now sections) indexed ⌝ }
     ensures { λ r. ⌜ Admits (now (m .entry)) (now (book .entry)) r ⌝ }
 {
@@ -82,7 +110,7 @@ fn admit(m: &[u8], book: &[u8], sections: &[usize], indexed: Indexed) -> Admitte
     }
 }
 
-// The same with a stamp: row 10 stands here for every call that takes one.
+// The same with a stamp: row 10 stands here for every call that takes one beside a book.
 pub fn admit_stamped(
     m: &[u8],
     book: &[u8],

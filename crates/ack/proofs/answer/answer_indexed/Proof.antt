@@ -6,7 +6,8 @@ use lib.ListN.{length}
 use Rattle.hl7.proofs.Placing.{segment-short}
 use Rattle.grade.specs.Standing.{AdmitsStamped}
 use Rattle.grade.proofs.Admitting.{admitted-short, admitted-holds, stamped-stamp, stamped-admitted}
-use Rattle.ack.proofs.Admitting.{stamp-length, admitted-msh, admitted-few, answer-refused, answer-listed}
+use Rattle.grade.proofs.Planning.{admitted-few}
+use Rattle.ack.proofs.Admitting.{stamp-length, admitted-msh, answer-refused, answer-listed}
 use Rattle.ack.proofs.answer.answer_indexed.Statement.{statement}
 use Rattle.ack.proofs.answer.answer_indexed.Tie as tie
 

@@ -1,7 +1,0 @@
--- `ack::errs::is_fault` meets its contract. Assumes nothing.
-use mathlib.Core.Path.{refl}
-use Rattle.ack.proofs.errs.is_fault.Statement.{statement}
-use Rattle.ack.proofs.errs.is_fault.Tie as tie
-
-pub is-fault-spec : {M : Type 1} → statement M
-is-fault-spec = tie.close (tie.spec (λ c. refl))

@@ -1,0 +1,10 @@
+-- `grade::range::is_rule` meets its contract. Assumes nothing.
+use mathlib.Core.Path.{refl}
+use Rattle.grade.proofs.range.is_rule.Statement.{statement}
+use Rattle.grade.proofs.range.is_rule.Tie as tie
+
+returns : tie.Need-returns
+returns c = refl
+
+pub is-rule-spec : {M : Type 1} → statement M
+is-rule-spec = tie.close (tie.spec returns)
