@@ -1,8 +1,9 @@
-/* Jasminedo from C and every language that calls C: numbers and byte slices only.
+/* Jasminedo from C and every language that calls C: numbers, byte slices and tables of findings.
  *
  * Link with target/staticlib/libjasminedo.a (made by `rt staticlib jasminedo`). Nothing is kept between calls,
  * nothing is allocated, and every input has an answer. A slice is a pointer and a length; the pointer may be dangling
- * but not null where the length is 0. The output may not overlap an input. */
+ * but not null where the length is 0. A table is a pointer and a number of records. Neither the output nor a table that is
+ * graded into may overlap an input. */
 #ifndef JASMINEDO_H
 #define JASMINEDO_H
 
@@ -17,15 +18,44 @@ extern "C" {
 static inline unsigned jasminedo_number(uint64_t answer) { return (unsigned)(answer % 256); }
 static inline uint64_t jasminedo_detail(uint64_t answer) { return answer / 256; }
 
-/* Number 0: the ACK stands in the first bytes of the output, the detail is its length, all later bytes are as they
- * were. Numbers 1 to 11 are the refusals; then the whole output is as it was. 11's detail is the length needed.
- * A message is read by its own five delimiters, and the ACK is written with them. */
-uint64_t jasminedo_answer(const uint8_t *message, size_t message_length, const uint8_t *book, size_t book_length,
-                          const uint8_t *stamp, size_t stamp_length, uint32_t control, uint8_t *output,
-                          size_t output_length);
+/* One finding: what an ERR segment says. The names are 1 to 10, in the order of jasminedo_name; 0, with ordinal 0, is the end of
+ * the message. ordinal counts among the segments of the name. With code 100, a broken order, field, repetition, component and rule
+ * are 0. Component 0 is the whole repetition; the rule of a header code, 200 to 203, is 0. The severity is the letter E, W or I. */
+typedef struct {
+    uint32_t ordinal;
+    uint32_t repetition;
+    uint16_t rule;
+    uint16_t code;
+    uint8_t name;
+    uint8_t field;
+    uint8_t component;
+    uint8_t severity;
+} jasminedo_finding;
+
+/* The three letters of a name, or none. */
+static inline const char *jasminedo_name(unsigned name) {
+    static const char names[][4] = {"", "MSH", "PID", "PD1", "NK1", "PV1", "ORC", "RXA", "RXR", "OBX", "NTE"};
+    return names[name <= 10 ? name : 0];
+}
+
+/* Grades a message by the section of the book that it names. Number 0: the detail is the number of findings, and so many records at
+ * the start of the table hold them, in the ACK's order; all later records are as they were. Otherwise the whole table is as it was,
+ * and the number is the first of these: 1 to 9, about the message and the book; 12, the findings exceed the table, whose detail is the
+ * number needed. The table may have 0 records; its pointer is then aligned as for a record, and not null. */
+uint64_t jasminedo_grade(const uint8_t *message, size_t message_length, const uint8_t *book, size_t book_length,
+                         jasminedo_finding *table, size_t table_records);
+
+/* Writes the ACK to a message from the first `count` records of a table; those behind them are not looked at. MSA-1 is AR if a code
+ * from 200 to 203 is among them, else AE if an E or W is, else AA. Number 0: the ACK stands in the first bytes of the output, the
+ * detail is its length, all later bytes are as they were. Otherwise the whole output is as it was, and the number is the first of these:
+ * 1 to 6, about the message; 13, the count exceeds the table or one of the counted records is out of range, detail 0; 10, the stamp
+ * is none; 11, the detail is the length needed. The message is read by its own five delimiters, and the ACK is written with them. */
+uint64_t jasminedo_write(const uint8_t *message, size_t message_length, const jasminedo_finding *table, size_t table_records,
+                         uint32_t count, const uint8_t *stamp, size_t stamp_length, uint32_t control, uint8_t *output,
+                         size_t output_length);
 
 /* Only whether the ACK would say AA, for a lamp: number 0 with detail 1 for yes or 0 for no, or one of refusals 1 to 10, which are
- * those of jasminedo_answer. Grading stops at the first finding of severity E or W; findings of severity I alone are yes. */
+ * those of jasminedo_grade and then 10. Grading stops at the first finding of severity E or W; findings of severity I alone are yes. */
 uint64_t jasminedo_lamp(const uint8_t *message, size_t message_length, const uint8_t *book, size_t book_length,
                         const uint8_t *stamp, size_t stamp_length);
 

@@ -1,5 +1,6 @@
-/* Calls the library as a C program would: the worked example, a refusal at each end, the lamp, places, other delimiters, a batch, a
- * book from text, its own text and the legend, a text with changes and what they change in the book. Says what differs. */
+/* Calls the library as a C program would: the worked example, graded, shown on a screen and written, the lamp, places, other
+ * delimiters, a batch, a book from text, its own text and the legend, a text with changes and what they change in the book.
+ * Says what differs. */
 #include "../include/jasminedo.h"
 
 #include <stdio.h>
@@ -198,7 +199,25 @@ static void expect_differences(void) {
     expect("what follows the difference is left", memcmp(output + length, before, sizeof(output) - length) == 0);
 }
 
-int main(void) {
+/* A finding as a cabinet's screen shows it. */
+static void show(char *line, size_t size, const jasminedo_finding *finding) {
+    char place[64] = "the end of the message";
+    if (finding->name && !finding->field)
+        snprintf(place, sizeof(place), "%s %u", jasminedo_name(finding->name), (unsigned)finding->ordinal);
+    else if (finding->name)
+        snprintf(place, sizeof(place), "%s %u, field %u, repetition %u, component %u", jasminedo_name(finding->name), (unsigned)finding->ordinal,
+                 finding->field, (unsigned)finding->repetition, finding->component);
+    snprintf(line, size, "%c %u at %s, rule %u", finding->severity, finding->code, place, finding->rule);
+}
+
+/* The second letter of MSA-1 of an ACK in so many bytes. */
+static char verdict(const uint8_t *ack, size_t length) {
+    const uint8_t *end = memchr(ack, '\r', length - 6);
+    return end ? (char)end[6] : 0;
+}
+
+/* The worked example: graded into tables of each size, shown, written; and records that a screen may not have changed like that. */
+static void expect_example(void) {
     static const char message[] = "MSH|^~\\&|CAB|C1|REG|AX|20250113115900+0000||VXU^V04^VXU_V04|M1|P|2.5.1\r"
                                   "PID|1||77||ROE^ANN||20240230\r";
     static const char book[] = "VXB\0\1\1\2AX\0\3\0"
@@ -211,20 +230,55 @@ int main(void) {
                               "ERR||PID^1^7^1^1|102^Data type error^HL70357|E|1^^L\r"
                               "ERR||PID^1^8^1|101^Required field missing^HL70357|W|3^^L\r";
     const size_t length = sizeof(ack) - 1;
+    const jasminedo_finding unused = {9, 9, 9, 9, 9, 9, 9, 9};
+    jasminedo_finding table[3] = {unused, unused, unused};
     uint8_t output[300];
+    char line[128];
     memset(output, '.', sizeof(output));
 
-    uint64_t got = jasminedo_answer(BYTES(message), BYTES(book), BYTES(stamp), 7, output, length - 1);
-    expect("an output one byte short is refused with the length needed", jasminedo_number(got) == 11 && jasminedo_detail(got) == length);
-    expect("a refusal leaves the output", output[0] == '.' && output[length - 2] == '.');
+    uint64_t got = jasminedo_grade(BYTES(message), BYTES(book), table, 1);
+    expect("a table one record short is refused with the number needed", jasminedo_number(got) == 12 && jasminedo_detail(got) == 2);
+    expect("no table is enough where there are findings", jasminedo_grade(BYTES(message), BYTES(book), table, 0) == got);
+    expect("a refusal leaves the table", memcmp(table, &unused, sizeof(unused)) == 0);
 
-    got = jasminedo_answer(BYTES(message), BYTES(book), BYTES(stamp), 7, output, sizeof(output));
+    got = jasminedo_grade(BYTES(message), BYTES(book), table, 3);
+    expect("the example has two findings", jasminedo_number(got) == 0 && jasminedo_detail(got) == 2);
+    expect("the record past them is left", memcmp(&table[2], &unused, sizeof(unused)) == 0);
+    show(line, sizeof(line), &table[0]);
+    expect("the screen shows the date", strcmp(line, "E 102 at PID 1, field 7, repetition 1, component 1, rule 1") == 0);
+    show(line, sizeof(line), &table[1]);
+    expect("the screen shows what is missing", strcmp(line, "W 101 at PID 1, field 8, repetition 1, component 0, rule 3") == 0);
+
+    got = jasminedo_write(BYTES(message), table, 3, 2, BYTES(stamp), 7, output, length - 1);
+    expect("an output one byte short is refused with the length needed", jasminedo_number(got) == 11 && jasminedo_detail(got) == length);
+    table[1].rule = 257;
+    got = jasminedo_write(BYTES(message), table, 3, 2, BYTES("20250113"), 7, output, sizeof(output));
+    expect("a record out of range is refused by 13, before the stamp", jasminedo_number(got) == 13 && jasminedo_detail(got) == 0);
+    expect("a count over the table is refused by 13", jasminedo_write(BYTES(message), table, 1, 2, BYTES(stamp), 7, output, sizeof(output)) == got);
+    expect("refusals leave the output", output[0] == '.' && output[length - 2] == '.');
+    table[1].rule = 3;
+    got = jasminedo_write(BYTES(message), table, 3, 2, BYTES(stamp), 7, output, sizeof(output));
     expect("the example is answered with its length", jasminedo_number(got) == 0 && jasminedo_detail(got) == length);
     expect("the ACK is the example's", memcmp(output, ack, length) == 0);
     expect("what follows the ACK is left", output[length] == '.' && output[sizeof(output) - 1] == '.');
     expect("the lamp says no to the example", jasminedo_lamp(BYTES(message), BYTES(book), BYTES(stamp)) == 0);
 
-    got = jasminedo_check(output, 0);
+    got = jasminedo_write(BYTES(message), table, 3, 0, BYTES(stamp), 7, output, sizeof(output));
+    expect("no records make AA", jasminedo_number(got) == 0 && verdict(output, sizeof(output)) == 'A');
+    table[0] = (jasminedo_finding){1, 1, 0, 200, 1, 9, 1, 'E'};
+    got = jasminedo_write(BYTES(message), table, 3, 1, BYTES(stamp), 7, output, sizeof(output));
+    expect("a header code makes AR", jasminedo_number(got) == 0 && verdict(output, sizeof(output)) == 'R');
+    table[0] = (jasminedo_finding){0, 0, 0, 100, 0, 0, 0, 'E'};
+    show(line, sizeof(line), &table[0]);
+    expect("the screen shows the end", strcmp(line, "E 100 at the end of the message, rule 0") == 0);
+}
+
+int main(void) {
+    static const char message[] = "MSH|^~\\&|CAB|C1|REG|AX|20250113115900+0000||VXU^V04^VXU_V04|M1|P|2.5.1\r"
+                                  "PID|1||77||ROE^ANN||20240230\r";
+    expect_example();
+
+    uint64_t got = jasminedo_check(BYTES(""));
     expect("an empty message is refusal 1", jasminedo_number(got) == 1 && jasminedo_detail(got) == 0);
     got = jasminedo_locate(BYTES(message), 2, 5, 1, 2);
     expect("PID-5.2 is ANN", jasminedo_length(got) == 3 && memcmp(message + jasminedo_start(got), "ANN", 3) == 0);

@@ -12,9 +12,13 @@ use Rattle.hl7.specs.declared.cut.Span.{Span}
 use Rattle.hl7.proofs.Refusing.{reading-bounded, sound-short, located-refused}
 use Rattle.grade.specs.Admission.{paper}
 use Rattle.grade.specs.declared.refusal.Answer.{Answer}
-use Rattle.ack.specs.Answers.{Outcome, answerOf, Gives}
+use Rattle.grade.specs.Table.{gradeInto}
+use Rattle.grade.specs.declared.finding.Finding.{Finding}
+use Rattle.grade.proofs.Tabling.{graded-bounded}
+use Rattle.ack.specs.Answers.{Outcome, Gives}
+use Rattle.ack.specs.Records.{writeFrom}
 use Rattle.ack.specs.Lamp.{lampOf}
-use Rattle.ack.proofs.Promises.{answer-bounded}
+use Rattle.ack.proofs.RecordLaws.{record-bounded}
 use Rattle.ack.proofs.YesOrNo.{lamp-bounded}
 use Rattle.batchfile.specs.Batch.{batchOf}
 use Rattle.batchfile.proofs.Bounds.{batch-bounded}
@@ -35,11 +39,18 @@ packed-back : (t : Told) → t .number < 256 → (packed t % 256 ≡ t .number) 
 packed-back t h = (omega arith, omega arith)
 
 -- the number of every answer is its code modulo 256, and the detail its code over 256
-pub answer-unpacked : (m b stamp : List ℕ) (control : ℕ) (out : List ℕ)
-    → (packed (answerOf m b stamp control out .told) % 256 ≡ answerOf m b stamp control out .told .number) × (packed (answerOf m b stamp control out .told) / 256 ≡ answerOf m b stamp control out .told .detail)
-answer-unpacked m b stamp control out =
-    let bounded = answer-bounded m b stamp control out in
-    packed-back (answerOf m b stamp control out .told) (omega arith)
+pub grade-unpacked : (m b : List ℕ) (table : List Finding)
+    → (packed (gradeInto m b table .told) % 256 ≡ gradeInto m b table .told .number) × (packed (gradeInto m b table .told) / 256 ≡ gradeInto m b table .told .detail)
+grade-unpacked m b table =
+    let bounded = graded-bounded m b table in
+    packed-back (gradeInto m b table .told) (omega arith)
+
+pub write-unpacked : (m : List ℕ) (table : List Finding) (count : ℕ) → count < 2 ^ 32 → (stamp : List ℕ) (control : ℕ) (out : List ℕ)
+    → (packed (writeFrom m table count stamp control out .told) % 256 ≡ writeFrom m table count stamp control out .told .number)
+    × (packed (writeFrom m table count stamp control out .told) / 256 ≡ writeFrom m table count stamp control out .told .detail)
+write-unpacked m table count few stamp control out =
+    let bounded = record-bounded m table count stamp control out few in
+    packed-back (writeFrom m table count stamp control out .told) (omega arith)
 
 pub batch-unpacked : (f b stamp : List ℕ) (control : ℕ) (out : List ℕ)
     → (packed (batchOf f b stamp control out .told) % 256 ≡ batchOf f b stamp control out .told .number) × (packed (batchOf f b stamp control out .told) / 256 ≡ batchOf f b stamp control out .told .detail)
@@ -61,12 +72,15 @@ module _ {o : Outcome} {a : Answer} {after : List ℕ} (w : Gives a after o) whe
   pub given-packed : {code : ℕ} → code ≡ packed (paper a) → (code ≡ packed (o .told)) × (after ≡ o .output)
   given-packed e = (e ∙ ap (λ (o : Outcome). packed (o .told)) w, ap (λ (o : Outcome). o .output) w)
 
-module _ (m b stamp : List ℕ) (control : ℕ) (out : List ℕ) {a : Answer} {after : List ℕ} where
-  pub answer-small : Gives a after (answerOf m b stamp control out) → a .detail ≤ 2 ^ 52
-  answer-small w = let bounded = answer-bounded m b stamp control out in given-small w (omega arith)
+pub batch-small : (f b stamp : List ℕ) (control : ℕ) (out : List ℕ) {a : Answer} {after : List ℕ} → Gives a after (batchOf f b stamp control out) → a .detail ≤ 2 ^ 52
+batch-small f b stamp control out w = given-small w (batch-bounded f b stamp control out .1)
 
-  pub batch-small : Gives a after (batchOf m b stamp control out) → a .detail ≤ 2 ^ 52
-  batch-small w = given-small w (batch-bounded m b stamp control out .1)
+pub table-small : (m b : List ℕ) (table : List Finding) {a : Answer} → paper a ≡ gradeInto m b table .told → a .detail ≤ 2 ^ 52
+table-small m b table w = subst (λ (n : ℕ). n ≤ 2 ^ 52) (sym (ap (λ (t : Told). t .detail) w)) (graded-bounded m b table .1)
+
+pub record-small : (m : List ℕ) (table : List Finding) (count : ℕ) → count < 2 ^ 32 → (stamp : List ℕ) (control : ℕ) (out : List ℕ) {a : Answer} {after : List ℕ}
+    → Gives a after (writeFrom m table count stamp control out) → a .detail ≤ 2 ^ 52
+record-small m table count few stamp control out w = let bounded = record-bounded m table count stamp control out few in given-small w (omega arith)
 
 module _ {t : Told} {a : Answer} (w : paper a ≡ t) where
   told-within : t .detail ≤ messageLimit + 1 → a .detail ≤ 2 ^ 52

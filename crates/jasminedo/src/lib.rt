@@ -1,13 +1,15 @@
-// The calls for other languages, on numbers and byte slices alone: each answers one number.
-use ack::answer::answer;
+// The calls for other languages, on numbers, byte slices and tables of findings: each answers one number.
 use ack::lamp::lamp;
+use ack::write::write;
 use batchfile::batch::answer_batch;
 use booktext::compile::compile;
 use booktext::told::Told;
 use canonical::show::show;
 use difference::difference::difference;
+use grade::finding::Finding;
 use grade::refusal::Answer;
 use grade::refusal::of_reading;
+use grade::table::grade;
 use hl7::cut::Span;
 use hl7::locate::locate_span;
 use hl7::refusal::check;
@@ -16,7 +18,8 @@ ghost use mathlib.Core.Path.{_≡_};
 ghost use Prim.Native.Nat.{_≤_, _^_};
 ghost use Rattle.hl7.specs.Refusals.{firstRow, messageRows, located};
 ghost use Rattle.grade.specs.Admission.{paper};
-ghost use Rattle.ack.specs.Answers.{answerOf};
+ghost use Rattle.grade.specs.Table.{gradeInto};
+ghost use Rattle.ack.specs.Records.{writeFrom};
 ghost use Rattle.ack.specs.Lamp.{lampOf};
 ghost use Rattle.batchfile.specs.Batch.{batchOf};
 ghost use Rattle.booktext.specs.Refusals.{compileOf};
@@ -50,16 +53,26 @@ fn pack_span(span: Span) -> u64
 }
 
 #[no_mangle]
-pub extern "C" fn jasminedo_answer(
+pub extern "C" fn jasminedo_grade(message: &[u8], book: &[u8], table: &mut [Finding]) -> u64
+    ensures { λ r. ⌜ (r ≡ packed (gradeInto (now (message .entry)) (now (book .entry)) (now (table .entry)) .told)) × (now (table .exit) ≡ gradeInto (now (message .entry)) (now (book .entry)) (now (table .entry)) .table) ⌝ }
+{
+    let told = grade(message, book, table);
+    pack(told)
+}
+
+#[no_mangle]
+pub extern "C" fn jasminedo_write(
     message: &[u8],
-    book: &[u8],
+    table: &[Finding],
+    count: u32,
     stamp: &[u8],
     control: u32,
     output: &mut [u8],
 ) -> u64
-    ensures { λ r. ⌜ (r ≡ packed (answerOf (now (message .entry)) (now (book .entry)) (now (stamp .entry)) control (now (output .entry)) .told)) × (now (output .exit) ≡ answerOf (now (message .entry)) (now (book .entry)) (now (stamp .entry)) control (now (output .entry)) .output) ⌝ }
+    ensures { λ r. ⌜ (r ≡ packed (writeFrom (now (message .entry)) (now (table .entry)) count (now (stamp .entry)) control (now (output .entry)) .told)) × (now (output .exit) ≡ writeFrom (now (message .entry)) (now (table .entry)) count (now (stamp .entry)) control (now (output .entry)) .output) ⌝ }
 {
-    pack(answer(message, book, stamp, control, output))
+    let told = write(message, table, count, stamp, control, output);
+    pack(told)
 }
 
 #[no_mangle]

@@ -1,5 +1,5 @@
 // What the program prints.
-use ack::answer::answer;
+use ack::lent::grade_and_write;
 use hl7::bytes::front;
 use line::kept::Line;
 use line::kept::State;
@@ -22,7 +22,7 @@ pub fn reply(state: State, message: &[u8], book: &[u8], out: &mut [u8]) -> usize
         Line::Good { control, stamp } => {
             let head = state.head;
             let bytes = head.bytes;
-            let answer = answer(message, book, front(&bytes, stamp), control, out);
+            let answer = grade_and_write(message, book, front(&bytes, stamp), control, out);
             put_answer(out, answer)
         }
     }

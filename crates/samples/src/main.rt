@@ -6,8 +6,8 @@
 // repetition, component. A case of kind 3 is a text that is compiled, of kind 4 a book that is shown, of kind 5 a text whose legend is asked for: its
 // length, its bytes, output length. A case of kind 6 is two books of which the difference is asked for: length and bytes of the old one, of the new one,
 // output length.
-use ack::answer::answer;
 use ack::lamp::lamp;
+use ack::lent::grade_and_write;
 use batchfile::batch::answer_batch;
 use booktext::compile::compile;
 use booktext::told::Told;
@@ -139,7 +139,7 @@ fn run_asked(fd: i32, kind: u32, input: &[u8], book: &[u8], stamp: &[u8]) -> boo
     true
 }
 
-// The answer to a message or a batch file.
+// The answer to a message, which is graded and then written, or to a batch file.
 fn answer_to(
     kind: u32,
     input: &[u8],
@@ -151,7 +151,7 @@ fn answer_to(
     if kind == BATCH {
         return answer_batch(input, book, stamp, control, out);
     }
-    answer(input, book, stamp, control, out)
+    grade_and_write(input, book, stamp, control, out)
 }
 
 // Answers a case with the first so many bytes of out lent, and prints the answer. Answers whether there are so many.

@@ -23,8 +23,8 @@ slice-aggregate-front c = search needs
 front-requires : tie.Need-front-requires
 front-requires c κs = search needs
 
-answer-requires : tie.Need-answer-requires
-answer-requires c κs = search needs
+grade-and-write-requires : tie.Need-grade-and-write-requires
+grade-and-write-requires c κs = search needs
 
 put-answer-requires : tie.Need-put-answer-requires
 put-answer-requires c κs = search needs
@@ -49,7 +49,7 @@ returns-2 c input f =
     let at-front = at-answer .before .before in
     let at-control = at-front .before .before .before .before .before in
     let told = rw (at-control .control .given .1) at (at-control .before .before .line-says .ensures input f) in
-    replies-good _ (answers-stamp _ _ _) _ _ _ told (at-front .front .ensures) (at-answer .answer .ensures) (at-put-answer .put-answer .ensures)
+    replies-good _ (answers-stamp _ _ _) _ _ _ told (at-front .front .ensures) (at-answer .grade-and-write .ensures) (at-put-answer .put-answer .ensures)
 
 pub reply-spec : {M : Type 1} → statement M
 reply-spec =
@@ -61,7 +61,7 @@ reply-spec =
     enum-known-control
     slice-aggregate-front
     front-requires
-    answer-requires
+    grade-and-write-requires
     put-answer-requires
     same-length
     returns
