@@ -1,15 +1,34 @@
-//! The answer: refusals in their order, or the ACK.
+//! The ACK, written from finding records, or as the findings come where there is no table.
 
 use crate::book::Book;
 use crate::cutting::{Delimiters, Fields, Message, Refusal};
 use crate::findings::{self, Finding, Place};
-use crate::refusals::Accepted;
+use crate::records::{self, Record};
+use crate::refusals::{expect_stamp, Accepted, Answerable};
 use std::convert::Infallible;
 use std::ops::ControlFlow::Continue;
 
-/// Number 0 and the ACK's length, or a refusal that leaves `out` as it is.
+/// Number 0 and the length of the ACK, which lists the first `count` records, or a refusal that leaves `out` as it is: 1
+/// to 6, 13, 10 or 11.
+pub fn write(m: &[u8], table: &[Record], count: u32, stamp: &[u8], control: u32, out: &mut [u8]) -> (u8, u64) {
+    told(Ack::listing(m, table, count, stamp, control), out)
+}
+
+/// What the relay does: the message is graded into the lent table, and what was found there is written.
+pub fn relay(m: &[u8], book: &[u8], stamp: &[u8], control: u32, table: &mut [Record], out: &mut [u8]) -> (u8, u64) {
+    match records::grade(m, book, table) {
+        (0, count) => write(m, table, count as u32, stamp, control, out),
+        refusal => refusal,
+    }
+}
+
+/// The call that A2 gives up, by its definition: refusals 1 to 11 or the ACK, without a table. Grading and then writing is
+/// held against it, and no program asks it.
 pub fn answer(m: &[u8], book: &[u8], stamp: &[u8], control: u32, out: &mut [u8]) -> (u8, u64) {
-    let ack = Ack::of(m, &Book::read(book), stamp, control, out.len() as u64);
+    told(Ack::of(m, &Book::read(book), stamp, control, out.len() as u64), out)
+}
+
+fn told(ack: Result<Ack, Refusal>, out: &mut [u8]) -> (u8, u64) {
     match ack.and_then(|ack| join(&[ack], out)) {
         Ok(length) => (0, length),
         Err(refusal) => refusal,
@@ -40,7 +59,23 @@ pub struct Ack<'a> {
 }
 
 impl<'a> Ack<'a> {
-    /// The answer to a message that meets none of refusals 1 to 10. It can be written where it fits into `room`;
+    /// The ACK that lists the first so many records. What they say is not compared with the message.
+    fn listing(m: &'a [u8], table: &[Record], count: u32, stamp: &'a [u8], control: u32) -> Result<Self, Refusal> {
+        let Answerable { message, header } = Answerable::of(m)?;
+        let counted = table.get(..count as usize).ok_or((13, 0))?;
+        let findings: Option<Vec<Finding>> = counted.iter().map(Record::finding).collect();
+        let findings = findings.ok_or((13, 0))?;
+        expect_stamp(stamp)?;
+        let head = Head::new(message, &header, stamp, control);
+        let mut length = Length(0);
+        head.write("AA", &mut length);
+        findings.iter().for_each(|finding| write_err(finding, &mut length));
+        let rejected = findings.iter().any(|finding| matches!(finding.code, 200..=203));
+        let grave = findings.iter().any(|finding| finding.severity.is_grave());
+        Ok(Ack { length: length.0, head, code: verdict(rejected, grave), findings })
+    }
+
+    /// The ACK of a message that meets none of refusals 1 to 10. It can be written where it fits into `room`;
     /// otherwise only its length is of use.
     pub fn of(
         m: &'a [u8],
@@ -49,7 +84,7 @@ impl<'a> Ack<'a> {
         control: u32,
         room: u64,
     ) -> Result<Self, Refusal> {
-        let Accepted { message, header, section } = Accepted::of(m, book, stamp)?;
+        let Accepted { message, header, section } = Accepted::stamped(m, book, stamp)?;
         let head = Head::new(message, &header, stamp, control);
         let mut length = Length(0);
         head.write("AA", &mut length);
@@ -64,12 +99,7 @@ impl<'a> Ack<'a> {
             }
             Continue::<Infallible>(())
         });
-        let code = match (rejected, grave) {
-            (true, _) => "AR",
-            (false, true) => "AE",
-            (false, false) => "AA",
-        };
-        Ok(Ack { length: length.0, head, code, findings: kept })
+        Ok(Ack { length: length.0, head, code: verdict(rejected, grave), findings: kept })
     }
 
     fn write(&self, out: &mut [u8]) {
@@ -78,6 +108,15 @@ impl<'a> Ack<'a> {
         for finding in &self.findings {
             write_err(finding, &mut output);
         }
+    }
+}
+
+/// MSA-1.
+fn verdict(rejected: bool, grave: bool) -> &'static str {
+    match (rejected, grave) {
+        (true, _) => "AR",
+        (false, true) => "AE",
+        (false, false) => "AA",
     }
 }
 

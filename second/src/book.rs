@@ -15,6 +15,15 @@ pub enum Severity {
 }
 
 impl Severity {
+    pub fn of(letter: u8) -> Option<Self> {
+        Some(match letter {
+            b'E' => Severity::Error,
+            b'W' => Severity::Warning,
+            b'I' => Severity::Informational,
+            _ => return None,
+        })
+    }
+
     pub fn letter(self) -> &'static [u8] {
         match self {
             Severity::Error => b"E",
@@ -68,17 +77,11 @@ impl Rule {
             (6, set, 0, 0) if 1 <= set && set <= set_count => Kind::Code { set },
             _ => return None,
         };
-        let severity = match severity {
-            b'E' => Severity::Error,
-            b'W' => Severity::Warning,
-            b'I' => Severity::Informational,
-            _ => return None,
-        };
-        Some(Rule { name, field, component, kind, severity })
+        Some(Rule { name, field, component, kind, severity: Severity::of(severity)? })
     }
 
     /// Whether what stands at the rule's place in a repetition breaks it. What is no value breaks REQUIRED alone.
-    // By itself the compiler inlines it into one of the two gradings alone, the answer's or the lamp's.
+    // By itself the compiler inlines it into one of the gradings alone: the table's, the batch's or the lamp's.
     #[inline]
     pub fn broken(&self, value: &[u8], sets: &[Set]) -> bool {
         if !values::is_value(value) {

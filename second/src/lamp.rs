@@ -8,13 +8,13 @@ use std::ops::ControlFlow::{Break, Continue};
 /// Number 0 with detail 1 for yes and 0 for no, or one of refusals 1 to 10. The first finding of severity E or W
 /// decides, and a header finding is one.
 pub fn lamp(m: &[u8], book: &[u8], stamp: &[u8]) -> (u8, u64) {
-    match Accepted::of(m, &Book::read(book), stamp) {
+    match Accepted::stamped(m, &Book::read(book), stamp) {
         Ok(accepted) => (0, is_yes(&accepted).into()),
         Err(refusal) => refusal,
     }
 }
 
-/// Whether what the lamp says goes with an answer, whose ACK stands in the first bytes of the output.
+/// Whether what the lamp says goes with grading and writing, whose ACK stands in the first bytes of the output.
 pub fn agrees(lamp: (u8, u64), answer: (u8, u64), out: &[u8]) -> bool {
     match answer {
         (0, length) => {

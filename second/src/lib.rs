@@ -1,6 +1,7 @@
-//! A second, independent program of 01 and of A1, A3, A4, A5 and A8 in 02: reads a VXU message, grades it by a section
-//! of a rule book and answers with an ACK, with the ACKs of a batch file's messages, or with yes or no alone. It also
-//! compiles rule books from text, shows them as text and tells two of them apart.
+//! A second, independent program of 01 and of A1 to A5 and A8 in 02: reads a VXU message, grades it by a section of a
+//! rule book into a table of finding records and writes an ACK from them, or answers with the ACKs of a batch file's
+//! messages, or with yes or no alone. It also compiles rule books from text, shows them as text and tells two of them
+//! apart.
 
 pub mod ack;
 pub mod batch;
@@ -18,6 +19,7 @@ pub mod line;
 pub mod locating;
 pub mod order;
 pub mod packing;
+pub mod records;
 pub mod refusals;
 pub mod registries;
 pub mod samples;
@@ -25,11 +27,12 @@ pub mod values;
 
 use std::process::ExitCode;
 
-pub use ack::answer;
+pub use ack::{relay, write};
 pub use batch::batch;
 pub use cutting::check;
 pub use lamp::lamp;
 pub use locating::locate;
+pub use records::grade;
 
 /// How a program ends: a problem is told in one line.
 pub fn ending(program: &str, result: Result<(), String>) -> ExitCode {

@@ -1,15 +1,19 @@
 //! The two programs: their files, their line of standard input and what they print.
 
-use crate::ack::answer;
+use crate::ack;
 use crate::batch::{batch, FILE_LIMIT};
 use crate::book::BOOK_LIMIT;
 use crate::cutting::MESSAGE_LIMIT;
+use crate::records::Record;
 use std::fs::File;
 use std::io::{self, BufRead, ErrorKind, Read, Write};
 
 pub const BOOK_FILE: &str = "book.vxb";
 
-/// What is asked of a file, a book, a stamp, a control number and an output: `answer` or `batch`.
+/// So many finding records the relay program lends.
+pub const TABLE_RECORDS: usize = 8_192;
+
+/// What is asked of a file, a book, a stamp, a control number and an output: `relay` or `batch`.
 type Call = fn(&[u8], &[u8], &[u8], u32, &mut [u8]) -> (u8, u64);
 
 /// A program that reads a file beside the book and the line.
@@ -21,8 +25,13 @@ pub struct Program {
     call: Call,
 }
 
-pub const RELAY: Program = Program { file: "message.hl7", limit: MESSAGE_LIMIT, output_length: 65_536, call: answer };
+pub const RELAY: Program = Program { file: "message.hl7", limit: MESSAGE_LIMIT, output_length: 65_536, call: relay };
 pub const BATCH: Program = Program { file: "batch.hl7", limit: FILE_LIMIT, output_length: 4_194_304, call: batch };
+
+/// Grades and writes with the program's own table.
+pub fn relay(m: &[u8], book: &[u8], stamp: &[u8], control: u32, out: &mut [u8]) -> (u8, u64) {
+    ack::relay(m, book, stamp, control, &mut [Record::default(); TABLE_RECORDS], out)
+}
 
 impl Program {
     /// Reads the files in the current directory and the line, and prints.

@@ -2,7 +2,8 @@
 //! single numbers in which the library answers.
 
 use crate::booktext::{Told, TOO_SHORT};
-use crate::cases::{AnyCase, BatchCase, BookCall, BookCase, Case, DiffCase};
+use crate::cases::{AnyCase, BatchCase, BookCall, BookCase, Case, DiffCase, WriteCase};
+use crate::records::Record;
 
 /// What a case begins with.
 const MESSAGE: u32 = 1;
@@ -11,6 +12,10 @@ const COMPILE: u32 = 3;
 const SHOW: u32 = 4;
 const LEGEND: u32 = 5;
 const DIFF: u32 = 6;
+const WRITE: u32 = 7;
+
+/// A packed record, each of its numbers with the high byte first.
+pub const RECORD_BYTES: usize = 16;
 
 fn pack(case: &AnyCase, packed: &mut Vec<u8>) {
     match case {
@@ -40,6 +45,40 @@ fn pack(case: &AnyCase, packed: &mut Vec<u8>) {
             pack_bytes(&[old, new], packed);
             pack_numbers(&[*output_length as u32], packed);
         }
+        AnyCase::Write(WriteCase { message, table, count, stamp, control, output_length }) => {
+            pack_numbers(&[WRITE], packed);
+            pack_bytes(&[message], packed);
+            pack_numbers(&[table.len() as u32], packed);
+            packed.extend(table.iter().flat_map(packed_record));
+            pack_numbers(&[*count], packed);
+            pack_bytes(&[stamp], packed);
+            pack_numbers(&[*control, *output_length as u32], packed);
+        }
+    }
+}
+
+fn packed_record(record: &Record) -> [u8; RECORD_BYTES] {
+    let Record { ordinal, repetition, rule, code, name, field, component, severity } = *record;
+    let mut packed = [0; RECORD_BYTES];
+    packed[..4].copy_from_slice(&ordinal.to_be_bytes());
+    packed[4..8].copy_from_slice(&repetition.to_be_bytes());
+    packed[8..10].copy_from_slice(&rule.to_be_bytes());
+    packed[10..12].copy_from_slice(&code.to_be_bytes());
+    packed[12..].copy_from_slice(&[name, field, component, severity]);
+    packed
+}
+
+pub fn unpacked_record(packed: &[u8; RECORD_BYTES]) -> Record {
+    let [o0, o1, o2, o3, r0, r1, r2, r3, rule0, rule1, code0, code1, name, field, component, severity] = *packed;
+    Record {
+        ordinal: u32::from_be_bytes([o0, o1, o2, o3]),
+        repetition: u32::from_be_bytes([r0, r1, r2, r3]),
+        rule: u16::from_be_bytes([rule0, rule1]),
+        code: u16::from_be_bytes([code0, code1]),
+        name,
+        field,
+        component,
+        severity,
     }
 }
 
@@ -73,6 +112,7 @@ pub fn unpack(mut packed: &[u8]) -> Option<Vec<AnyCase>> {
             SHOW => AnyCase::Book(take_book(&mut packed, BookCall::Show)?),
             LEGEND => AnyCase::Book(take_book(&mut packed, BookCall::Legend)?),
             DIFF => AnyCase::Diff(take_diff(&mut packed)?),
+            WRITE => AnyCase::Write(take_write(&mut packed)?),
             _ => return None,
         });
     }
@@ -102,6 +142,19 @@ fn take_diff(packed: &mut &[u8]) -> Option<DiffCase> {
     let [old, new] = [take_bytes(packed)?, take_bytes(packed)?];
     let output_length = take_number(packed)? as usize;
     Some(DiffCase { old, new, output_length })
+}
+
+fn take_write(packed: &mut &[u8]) -> Option<WriteCase> {
+    let message = take_bytes(packed)?;
+    let records = take_number(packed)? as usize;
+    let (table, rest) = packed.split_at_checked(records.checked_mul(RECORD_BYTES)?)?;
+    *packed = rest;
+    let (table, _) = table.as_chunks();
+    let count = take_number(packed)?;
+    let stamp = take_bytes(packed)?;
+    let [control, output_length] = take_numbers(packed)?;
+    let table = table.iter().map(unpacked_record).collect();
+    Some(WriteCase { message, table, count, stamp, control, output_length: output_length as usize })
 }
 
 fn take_numbers<const N: usize>(packed: &mut &[u8]) -> Option<[u32; N]> {
@@ -183,8 +236,37 @@ mod tests {
         packed.pop();
         assert_eq!(unpack(&packed), None);
         let mut other = pack_all(&[batch]);
-        other[3] = 7;
+        other[3] = 8;
         assert_eq!(unpack(&other), None);
+    }
+
+    #[test]
+    fn records_are_packed_field_by_field() {
+        let record = Record {
+            ordinal: 0x0102_0304,
+            repetition: 0x0506_0708,
+            rule: 0x090A,
+            code: 0x0B0C,
+            name: 13,
+            field: 14,
+            component: 15,
+            severity: 16,
+        };
+        let case = [AnyCase::Write(WriteCase {
+            message: b"MSH".to_vec(),
+            table: vec![record, Record::default()],
+            count: 0xFFEE_DDCC,
+            stamp: b"20".to_vec(),
+            control: 0x1112_1314,
+            output_length: 258,
+        })];
+        let packed = pack_all(&case);
+        assert_eq!(packed[..15], *b"\0\0\0\x07\0\0\0\x03MSH\0\0\0\x02");
+        assert_eq!(packed[15..31], std::array::from_fn::<u8, 16, _>(|at| at as u8 + 1));
+        assert_eq!(packed[31..47], [0; 16]);
+        assert_eq!(packed[47..], *b"\xFF\xEE\xDD\xCC\0\0\0\x0220\x11\x12\x13\x14\0\0\x01\x02");
+        assert_eq!(unpack(&packed), Some(case.to_vec()));
+        assert_eq!(unpack(&packed[..40]), None);
     }
 
     #[test]

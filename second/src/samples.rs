@@ -7,6 +7,7 @@ pub mod diffs;
 pub mod lamp;
 mod months;
 mod quotes;
+pub mod records;
 pub mod sources;
 
 use crate::book::BOOK_LIMIT;
@@ -98,6 +99,7 @@ pub fn samples() -> Vec<Sample> {
     all.extend(delimiters::samples());
     all.extend(months::samples());
     all.extend(quotes::samples());
+    all.extend(records::relayed());
     all
 }
 

@@ -76,6 +76,25 @@ fn files() {
 }
 
 #[test]
+fn more_findings_than_records() {
+    // Section AX: PID-3 NUMBER E, broken by each repetition. An ACK of so many findings is too long in any case.
+    let book = b"VXB\0\x01\x01\x02AX\0\x01\0PID\x03\0\x03E\0\0\0";
+    let message = |count: usize| {
+        let header = b"MSH|^~\\&|CAB|C1|REG|AX|||VXU^V04|M1|P|2.5.1\r".as_slice();
+        [header, b"PID|||", &b"x~".repeat(count - 1), b"x\r"].concat()
+    };
+    let of = |count: usize, line: &[u8]| printed(&folder("findings", Some(&message(count)), Some(book)), line);
+    let good = b"20250113120000+0000 7\n";
+    // 92 and 10 bytes of MSH and MSA, and an ERR of 49 bytes and the repetition's digits for each.
+    let length = 102 + 8_192 * 49 + 9 + 90 * 2 + 900 * 3 + 7_193 * 4;
+    assert_eq!(of(8_192, good), format!("refused 11 {length}\n"));
+    assert_eq!(of(8_192, b"20250113120000 7\n"), "refused 10 0\n");
+    assert_eq!(of(8_193, good), "refused 12 8193\n");
+    assert_eq!(of(8_193, b"20250113120000 7\n"), "refused 12 8193\n");
+    assert_eq!(of(8_193, b"7\n"), "bad line\n");
+}
+
+#[test]
 fn batches() {
     let Sample { case, expected, .. } = worked_example();
     let line = b"20250113120000+0000 7\n";

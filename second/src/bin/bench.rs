@@ -7,7 +7,8 @@ mod ours;
 use second::batch::FILE_LIMIT;
 use second::booktext::{TEXT_LIMIT, TOO_SHORT};
 use second::cases::{AnyCase, BookCall, BookCase, DiffCase};
-use second::line::BATCH;
+use second::line::{BATCH, TABLE_RECORDS};
+use second::records::Record;
 use second::samples::{self, STAMP};
 use second::{books, booktext, cases, hostile, limits, registries};
 use std::hint::black_box;
@@ -22,7 +23,7 @@ const ROUNDS: usize = 25;
 const SLOW_ROUNDS: usize = 7;
 const ONE_SAMPLE: Duration = Duration::from_millis(2);
 const OUTPUT_LENGTH: usize = 65_536;
-/// What is lent for books as text, and at the most where it depends on what is needed.
+/// What is lent for books as text and for ACKs of many findings, and at the most where it depends on what is needed.
 const LENT: usize = 1_048_576;
 const MOST_LENT: u64 = 67_108_864;
 const USAGE: &str = "usage: bench [hostile [BYTES]]";
@@ -64,6 +65,7 @@ fn usual() -> Result<(), String> {
     println!("Medians of {ROUNDS} samples, of {SLOW_ROUNDS} where one run takes 2 ms or more. Bytes are those of message and book.");
     answers()?;
     growths()?;
+    findings()?;
     lamps()?;
     batches()?;
     sources()?;
@@ -72,7 +74,7 @@ fn usual() -> Result<(), String> {
 }
 
 fn answers() -> Result<(), String> {
-    println!("\nAnswering one message, in microseconds and in nanoseconds for each byte\n");
+    println!("\nGrading one message into 8,192 records and writing its ACK, in microseconds and in nanoseconds for each byte\n");
     println!(
         "{:32} {:>7} {:>7} {:>11} {:>11} {:>9} {:>9} {:>9} {:>9}",
         "input", "message", "book", "ours", "second", "bare pass", "ours/B", "second/B", "bare/B"
@@ -113,12 +115,64 @@ fn growths() -> Result<(), String> {
     Ok(())
 }
 
+/// The two halves of the job, with room for every ACK.
+fn findings() -> Result<(), String> {
+    println!("\nGrading into 8,192 records and writing into 1 MiB apart, in microseconds\n");
+    println!(
+        "{:32} {:>8} {:>9} {:>11} {:>11} {:>11} {:>11}",
+        "input", "findings", "ACK", "ours grade", "second", "ours write", "second"
+    );
+    let inputs = [
+        Input::new("one dose, 618 rules", (limits::doses(1), books::registries_book())),
+        Input::new("five doses, largest book", (limits::doses(5), books::largest_book())),
+        Input::new("2,000 repetitions", limits::repetitions(2_000, 1)),
+        Input::new("8,000 repetitions", limits::repetitions(8_000, 1)),
+        Input::new("1,000 segments", limits::short_segments(4_048, 1)),
+        Input::new("4,000 segments", limits::short_segments(16_048, 1)),
+    ];
+    for input in inputs {
+        let (count, length, times) = measure_findings(&input)?;
+        let [ours, second, ours_write, second_write] = times.map(|time| time / 1000.0);
+        print!("{:32} {count:>8} {length:>9}", input.name);
+        println!(" {ours:>11.3} {second:>11.3} {ours_write:>11.3} {second_write:>11.3}");
+    }
+    Ok(())
+}
+
+/// The number of findings, the length of their ACK, and medians of grading and of writing.
+fn measure_findings(Input { name, message, book }: &Input) -> Result<(u64, u64, [f64; 4]), String> {
+    let (mut table_ours, mut table_second) = (lent_table(), lent_table());
+    let (mut out_ours, mut out_second) = (vec![0; LENT], vec![0; LENT]);
+    let (number, count) = second::grade(message, book, &mut table_second);
+    let told = second::write(message, &table_second, count as u32, STAMP, 7, &mut out_second);
+    let same_table = ours::grade(message, book, &mut table_ours) == (number, count) && table_ours == table_second;
+    let same_ack =
+        ours::write(message, &table_ours, count as u32, STAMP, 7, &mut out_ours) == told && out_ours == out_second;
+    if (number, told.0) != (0, 0) || !same_table || !same_ack {
+        return Err(format!("{name}: ours and second grade or write differently"));
+    }
+    let table = table_second.clone();
+    let count_given = count as u32;
+    let times = medians([
+        &mut || ours::grade(black_box(message), black_box(book), &mut table_ours).1,
+        &mut || second::grade(black_box(message), black_box(book), &mut table_second).1,
+        &mut || ours::write(black_box(message), black_box(&table), count_given, STAMP, 7, &mut out_ours).1,
+        &mut || second::write(black_box(message), black_box(&table), count_given, STAMP, 7, &mut out_second).1,
+    ]);
+    Ok((count, told.1, times))
+}
+
+/// What the relay program lends.
+fn lent_table() -> Vec<Record> {
+    vec![Record::default(); TABLE_RECORDS]
+}
+
 /// Where grading can stop at once, where it has to go on to the last segment, and where nothing stops it.
 fn lamps() -> Result<(), String> {
-    println!("\nThe lamp beside the whole answer, in microseconds; a rule that is broken has severity E\n");
+    println!("\nThe lamp beside grading and writing, in microseconds; a rule that is broken has severity E\n");
     println!(
         "{:36} {:>7} {:>7} {:>4} {:>11} {:>11} {:>11} {:>11}",
-        "input", "message", "book", "says", "ours lamp", "second", "ours answer", "second"
+        "input", "message", "book", "says", "ours lamp", "second", "ours ACK", "second"
     );
     let [clean, first, last] = limits::longest_doses();
     for (book, named) in [(books::registries_book(), "618 rules"), (books::largest_book(), "largest book")] {
@@ -129,33 +183,35 @@ fn lamps() -> Result<(), String> {
             (&limits::doses(1), "one dose"),
         ] {
             let (says, times) = measure_lamp(message, &book)?;
-            let [ours, second, ours_answer, second_answer] = times.map(|time| time / 1000.0);
+            let [ours, second, ours_ack, second_ack] = times.map(|time| time / 1000.0);
             print!("{:36} {:>7} {:>7} {says:>4}", format!("{name}, {named}"), message.len(), book.len());
-            println!(" {ours:>11.3} {second:>11.3} {ours_answer:>11.3} {second_answer:>11.3}");
+            println!(" {ours:>11.3} {second:>11.3} {ours_ack:>11.3} {second_ack:>11.3}");
         }
     }
     Ok(())
 }
 
-/// What it says, and medians of the lamps and of the answers.
+/// What it says, and medians of the lamps and of grading and writing.
 fn measure_lamp(message: &[u8], book: &[u8]) -> Result<(&'static str, [f64; 4]), String> {
+    let (mut table_ours, mut table_second) = (lent_table(), lent_table());
     let (mut out_ours, mut out_second) = (vec![0; OUTPUT_LENGTH], vec![0; OUTPUT_LENGTH]);
-    let mut ours_answer = || ours::answer(black_box(message), black_box(book), STAMP, 7, &mut out_ours);
-    let mut second_answer = || second::answer(black_box(message), black_box(book), STAMP, 7, &mut out_second);
+    let mut ours_ack = || ours::relay(black_box(message), black_box(book), STAMP, 7, &mut table_ours, &mut out_ours);
+    let mut second_ack =
+        || second::relay(black_box(message), black_box(book), STAMP, 7, &mut table_second, &mut out_second);
     let ours = || ours::lamp(black_box(message), black_box(book), STAMP);
     let second = || second::lamp(black_box(message), black_box(book), STAMP);
-    if ours() != second() || ours_answer() != second_answer() {
+    if ours() != second() || ours_ack() != second_ack() {
         return Err(format!("the lamp of {} bytes: ours and second say different things", message.len()));
     }
     let says = if second().1 == 1 { "yes" } else { "no" };
     let runs: [&mut dyn FnMut() -> u64; 4] =
-        [&mut || ours().1, &mut || second().1, &mut || ours_answer().1, &mut || second_answer().1];
+        [&mut || ours().1, &mut || second().1, &mut || ours_ack().1, &mut || second_ack().1];
     Ok((says, medians(runs)))
 }
 
-/// Files of one-dose messages, as many as 1 MiB holds and half of them, beside a call for each message.
+/// Files of one-dose messages, as many as 1 MiB holds and half of them, beside grading and writing each message.
 fn batches() -> Result<(), String> {
-    println!("\nAnswering a batch file of one-dose messages, 618 rules, in microseconds a file; one by one: a call for each message\n");
+    println!("\nAnswering a batch file of one-dose messages, 618 rules, in microseconds a file; one by one: graded and written each\n");
     println!("{:>8} {:>9} {:>11} {:>11} {:>11} {:>11}", "messages", "bytes", "ours", "second", "ours 1 by 1", "second");
     let message = limits::doses(1);
     let most = (FILE_LIMIT - limits::batch(b"").len()) / message.len();
@@ -175,18 +231,14 @@ fn measure_batch(file: &[u8], message: &[u8], count: u32) -> Result<[f64; 4], St
         return Err(format!("a batch of {count} messages: ours and second answer differently"));
     }
     let [out_ours, out_second, out_ours_singly, out_second_singly] = &mut outs;
-    let singly = |answer: &mut dyn FnMut(u32) -> u64| (7..7 + count).map(answer).sum();
+    let (mut table_ours, mut table_second) = (lent_table(), lent_table());
+    let singly = |relay: &mut dyn FnMut(u32) -> u64| (7..7 + count).map(relay).sum();
+    let (m, book) = (black_box(message), black_box(book.as_slice()));
     Ok(medians([
-        &mut || ours::batch(black_box(file), black_box(&book), STAMP, 7, out_ours).1,
-        &mut || second::batch(black_box(file), black_box(&book), STAMP, 7, out_second).1,
-        &mut || {
-            singly(&mut |control| ours::answer(black_box(message), black_box(&book), STAMP, control, out_ours_singly).1)
-        },
-        &mut || {
-            singly(&mut |control| {
-                second::answer(black_box(message), black_box(&book), STAMP, control, out_second_singly).1
-            })
-        },
+        &mut || ours::batch(black_box(file), black_box(book), STAMP, 7, out_ours).1,
+        &mut || second::batch(black_box(file), black_box(book), STAMP, 7, out_second).1,
+        &mut || singly(&mut |control| ours::relay(m, book, STAMP, control, &mut table_ours, out_ours_singly).1),
+        &mut || singly(&mut |control| second::relay(m, book, STAMP, control, &mut table_second, out_second_singly).1),
     ]))
 }
 
@@ -240,7 +292,7 @@ fn bytes_in(case: &AnyCase) -> usize {
     match case {
         AnyCase::Book(case) => case.given.len(),
         AnyCase::Diff(case) => case.old.len() + case.new.len(),
-        AnyCase::Message(_) | AnyCase::Batch(_) => 0,
+        AnyCase::Message(_) | AnyCase::Batch(_) | AnyCase::Write(_) => 0,
     }
 }
 
@@ -329,6 +381,8 @@ fn inputs() -> Vec<Input> {
         Input::new("four-byte segments, 256 rules", limits::short_segments(32_768, 256)),
         Input::new("16,000 repetitions, 256 rules", limits::repetitions(16_000, 256)),
         Input::new("6,500 repetitions, 1,024 codes", limits::codes(6_500, 1_024)),
+        Input::new("2,000 findings", limits::repetitions(2_000, 1)),
+        Input::new("8,000 findings", limits::repetitions(8_000, 1)),
     ]
 }
 
@@ -349,9 +403,11 @@ fn growth() -> Vec<Vec<Input>> {
 
 fn measure(input: &Input) -> Result<Times, String> {
     let Input { name, message, book } = input;
+    let (mut table_ours, mut table_second) = (lent_table(), lent_table());
     let (mut out_ours, mut out_second) = (vec![0; OUTPUT_LENGTH], vec![0; OUTPUT_LENGTH]);
-    let mut ours = || ours::answer(black_box(message), black_box(book), STAMP, 7, &mut out_ours);
-    let mut second = || second::answer(black_box(message), black_box(book), STAMP, 7, &mut out_second);
+    let mut ours = || ours::relay(black_box(message), black_box(book), STAMP, 7, &mut table_ours, &mut out_ours);
+    let mut second =
+        || second::relay(black_box(message), black_box(book), STAMP, 7, &mut table_second, &mut out_second);
     let bare = || count_delimiters(black_box(message)) + count_delimiters(black_box(book));
     if ours() != second() {
         return Err(format!("{name}: ours and second answer differently"));

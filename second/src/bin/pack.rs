@@ -57,6 +57,7 @@ fn printed(case: &AnyCase) -> Vec<u8> {
         AnyCase::Batch(case) => case.printed(),
         AnyCase::Book(case) => case.printed(),
         AnyCase::Diff(case) => case.printed(),
+        AnyCase::Write(case) => case.printed(),
     }
 }
 
@@ -66,6 +67,8 @@ fn lengths_and_room(case: &AnyCase) -> ([usize; 4], [usize; 4]) {
         AnyCase::Batch(case) => ([case.file.len(), case.book.len(), case.stamp.len(), case.output_length], BATCH_ROOM),
         AnyCase::Book(case) => ([case.given.len(), 0, 0, case.output_length], BOOK_ROOM),
         AnyCase::Diff(case) => ([case.old.len(), case.new.len(), 0, case.output_length], DIFF_ROOM),
+        // The runner takes none.
+        AnyCase::Write(case) => ([case.message.len(), 0, case.stamp.len(), case.output_length], [0; 4]),
     }
 }
 

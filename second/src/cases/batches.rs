@@ -7,8 +7,8 @@ use super::{Case, Five, Pair, Random};
 use crate::batch::{self, messages, FILE_LIMIT, POINTS};
 use crate::books::{self, SectionPlan};
 use crate::limits::{self, HEADER};
-use crate::line;
 use crate::samples::{self, STAMP};
+use crate::{ack, line};
 
 /// What one answer to a batch takes; the output is lent as so many bytes.
 #[derive(Clone, Debug, PartialEq, Eq)]
@@ -43,7 +43,7 @@ impl BatchCase {
         let messages = messages(&self.file);
         let (before, from) = messages.split_at(ordinal as usize - 1);
         let rows: Vec<u8> =
-            from.iter().map(|message| crate::answer(message, &self.book, &self.stamp, 0, &mut []).0).collect();
+            from.iter().map(|message| ack::answer(message, &self.book, &self.stamp, 0, &mut []).0).collect();
         let place = match (before.len(), from.len()) {
             (0, _) => 0,
             (_, 1) => 2,
@@ -78,7 +78,8 @@ const PAST_32_BITS: usize = 20;
 const LONGEST: [usize; 3] = [FILE_LIMIT - 1, FILE_LIMIT, FILE_LIMIT + 1];
 
 /// Batches by their index: the samples first, then each point of row 14 broken alone, each row that makes 15, each place
-/// of a bad message, each pair of refusals, the longest files and the longest output once, then random ones without end.
+/// of a bad message, each pair of refusals, the longest files, the longest output and a message with more findings than
+/// the relay program lends records once, then random ones without end.
 pub struct BatchGenerator {
     seed: u64,
     samples: Vec<BatchCase>,
@@ -94,7 +95,7 @@ impl BatchGenerator {
 
     /// How many come before the random ones.
     pub fn firsts(&self) -> u64 {
-        (self.samples.len() + POINTS.len() + ROWS.len() + PLACES.len() + PAIRS.len() + LONGEST.len() + 1) as u64
+        (self.samples.len() + POINTS.len() + ROWS.len() + PLACES.len() + PAIRS.len() + LONGEST.len() + 2) as u64
     }
 
     /// The batch of an index and the pair that it aims at.
@@ -134,6 +135,7 @@ impl BatchGenerator {
         match LONGEST.get(at) {
             Some(length) => (short_messages(*length), None),
             None if at == LONGEST.len() => (repeated(limits::repetitions(16_000, 256), PAST_32_BITS), None),
+            None if at == LONGEST.len() + 1 => (many_findings(), None),
             None => self.random_case(random),
         }
     }
@@ -228,7 +230,7 @@ impl Draft {
     /// Whether a message is answered alone, and has no second MSH, at which a batch would cut it.
     fn answers(&self, message: &[u8], five: &Five) -> bool {
         let message = exchanged(message, five);
-        let (number, _) = crate::answer(&message, &self.book, &self.stamp, self.control, &mut []);
+        let (number, _) = ack::answer(&message, &self.book, &self.stamp, self.control, &mut []);
         number == 11 && messages(&limits::batch(&message)).len() == 1
     }
 
@@ -336,6 +338,14 @@ fn short_messages(length: usize) -> BatchCase {
 fn repeated((message, book): (Vec<u8>, Vec<u8>), count: usize) -> BatchCase {
     let file = limits::batch(&message.repeat(count));
     BatchCase { file, book, stamp: STAMP.to_vec(), control: 7, output_length: 0 }
+}
+
+/// A message with more findings than the relay program lends records between two short ones, and room for their ACKs: a
+/// batch has no table.
+fn many_findings() -> BatchCase {
+    let (message, book) = limits::repetitions(line::TABLE_RECORDS + 1, 1);
+    let case = repeated(([HEADER, &message, HEADER].concat(), book), 1);
+    BatchCase { output_length: case.joined_length().unwrap_or(0) as usize, ..case }
 }
 
 /// A message near 32,768 bytes between two short ones.

@@ -11,6 +11,7 @@ mod near;
 mod places;
 mod plans;
 mod random;
+mod records;
 mod sources;
 mod variants;
 
@@ -22,13 +23,14 @@ pub(crate) use faults::FAULTY_RULES;
 pub use near::QUOTES;
 pub use places::place;
 pub use random::Random;
+pub use records::{filled_table, pairs as write_pairs, tables, WriteCase, WriteGenerator, LONGEST_TABLE};
 pub use sources::{number_of, BookCall, BookCase, BookGenerator, BOOK_ROWS, NO_SECTION};
 
 use crate::books::{self, SectionPlan};
 use crate::booktext::Told;
-use crate::{line, samples};
+use crate::{ack, line, samples};
 
-/// What one answer takes, and a place to locate in the message; the output is lent as so many bytes.
+/// What grading and writing take, and a place to locate in the message; the output is lent as so many bytes.
 #[derive(Clone, Debug, PartialEq, Eq)]
 pub struct Case {
     pub message: Vec<u8>,
@@ -41,13 +43,24 @@ pub struct Case {
 }
 
 impl Case {
+    /// By the call that A2 gives up: what grading and then writing give where the table has room.
     pub fn answer(&self, out: &mut [u8]) -> (u8, u64) {
-        crate::answer(&self.message, &self.book, &self.stamp, self.control, out)
+        ack::answer(&self.message, &self.book, &self.stamp, self.control, out)
     }
 
     /// What the relay program prints for this case.
     pub fn printed(&self) -> Vec<u8> {
-        line::printed_answer(self.output_length, |out| self.answer(out))
+        line::printed_answer(self.output_length, |out| {
+            line::relay(&self.message, &self.book, &self.stamp, self.control, out)
+        })
+    }
+
+    /// How many records grading needs, if it is not refused before they are counted.
+    pub fn findings(&self) -> Result<u64, (u8, u64)> {
+        match crate::grade(&self.message, &self.book, &mut []) {
+            (0 | 12, count) => Ok(count),
+            refusal => Err(refusal),
+        }
     }
 
     pub fn lamp(&self) -> (u8, u64) {
@@ -83,14 +96,15 @@ fn printed_told(output_length: usize, answer: impl FnOnce(&mut [u8]) -> Told) ->
     printed
 }
 
-/// What is asked of the main code: an answer to one message or to a batch, a book or text to be made of the other, or
-/// the difference of two books.
+/// What is asked of the main code: an answer to one message or to a batch, a book or text to be made of the other, the
+/// difference of two books, or an ACK from records.
 #[derive(Clone, Debug, PartialEq, Eq)]
 pub enum AnyCase {
     Message(Case),
     Batch(BatchCase),
     Book(BookCase),
     Diff(DiffCase),
+    Write(WriteCase),
 }
 
 impl AnyCase {
@@ -100,16 +114,18 @@ impl AnyCase {
             AnyCase::Batch(case) => case.output_length,
             AnyCase::Book(case) => case.output_length,
             AnyCase::Diff(case) => case.output_length,
+            AnyCase::Write(case) => case.output_length,
         }
     }
 
-    /// What the second program tells; of messages and batches there is no section.
+    /// What the second program tells; only of books as text there is a section.
     pub fn answer(&self, out: &mut [u8]) -> Told {
         match self {
             AnyCase::Message(case) => case.answer(out).into(),
             AnyCase::Batch(case) => case.answer(out).into(),
             AnyCase::Book(case) => case.answer(out),
             AnyCase::Diff(case) => case.answer(out),
+            AnyCase::Write(case) => case.answer(out).into(),
         }
     }
 }
@@ -117,13 +133,14 @@ impl AnyCase {
 /// Two refusals, the earlier one first, whose conditions are both to be true.
 pub type Pair = (u8, u8);
 
-/// Messages, batches, books and differences by one index: the first ones of each, then five messages, a batch, a book
-/// and a difference in turn.
+/// Messages, batches, books, differences and records by one index: the first ones of each, then four messages, a batch, a
+/// book, a difference and records in turn.
 pub struct AllCases {
     messages: Generator,
     batches: BatchGenerator,
     books: BookGenerator,
     diffs: DiffGenerator,
+    writes: WriteGenerator,
 }
 
 impl AllCases {
@@ -133,6 +150,7 @@ impl AllCases {
             batches: BatchGenerator::new(seed),
             books: BookGenerator::new(seed),
             diffs: DiffGenerator::new(seed),
+            writes: WriteGenerator::new(seed),
         }
     }
 
@@ -141,24 +159,34 @@ impl AllCases {
         self.firsts_of_each().iter().sum()
     }
 
-    fn firsts_of_each(&self) -> [u64; 4] {
-        [self.messages.firsts(), self.batches.firsts(), self.books.firsts(), self.diffs.firsts()]
+    fn firsts_of_each(&self) -> [u64; 5] {
+        let Self { messages, batches, books, diffs, writes } = self;
+        [messages.firsts(), batches.firsts(), books.firsts(), diffs.firsts(), writes.firsts()]
     }
 
     /// The case of an index and the pair that it aims at.
     pub fn case(&self, index: u64) -> (AnyCase, Option<Pair>) {
-        let [messages, batches, books, diffs] = self.firsts_of_each();
-        match index.checked_sub(self.firsts()) {
-            None if index < messages => self.message(index),
-            None if index < messages + batches => self.batch(index - messages),
-            None if index < messages + batches + books => self.book(index - messages - batches),
-            None => self.diff(index - messages - batches - books),
-            Some(later) => match later % 8 {
-                5 => self.batch(batches + later / 8),
-                6 => self.book(books + later / 8),
-                7 => self.diff(diffs + later / 8),
-                at => self.message(messages + later / 8 * 5 + at),
-            },
+        let firsts = self.firsts_of_each();
+        let mut at = index;
+        for (kind, count) in firsts.into_iter().enumerate() {
+            if at < count {
+                return self.of_kind(kind, at);
+            }
+            at -= count;
+        }
+        match (at % 8) as usize {
+            turn @ 0..4 => self.of_kind(0, firsts[0] + at / 8 * 4 + turn as u64),
+            turn => self.of_kind(turn - 3, firsts[turn - 3] + at / 8),
+        }
+    }
+
+    fn of_kind(&self, kind: usize, index: u64) -> (AnyCase, Option<Pair>) {
+        match kind {
+            0 => self.message(index),
+            1 => self.batch(index),
+            2 => self.book(index),
+            3 => self.diff(index),
+            _ => self.write(index),
         }
     }
 
@@ -179,6 +207,11 @@ impl AllCases {
 
     fn diff(&self, index: u64) -> (AnyCase, Option<Pair>) {
         (AnyCase::Diff(self.diffs.case(index)), None)
+    }
+
+    fn write(&self, index: u64) -> (AnyCase, Option<Pair>) {
+        let (case, pair) = self.writes.case(index);
+        (AnyCase::Write(case), pair)
     }
 }
 
@@ -471,7 +504,7 @@ mod tests {
     #[test]
     fn all_cases_hold_those_of_each_generator_once() {
         let all = AllCases::new(3);
-        let (mut messages, mut batches, mut books, mut diffs) = (0, 0, 0, 0);
+        let (mut messages, mut batches, mut books, mut diffs, mut writes) = (0, 0, 0, 0, 0);
         for index in 0..all.firsts() + 600 {
             let (case, _) = all.case(index);
             match &case {
@@ -491,11 +524,15 @@ mod tests {
                     assert!(*case == all.diffs.case(diffs), "{index}");
                     diffs += 1;
                 }
+                AnyCase::Write(case) => {
+                    assert!(*case == all.writes.case(writes).0, "{index}");
+                    writes += 1;
+                }
             }
         }
-        let mut later = [messages, batches, books, diffs];
+        let mut later = [messages, batches, books, diffs, writes];
         later.iter_mut().zip(all.firsts_of_each()).for_each(|(count, firsts)| *count -= firsts);
-        assert_eq!(later, [375, 75, 75, 75]);
+        assert_eq!(later, [300, 75, 75, 75, 75]);
     }
 
     #[test]

@@ -4,7 +4,10 @@ use crate::coverage::{Hits, Row, KINDS, LONGEST};
 use crate::quotes::Hit;
 use second::batch::{self, FILE_LIMIT, POINTS};
 use second::cases::{BatchCase, Pair, BATCH_PAIRS, ROWS};
+use second::line::TABLE_RECORDS;
 
+/// An ACK of so many findings has more bytes than this, since an ERR has over 40.
+const SHORTEST_OF_MANY: u64 = 40 * TABLE_RECORDS as u64;
 const PLACES: [&str; 3] = ["the first", "a middle", "the last"];
 
 const VERDICTS: [&str; 3] = ["AA", "AE", "AR"];
@@ -30,6 +33,8 @@ pub struct Batches {
     /// Answered files of which a message has other delimiters than the file.
     delimiters: u64,
     longest: u64,
+    /// Answered files of which a message has more findings than the relay program lends records.
+    many_findings: u64,
     past_32_bits: u64,
 }
 
@@ -55,6 +60,8 @@ impl Batches {
         self.sizes[messages.len().min(2)] += 1;
         self.longest += u64::from(case.file.len() == FILE_LIMIT && !messages.is_empty());
         self.delimiters += u64::from(messages.iter().any(|message| message[3..8] != case.file[3..8]));
+        let many = |message: &&[u8]| has_many_findings(message, &case.book);
+        self.many_findings += u64::from(length > SHORTEST_OF_MANY && messages.iter().any(many));
         if length < LONGEST {
             let hits: Vec<Hits> = messages.iter().filter_map(|message| Hits::of(message, &case.book).ok()).collect();
             for (kind, count) in self.quotes.iter_mut().enumerate() {
@@ -101,6 +108,7 @@ impl Batches {
         }
         add("delimiters of file and message differ".into(), self.delimiters);
         add("answered at 1 MiB".into(), self.longest);
+        add("answered with over 8,192 findings of a message".into(), self.many_findings);
         for (number, count) in [14, 15, 11].iter().zip(self.refusals) {
             add(format!("refusal {number}"), count);
         }
@@ -120,6 +128,10 @@ impl Batches {
         }
         rows
     }
+}
+
+fn has_many_findings(message: &[u8], book: &[u8]) -> bool {
+    matches!(second::grade(message, book, &mut []), (12, needed) if needed > TABLE_RECORDS as u64)
 }
 
 fn tally(counts: &mut [u64], at: Option<usize>) {

@@ -1,6 +1,6 @@
 //! What the cases hit: refusals and their pairs, findings, combinations of header findings and of severities, what other
-//! delimiters bring, the ends of months, two quotes, what the lamp says, what batches do, what books as text do and what
-//! differences tell.
+//! delimiters bring, the ends of months, two quotes, what the lamp says, tables and records, what batches do, what books
+//! as text do and what differences tell.
 
 use crate::batches::Batches;
 use crate::books::Books;
@@ -8,6 +8,7 @@ use crate::diffs::Diffs;
 use crate::lamps::{Decided, Lamps};
 use crate::months::{self, Edge, Months};
 use crate::quotes::{self, Quotes};
+use crate::records::{Grades, Writes};
 use second::book::{Book, Kind, Rule};
 use second::booktext::Told;
 use second::cases::{AnyCase, Case, Pair};
@@ -52,6 +53,8 @@ pub struct Coverage {
     months: Months,
     quotes: Quotes,
     lamps: Lamps,
+    grades: Grades,
+    writes: Writes,
     batches: Batches,
     books: Books,
     diffs: Diffs,
@@ -66,12 +69,14 @@ impl Coverage {
             AnyCase::Batch(case) => self.batches.count(case, pair, answer),
             AnyCase::Book(case) => self.books.count(case, pair, told),
             AnyCase::Diff(case) => self.diffs.count(case, told),
+            AnyCase::Write(case) => self.writes.count(case, pair, answer),
         }
     }
 
     fn count_message(&mut self, case: &Case, pair: Option<Pair>, (number, detail): (u8, u64)) {
         self.numbers[usize::from(number)] += 1;
         self.lamps.count(case.lamp(), number);
+        self.grades.count(case);
         if let Some((earlier, later)) = pair {
             // A book's late faults are tried after the version.
             if number == earlier || (earlier, later, number) == (7, 8, 8) {
@@ -134,6 +139,8 @@ impl Coverage {
         rows.extend(self.months.rows());
         rows.extend(self.quotes.rows());
         rows.extend(self.lamps.rows());
+        rows.extend(self.grades.rows());
+        rows.extend(self.writes.rows());
         rows.extend(self.batches.rows());
         rows.extend(self.books.rows());
         rows.extend(self.diffs.rows());

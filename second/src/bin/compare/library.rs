@@ -1,9 +1,10 @@
-//! Case by case through the library, linked or in a program of its own: answer and whole output, of a message also the
-//! lamp, check and locate.
+//! Case by case through the library, linked or in a program of its own: answer and whole output; a message is graded into
+//! tables of several lengths and its ACK written from each that has room, and lamp, check and locate are asked.
 
 use crate::coverage::Coverage;
 use second::booktext::Told;
-use second::cases::{AllCases, AnyCase, Pair};
+use second::cases::{filled_table, tables, AllCases, AnyCase, Case, Pair};
+use second::records::Record;
 use second::{lamp, packing};
 use std::fmt::Debug;
 use std::path::{Path, PathBuf};
@@ -16,20 +17,33 @@ const AT_ONCE: usize = 64;
 const ENOUGH: usize = 10;
 
 /// What the main code made of a case.
-pub struct Made {
-    pub answer: Told,
-    /// The lent output, and what stands after it where that can be seen.
-    pub output: Vec<u8>,
-    /// Of a message alone.
-    pub besides: Option<Besides>,
+pub enum Made {
+    Written(Written),
+    Message(OfMessage),
 }
 
-/// What is asked of a message besides its answer.
-pub struct Besides {
+/// What was told, the lent output afterwards, and what stands after it where that can be seen.
+pub struct Written {
+    pub answer: Told,
+    pub output: Vec<u8>,
+}
+
+pub struct OfMessage {
+    pub gradings: Vec<Grading>,
     pub lamp: (u8, u64),
     pub check: (u8, u64),
     /// Places with their start and length.
     pub places: Vec<([usize; 4], (usize, usize))>,
+}
+
+/// A message graded into a table of so many records.
+pub struct Grading {
+    pub lent: usize,
+    pub graded: (u8, u64),
+    /// The lent table afterwards, and what stands after it where that can be seen.
+    pub table: Vec<Record>,
+    /// The ACK from it, where grading was not refused.
+    pub written: Option<Written>,
 }
 
 pub trait Library {
@@ -107,34 +121,63 @@ impl Run {
 
 /// The second program's answer, and the first difference if there is one.
 fn compare_one(case: &AnyCase, made: &Made) -> (Told, Result<(), String>) {
-    let mut output = filled(made.output.len());
-    let answer = case.answer(&mut output[..case.output_length()]);
-    let compared = same("answer", made.answer, answer)
-        .and_then(|()| same_output(&made.output, &output))
-        .and_then(|()| same_besides(case, made));
-    (answer, compared)
+    match (case, made) {
+        (AnyCase::Message(case), Made::Message(made)) => {
+            let mut output = filled(case.output_length);
+            let answer = case.answer(&mut output);
+            (answer.into(), same_message(case, made, (answer, &output)))
+        }
+        (case, Made::Written(written)) => {
+            let mut output = filled(written.output.len());
+            let answer = case.answer(&mut output[..case.output_length()]);
+            (answer, same_written(written, answer, &output))
+        }
+        (case, Made::Message(_)) => (case.answer(&mut []), Err("not what was asked for".into())),
+    }
 }
 
-fn same_besides(case: &AnyCase, made: &Made) -> Result<(), String> {
-    let (AnyCase::Message(case), Some(Besides { lamp, check, places })) = (case, &made.besides) else {
-        return Ok(());
-    };
+fn same_written(ours: &Written, answer: Told, output: &[u8]) -> Result<(), String> {
+    same("answer", ours.answer, answer).and_then(|()| same_output(&ours.output, output))
+}
+
+/// What the call that was given up makes of a message.
+type Old<'o> = ((u8, u64), &'o [u8]);
+
+fn same_message(case: &Case, made: &OfMessage, old: Old) -> Result<(), String> {
+    let OfMessage { gradings, lamp, check, places } = made;
+    for grading in gradings {
+        same_grading(case, grading, old)
+            .map_err(|difference| format!("{difference}; {} records lent", grading.lent))?;
+    }
+    let lent: Vec<usize> = gradings.iter().map(|grading| grading.lent).collect();
+    same("tables", lent, tables(case.findings().unwrap_or(0), case.message.len()))?;
     same("lamp", *lamp, case.lamp())?;
-    goes_with_answer(*lamp, made)?;
+    if !lamp::agrees(*lamp, old.0, old.1) {
+        return Err(format!("lamp {lamp:?} beside answer {:?}", old.0));
+    }
     same("check", *check, second::check(&case.message))?;
     places.iter().try_for_each(|(place, found)| {
         same(&format!("locate {place:?}"), *found, second::locate(&case.message, *place))
     })
 }
 
-/// The lamp beside the answer that was given with it, which is known to be right.
-fn goes_with_answer(lamp: (u8, u64), made: &Made) -> Result<(), String> {
-    let answer = (made.answer.number, made.answer.detail);
-    if lamp::agrees(lamp, answer, &made.output) {
-        Ok(())
-    } else {
-        Err(format!("lamp {lamp:?} beside answer {answer:?}"))
+/// Number, detail and every record, and the ACK from them. Where the table has room it is the one of the old call.
+fn same_grading(case: &Case, ours: &Grading, old: Old) -> Result<(), String> {
+    let Case { message, book, stamp, control, output_length, .. } = case;
+    let mut table = filled_table(ours.table.len());
+    let graded = second::grade(message, book, &mut table[..ours.lent]);
+    same("graded", ours.graded, graded)?;
+    if let Some(at) = ours.table.iter().zip(&table).position(|(ours, second)| ours != second) {
+        same(&format!("record {at} after grading {graded:?}"), ours.table[at], table[at])?;
     }
+    let Some(written) = &ours.written else {
+        return if graded.0 == 12 { Ok(()) } else { same("grading beside the old call", graded, old.0) };
+    };
+    let mut output = filled(written.output.len());
+    let out = &mut output[..*output_length];
+    let answer = second::write(message, &table[..ours.lent], graded.1 as u32, stamp, *control, out);
+    same_written(written, answer.into(), &output)?;
+    same("grading and writing beside the old call", (answer, &output[..*output_length]), old)
 }
 
 fn same<T: PartialEq + Debug>(what: &str, ours: T, second: T) -> Result<(), String> {

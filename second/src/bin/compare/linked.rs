@@ -1,35 +1,59 @@
 //! The library as it is linked into this program.
 
-use crate::library::{filled, Besides, Library, Made};
+use crate::library::{filled, Grading, Library, Made, OfMessage, Written};
 use crate::ours;
-use second::cases::{self, AnyCase, Case, Random};
+use second::cases::{self, filled_table, tables, AnyCase, Case, Random};
+use std::hint::black_box;
 
-/// Bytes after the output that nobody may write.
+/// Bytes after the output, and records after the table, that nobody may write.
 const GUARD: usize = 64;
 
 pub struct Linked;
 
 impl Library for Linked {
     fn make(&mut self, cases: &[AnyCase]) -> Result<Vec<Made>, String> {
-        Ok(cases.iter().map(make).collect())
+        cases.iter().map(make).collect()
     }
 }
 
-fn make(case: &AnyCase) -> Made {
+fn make(case: &AnyCase) -> Result<Made, String> {
+    if let AnyCase::Message(case) = case {
+        return Ok(Made::Message(of_message(case)));
+    }
+    let mut lent = case.clone();
     let length = case.output_length();
     let mut output = filled(length + GUARD);
-    let answer = ours::answer_to(case, &mut output[..length]);
-    let besides = match case {
-        AnyCase::Message(case) => Some(besides(case)),
-        AnyCase::Batch(_) | AnyCase::Book(_) | AnyCase::Diff(_) => None,
-    };
-    Made { answer, output, besides }
+    let answer = ours::answer_to(&lent, &mut output[..length]);
+    // Hidden from the compiler, which takes for granted that what is lent to be read stays as it is.
+    if black_box(&mut lent) != case {
+        return Err("what was lent to be read has been changed".into());
+    }
+    Ok(Made::Written(Written { answer, output }))
 }
 
-fn besides(case: &Case) -> Besides {
+fn of_message(case: &Case) -> OfMessage {
     let Case { message, book, stamp, .. } = case;
+    let needed = match ours::grade(message, book, &mut filled_table(GUARD)[..0]) {
+        (12, needed) => needed,
+        _ => 0,
+    };
+    let gradings = tables(needed, message.len()).into_iter().map(|lent| grading(case, lent)).collect();
     let places = places(case).into_iter().map(|place| (place, ours::locate(message, place)));
-    Besides { lamp: ours::lamp(message, book, stamp), check: ours::check(message), places: places.collect() }
+    let lamp = ours::lamp(message, book, stamp);
+    OfMessage { gradings, lamp, check: ours::check(message), places: places.collect() }
+}
+
+fn grading(case: &Case, lent: usize) -> Grading {
+    let Case { message, book, stamp, control, output_length, .. } = case;
+    let mut table = filled_table(lent + GUARD);
+    let graded = ours::grade(message, book, &mut table[..lent]);
+    let written = (graded.0 == 0).then(|| {
+        let mut output = filled(output_length + GUARD);
+        let out = &mut output[..*output_length];
+        let answer = ours::write(message, &table[..lent], graded.1 as u32, stamp, *control, out);
+        Written { answer: answer.into(), output }
+    });
+    Grading { lent, graded, table, written }
 }
 
 /// The case's place and more, since asking costs little here; also numbers that no packed case can hold.

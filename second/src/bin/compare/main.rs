@@ -17,6 +17,7 @@ mod months;
 mod ours;
 mod program;
 mod quotes;
+mod records;
 mod traits;
 
 use library::Library;
