@@ -13,7 +13,7 @@ use grade::sheet::{Sheet, next_sheet, record_at};
 use hl7::place::Delims;
 
 // Where ERRs end, and whether an E or W is among their findings.
-#[derive(Drop)]
+#[derive(Clone, Copy)]
 pub struct Put {
     pub at: usize,
     pub fault: bool,

@@ -1,4 +1,7 @@
 // Writing: the ACK's bytes, from lent records or, for batches, without a table; and the lamp, which only says whether the ACK would say AA.
+
+#![tactic(auto)]
+
 pub mod answer;
 pub mod errs;
 pub mod lamp;

@@ -26,7 +26,7 @@ use hl7::bytes::pick;
 use hl7::place::{Delims, MSH_PLACES, delims_of, note_fields, segment};
 
 // Of records: whether all are in range, how long their ERRs are, whether one is about the header, and whether an E or W is among them.
-#[derive(Drop)]
+#[derive(Clone, Copy)]
 pub struct Weight {
     pub sound: bool,
     pub length: usize,
@@ -35,7 +35,7 @@ pub struct Weight {
 }
 
 // What is answered; and unless it is a refusal, how many records are written, by which delimiters, and the letter of MSA-1.
-#[derive(Drop)]
+#[derive(Clone, Copy)]
 pub struct Draft {
     pub answer: Answer,
     pub count: usize,

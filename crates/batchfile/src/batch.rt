@@ -25,14 +25,14 @@ const FILE_LIMIT: usize = 1048576;
 const KEPT: usize = 65536;
 
 // Whether a message meets one of refusals 1 to 10, and how long its ACK is, if not.
-#[derive(Drop)]
+#[derive(Clone, Copy)]
 pub struct Measured {
     pub meets: bool,
     pub length: usize,
 }
 
 // How far the messages are whose ACKs are kept: where the next begins, how many they are, and where the ACKs end.
-#[derive(Drop)]
+#[derive(Clone, Copy)]
 pub struct Kept {
     pub from: usize,
     pub count: usize,
@@ -40,7 +40,7 @@ pub struct Kept {
 }
 
 // The lowest ordinal of a message that meets one of refusals 1 to 10, or 0, and how long all ACKs are, if none does.
-#[derive(Drop)]
+#[derive(Clone, Copy)]
 pub struct Sizes {
     pub refused: usize,
     pub total: usize,

@@ -13,14 +13,14 @@ use hl7::place::{Delims, field_span, is_msh, segment};
 use hl7::refusal::{Found, wrong_byte, wrong_segment};
 
 // Where the messages end, and how many there are.
-#[derive(Drop)]
+#[derive(Clone, Copy)]
 pub struct Body {
     pub end: usize,
     pub count: usize,
 }
 
 // Where the parts of a file stand: FHS ends at bhs, BHS at start, the messages at end, BTS at fts, FTS at over. How many messages there are.
-#[derive(Drop)]
+#[derive(Clone, Copy)]
 pub struct Frame {
     pub bhs: usize,
     pub start: usize,

@@ -4,7 +4,7 @@ ghost use Rattle.book.specs.Command.{command_of};
 
 use hl7::bytes::same_bytes;
 
-#[derive(Drop)]
+#[derive(Clone, Copy)]
 pub enum Command {
     Compile,
     Check,

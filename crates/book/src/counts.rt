@@ -10,7 +10,7 @@ use grade::book::{Indexed, index_book, site_at};
 use hl7::bytes::wide;
 
 // How many sections a book has, and how many rules and sets they have together.
-#[derive(Drop)]
+#[derive(Clone, Copy)]
 pub struct Counts {
     pub sections: usize,
     pub rules: usize,

@@ -1,5 +1,8 @@
 // Makes a rule book of a text, or only checks the text, and prints what the book holds; prints a book as a text, the legend of a text, or what differs
 // between two books. Else it prints one line: a refusal, a file that cannot be used, or how to call it.
+
+#![tactic(auto)]
+
 mod command;
 mod counts;
 mod reply;
@@ -15,7 +18,7 @@ use legend::legend::legend;
 use reply::{put_diff, put_file, put_legend, put_new_name, put_shown, put_told, put_usage};
 
 // What was read of a file: whether it could be, and how many bytes there are, up to the room.
-#[derive(Drop)]
+#[derive(Clone, Copy)]
 struct Read {
     good: bool,
     length: usize,

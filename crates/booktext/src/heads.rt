@@ -13,7 +13,7 @@ use hl7::bytes::is_within;
 pub const HEAD_LIMIT: usize = 4096;
 
 // How many are noted, and where the text goes on after them.
-#[derive(Drop)]
+#[derive(Clone, Copy)]
 pub struct Noted {
     pub count: usize,
     pub rest: usize,

@@ -1,4 +1,7 @@
 // Rule books as text.
+
+#![tactic(auto)]
+
 pub(crate) mod before;
 pub mod cell;
 pub mod change;

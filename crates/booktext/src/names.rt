@@ -15,7 +15,7 @@ use hl7::cut::Span;
 pub(crate) const SET_LIMIT: usize = 64;
 
 // So many of the spans are names; one more than there is room for where there are more.
-#[derive(Drop)]
+#[derive(Clone, Copy)]
 pub struct Names {
     pub spans: [Span; 64],
     pub count: usize,

@@ -22,7 +22,7 @@ use hl7::bytes::{is_within, pick};
 const SECTION_LIMIT: usize = 64;
 
 // What is told, and where nothing is, how many sections there are.
-#[derive(Drop)]
+#[derive(Clone, Copy)]
 pub struct Counted {
     pub told: Told,
     pub sections: usize,

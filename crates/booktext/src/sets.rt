@@ -24,14 +24,14 @@ use grade::limits::CODE_COUNT_LIMIT;
 use hl7::bytes::same_bytes;
 
 // Where the next byte goes, and how many codes of a set were written.
-#[derive(Drop)]
+#[derive(Clone, Copy)]
 pub struct Run {
     pub at: usize,
     pub count: usize,
 }
 
 // What is told, and where the next byte goes.
-#[derive(Drop)]
+#[derive(Clone, Copy)]
 pub struct Put {
     pub told: Told,
     pub at: usize,

@@ -3,7 +3,7 @@ ghost use Rattle.std.specs.Prelude.{◌≡◌};
 ghost use Rattle.booktext.specs.Faults.{tell, nothing};
 
 // A number and two details: a line, or a length; and the line of the section that was being made, 0 outside one.
-#[derive(Drop)]
+#[derive(Clone, Copy)]
 pub struct Told {
     pub number: usize,
     pub detail: usize,

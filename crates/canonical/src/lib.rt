@@ -1,2 +1,5 @@
 // The canonical text of a rule book.
+
+#![tactic(auto)]
+
 pub mod show;

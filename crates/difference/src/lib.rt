@@ -1,4 +1,7 @@
 // What differs between two rule books, rule by rule.
+
+#![tactic(auto)]
+
 pub(crate) mod counterpart;
 pub mod difference;
 pub(crate) mod line;

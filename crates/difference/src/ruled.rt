@@ -11,7 +11,7 @@ use grade::rule::{Kind, Rule};
 use grade::walk::{Section, pair_at, text_after, text_part};
 
 // The rule, and how many codes stand where: none, if it has no set.
-#[derive(Drop)]
+#[derive(Clone, Copy)]
 pub struct Ruled {
     pub rule: Rule,
     pub from: usize,

@@ -18,7 +18,7 @@ use hl7::place::{Delims, MSH_PLACES, delims_of, note_fields, noted_field, segmen
 use hl7::refusal::{check, is_sound_reading};
 
 // The first refusal that applies, or by what the message is graded.
-#[derive(Drop)]
+#[derive(Clone, Copy)]
 pub enum Admitted {
     Refused(Answer),
     By(Section, Header),

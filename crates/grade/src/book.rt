@@ -13,14 +13,14 @@ use crate::plain::PLAIN;
 use crate::walk::{Next, Section, pair_at, section_end, text_after, text_part};
 use hl7::bytes::{begins_with, same_bytes};
 
-#[derive(Drop)]
+#[derive(Clone, Copy)]
 pub enum Indexed {
     Of(usize),
     Malformed,
     OtherVersion,
 }
 
-#[derive(Drop)]
+#[derive(Clone, Copy)]
 pub enum Opened {
     At(Section),
     Malformed,

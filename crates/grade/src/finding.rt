@@ -4,7 +4,7 @@
 // no field, no repetition and no rule: these are 0. Component 0 is the whole repetition. The severity is its letter. Other languages lend tables of
 // these records: sixteen bytes each, none unused.
 #[repr(C)]
-#[derive(Drop)]
+#[derive(Clone, Copy)]
 pub struct Finding {
     pub ordinal: u32,
     pub repetition: u32,

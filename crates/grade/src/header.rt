@@ -10,7 +10,7 @@ use hl7::bytes::same_bytes;
 use hl7::place::{Delims, component, noted_field, repetition};
 
 // Which of the four header checks fail.
-#[derive(Drop)]
+#[derive(Clone, Copy)]
 pub struct Header {
     pub type_wrong: bool,
     pub event_wrong: bool,

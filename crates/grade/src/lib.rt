@@ -1,4 +1,7 @@
 // Grading: the rule book, values, segment order, findings.
+
+#![tactic(auto)]
+
 pub mod admit;
 pub mod book;
 pub mod broken;

@@ -127,7 +127,7 @@ pub(crate) fn place_at(places: &[usize; SET_PLACES], k: usize) -> usize
 }
 
 // Whether the code at a position is the value, or where the next one stands.
-#[derive(Drop)]
+#[derive(Clone, Copy)]
 enum Looked {
     Same,
     After(usize),

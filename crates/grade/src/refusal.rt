@@ -6,7 +6,7 @@ ghost use Rattle.grade.specs.Admission.{paper};
 use hl7::refusal::Reading;
 
 // What a call answers: number 0 and, in its detail, what was asked for, or the number and the detail of the first refusal.
-#[derive(Drop)]
+#[derive(Clone, Copy)]
 pub struct Answer {
     pub number: u8,
     pub detail: usize,

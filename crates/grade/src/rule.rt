@@ -8,14 +8,14 @@ ghost use Rattle.grade.specs.Rule.{name_of_letters, first_field, place_fits, sev
 use crate::limits::{COMPONENT_LIMIT, FIELD_LIMIT, SEGMENT_COUNT};
 use hl7::bytes::is_within;
 
-#[derive(Drop)]
+#[derive(Clone, Copy)]
 pub enum Severity {
     Error,
     Warning,
     Informational,
 }
 
-#[derive(Drop)]
+#[derive(Clone, Copy)]
 pub enum Kind {
     Required,
     Length { low: u8, high: u8 },
@@ -26,14 +26,14 @@ pub enum Kind {
 }
 
 // A segment's name by its number: 1 to 10 the names that count, 11 any other; 0 is the message's end, which has none.
-#[derive(Drop)]
+#[derive(Clone, Copy)]
 pub struct Place {
     pub segment: u8,
     pub field: u8,
     pub component: u8,
 }
 
-#[derive(Drop)]
+#[derive(Clone, Copy)]
 pub struct Rule {
     pub place: Place,
     pub severity: Severity,
@@ -41,19 +41,19 @@ pub struct Rule {
 }
 
 // What reading a severity, a kind or a rule gives.
-#[derive(Drop)]
+#[derive(Clone, Copy)]
 pub enum SeverityRead {
     Is(Severity),
     Fault,
 }
 
-#[derive(Drop)]
+#[derive(Clone, Copy)]
 pub enum KindRead {
     Is(Kind),
     Fault,
 }
 
-#[derive(Drop)]
+#[derive(Clone, Copy)]
 pub enum RuleRead {
     Is(Rule),
     Fault,

@@ -25,7 +25,7 @@ const LINES: usize = 64;
 pub const NUMBERS: usize = 128;
 
 // A finding's record as two numbers: its first eight bytes and its last.
-#[derive(Drop)]
+#[derive(Clone, Copy)]
 struct Halves {
     front: usize,
     back: usize,
@@ -33,7 +33,7 @@ struct Halves {
 
 // In brief the sheets end at the first E or W. A fault is one of this sheet's findings or of a sheet's before it. What the grader was lent stands here
 // too, for the sheet after this one.
-#[derive(Drop)]
+#[derive(Clone, Copy)]
 pub struct Sheet {
     pub by: Terms,
     pub brief: bool,
@@ -49,7 +49,7 @@ pub struct Sheet {
 }
 
 // How far the grader came: how many lines are used, whether a fault was seen, and whether nothing more comes.
-#[derive(Drop)]
+#[derive(Clone, Copy)]
 pub(crate) struct Reached {
     pub(crate) used: usize,
     fault: bool,

@@ -20,7 +20,7 @@ use hl7::cut::{find_far, none_is};
 use hl7::place::{Delims, note_fields};
 
 // By what a message is graded: its delimiters, the section of the book that it names, and what its header says.
-#[derive(Drop)]
+#[derive(Clone, Copy)]
 pub struct Terms {
     pub d: Delims,
     pub section: Section,
@@ -29,7 +29,7 @@ pub struct Terms {
 
 // Where the grader stands: the header checks whose findings are still to come; in a segment, at a spot of it; then where the next segment begins, and the
 // last counted name.
-#[derive(Drop)]
+#[derive(Clone, Copy)]
 pub struct Cursor {
     pub header: Header,
     pub here: Here,
@@ -39,14 +39,14 @@ pub struct Cursor {
 }
 
 // The next finding, and where to go on.
-#[derive(Drop)]
+#[derive(Clone, Copy)]
 pub enum Step {
     Found(Finding, Cursor),
     End,
 }
 
 // The next segment of a counted name: what its order gives, if it is broken there, and where its rules are judged.
-#[derive(Drop)]
+#[derive(Clone, Copy)]
 pub enum Entered {
     Order(Finding, Cursor),
     Rules(Cursor),
@@ -54,7 +54,7 @@ pub enum Entered {
 }
 
 // How many parts of a segment are noted, and whether it has no tilde.
-#[derive(Drop)]
+#[derive(Clone, Copy)]
 pub struct Marks {
     pub count: usize,
     pub single: bool,

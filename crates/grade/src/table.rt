@@ -17,7 +17,7 @@ use crate::step::Terms;
 use hl7::place::delims_of;
 
 // What grading answers, how many records it writes, and the first sheet of these.
-#[derive(Drop)]
+#[derive(Clone, Copy)]
 pub struct Plan {
     pub answer: Answer,
     pub count: usize,

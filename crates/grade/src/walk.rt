@@ -9,14 +9,14 @@ ghost use Rattle.grade.specs.Limits.{code_limit};
 use crate::limits::{CODE_COUNT_LIMIT, CODE_LIMIT, KEY_LIMIT, RULE_LIMIT, RULE_SIZE, SET_LIMIT};
 use crate::rule::rule_stands;
 
-#[derive(Drop)]
+#[derive(Clone, Copy)]
 pub enum Next {
     At(usize),
     Fault,
 }
 
 // Where a section's rules and sets stand.
-#[derive(Drop)]
+#[derive(Clone, Copy)]
 pub struct Section {
     pub rules_at: usize,
     pub rule_count: usize,

@@ -21,7 +21,7 @@ use hl7::place::{Delims, noted_field_span};
 
 // The segment that is being judged: its bytes, its name, and its number among the segments of that name; how many of its parts are noted, and whether
 // it is known to have no tilde.
-#[derive(Drop)]
+#[derive(Clone, Copy)]
 pub struct Here {
     pub start: usize,
     pub end: usize,
@@ -32,7 +32,7 @@ pub struct Here {
 }
 
 // Where the codes of a rule's set stand in the book, and where its field stands in the message.
-#[derive(Drop)]
+#[derive(Clone, Copy)]
 pub struct Field {
     pub codes: usize,
     pub start: usize,
@@ -41,7 +41,7 @@ pub struct Field {
 
 // A place among the repetitions of a rule at a segment: the rule, counted from 0, where in its field the next repetition begins, and how many were passed;
 // once some were passed, the field is known.
-#[derive(Drop)]
+#[derive(Clone, Copy)]
 pub struct Spot {
     pub rule: usize,
     pub at: usize,
@@ -50,7 +50,7 @@ pub struct Spot {
 }
 
 // The next repetition that breaks a rule, and where to look after it.
-#[derive(Drop)]
+#[derive(Clone, Copy)]
 pub enum Value {
     Broken { repetition: u32, next: usize },
     Fine,
@@ -104,7 +104,7 @@ fn next_value(
 }
 
 // What judging a segment finds next, and where it goes on.
-#[derive(Drop)]
+#[derive(Clone, Copy)]
 pub enum Within {
     Found(Finding, Spot),
     Nothing,
@@ -200,7 +200,7 @@ fn field_of(
 }
 
 // What the rule at a spot gives next: a finding after which it is asked again, its last one, or none.
-#[derive(Drop)]
+#[derive(Clone, Copy)]
 pub enum Judged {
     Found(Finding, Spot),
     Last(Finding),

@@ -13,7 +13,7 @@ const BLOCK: usize = 16;
 const COUNTED: usize = 64;
 
 // A part of a slice, by where it starts and ends there.
-#[derive(Drop)]
+#[derive(Clone, Copy)]
 pub struct Span {
     pub start: usize,
     pub end: usize,
@@ -95,7 +95,7 @@ fn one_if(test: bool) -> u8
 }
 
 // A position, and how many parts lie between it and the part asked for.
-#[derive(Drop)]
+#[derive(Clone, Copy)]
 struct Left {
     at: usize,
     parts: usize,

@@ -1,4 +1,7 @@
 // Reading a message: refusals 1 to 5, cutting, locating.
+
+#![tactic(auto)]
+
 pub mod bytes;
 pub mod cut;
 pub mod delimiters;

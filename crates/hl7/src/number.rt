@@ -37,7 +37,7 @@ pub fn with_digit(value: usize, digit: u8) -> usize
 }
 
 // Whether bytes are all digits, and their value, as far as values are told apart.
-#[derive(Drop)]
+#[derive(Clone, Copy)]
 pub struct Digits {
     pub all: bool,
     pub value: usize,

@@ -12,7 +12,7 @@ use crate::cut::{Span, find, find_far, part};
 pub const MSH_PLACES: usize = 14;
 
 // The five bytes that a message is cut by, each named after the byte that usually stands there.
-#[derive(Drop)]
+#[derive(Clone, Copy)]
 pub struct Delims {
     pub bar: u8,
     pub caret: u8,
@@ -102,7 +102,7 @@ pub fn segment(m: &[u8], n: usize) -> &[u8]
 }
 
 // Which part of a segment a field is: none, the bar after the name MSH, or a part by its number.
-#[derive(Drop)]
+#[derive(Clone, Copy)]
 enum FieldAt {
     Missing,
     Bar,

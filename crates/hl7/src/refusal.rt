@@ -13,7 +13,7 @@ use crate::place::{Delims, delims_of};
 const MESSAGE_LIMIT: usize = 32768;
 
 // What a message is on reading: sound, or which of refusals 1 to 5 it meets, with the position where the paper gives one.
-#[derive(Drop)]
+#[derive(Clone, Copy)]
 pub enum Reading {
     Sound,
     Empty,
@@ -23,7 +23,7 @@ pub enum Reading {
     WrongSegment(usize),
 }
 
-#[derive(Drop)]
+#[derive(Clone, Copy)]
 pub enum Found {
     At(usize),
     Nothing,

@@ -1,4 +1,7 @@
 // The calls for other languages, on numbers, byte slices and tables of findings: each answers one number.
+
+#![tactic(auto)]
+
 ghost use Rattle.std.specs.Prelude.{◌≡◌, ◌≤◌, ◌^◌};
 ghost use Rattle.hl7.specs.Refusals.{first_row, message_rows, located};
 ghost use Rattle.grade.specs.Admission.{paper};

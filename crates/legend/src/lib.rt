@@ -1,3 +1,6 @@
 // The legend of a text: what the rule numbers of its book mean.
+
+#![tactic(auto)]
+
 pub mod legend;
 pub(crate) mod people;

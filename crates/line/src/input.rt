@@ -6,7 +6,7 @@ use crate::kept::{State, feed, start};
 use hl7::bytes::pick;
 
 // What a turn of reading leaves, and whether there may be more of the line.
-#[derive(Drop)]
+#[derive(Clone, Copy)]
 struct Turn {
     more: bool,
     state: State,

@@ -9,7 +9,7 @@ use hl7::number::{TOO_LARGE, with_digit};
 const HEAD_LENGTH: usize = 20;
 
 // The first bytes of the line, and how many there are.
-#[derive(Drop)]
+#[derive(Clone, Copy)]
 pub struct Head {
     pub bytes: [u8; 20],
     pub count: usize,
@@ -17,7 +17,7 @@ pub struct Head {
 
 // The last space: whether there is one, and how many of the head's bytes stand before it. What stands after it: whether
 // there is a byte, whether all are digits, and their value, counted up to one past the largest control number.
-#[derive(Drop)]
+#[derive(Clone, Copy)]
 pub struct Item {
     pub spaced: bool,
     pub stamp: usize,
@@ -27,7 +27,7 @@ pub struct Item {
 }
 
 // What is kept of the input: whether its line has ended, and the line.
-#[derive(Drop)]
+#[derive(Clone, Copy)]
 pub struct State {
     pub ended: bool,
     pub head: Head,
@@ -35,7 +35,7 @@ pub struct State {
 }
 
 // What the line says; the stamp is the first so many bytes of the head.
-#[derive(Drop)]
+#[derive(Clone, Copy)]
 pub enum Line {
     Bad,
     Good { control: u32, stamp: usize },

@@ -1,4 +1,7 @@
 // Reads a message, a rule book and a line, and prints the answer: the ACK, a refusal, or that the line is bad.
+
+#![tactic(auto)]
+
 mod reply;
 
 use hl7::bytes::front;

@@ -6,6 +6,9 @@
 // repetition, component. A case of kind 3 is a text that is compiled, of kind 4 a book that is shown, of kind 5 a text whose legend is asked for: its
 // length, its bytes, output length. A case of kind 6 is two books of which the difference is asked for: length and bytes of the old one, of the new one,
 // output length.
+
+#![tactic(auto)]
+
 ghost use Rattle.std.specs.Prelude.{◌≡◌};
 ghost use Rattle.samples.specs.Pack.{number_of};
 
@@ -36,7 +39,7 @@ const LEGEND: u32 = 5;
 const DIFFERENCE: u32 = 6;
 
 // A number of the pack: how many of its bytes there were, and its value.
-#[derive(Drop)]
+#[derive(Clone, Copy)]
 struct Number {
     count: usize,
     value: u32,
@@ -60,7 +63,7 @@ fn read_number(fd: i32) -> Number {
 }
 
 // Bytes of the pack with their length before them: whether all are there and had room, and how many they are.
-#[derive(Drop)]
+#[derive(Clone, Copy)]
 struct Part {
     whole: bool,
     length: usize,
@@ -83,7 +86,7 @@ fn read_part(fd: i32, into: &mut [u8]) -> Part {
 }
 
 // A place that is asked for.
-#[derive(Drop)]
+#[derive(Clone, Copy)]
 struct Asked {
     segment: Number,
     field: Number,

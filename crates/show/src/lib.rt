@@ -1,2 +1,5 @@
 // The text that a program prints.
+
+#![tactic(auto)]
+
 pub mod text;
