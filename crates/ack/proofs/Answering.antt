@@ -1,6 +1,6 @@
 -- What the calls give, by a table of refusals in any numbers: the law of a table, answering as writing after grading, and the code's ways out.
 -- Assumes nothing.
-use mathlib.Core.Path.{◌≡◌, refl, sym, ap, ap2, ◌∙◌}
+use mathlib.Core.Path.{◌≡◌, refl, sym, ap, ap₂, ◌∙◌}
 use mathlib.Core.Bool.{Bool, true, false, cond}
 use mathlib.Core.Logic.{◌↔◌}
 use mathlib.Core.List.{List, [], ◌∷◌, ◌++◌, append_assoc}
@@ -138,4 +138,4 @@ module _ (d : Delims) (msh stamp : List ℕ) (control : ℕ) (findings : List Fi
         let whole : Wrote out 0 ack _ _ = wrote_as (w then v) (rw e (sym (ack-is d msh stamp control findings))) in
         let ends = whole.ends in
         let long : end ≡ length ack = omega (arith, ends, ack-short d msh stamp control findings h s few) in
-        rw (le-ltb (length out) (length ack) (omega (arith, need_is))) (ap2 (λ (n : ℕ) (after : List ℕ). outcome (told 0 n) after) long (wrote-at-start whole (omega (arith, need_is))))
+        rw (le-ltb (length out) (length ack) (omega (arith, need_is))) (ap₂ (λ (n : ℕ) (after : List ℕ). outcome (told 0 n) after) long (wrote-at-start whole (omega (arith, need_is))))

@@ -1,6 +1,6 @@
 -- Which five delimiters a message is cut by does not matter to its answer: where its bytes that may delimit are exchanged among each other, and the book's keys
 -- and codes stay as they are, number and detail are the same and the ACK differs by the exchange alone. Assumes nothing.
-use mathlib.Core.Path.{◌≡◌, refl, sym, ap, ap2, ◌∙◌}
+use mathlib.Core.Path.{◌≡◌, refl, sym, ap, ap₂, ◌∙◌}
 use mathlib.Core.Bool.{Bool, true, false, cond, ◌||◌}
 use mathlib.Core.List.{List, [], ◌∷◌, ◌++◌, map, flat_map, map-append}
 use Prim.Native.Nat.{ℕ}
@@ -47,7 +47,7 @@ told_alike rows out ack other e = ap (λ (n : ℕ). (outcome_by (first_row (rows
 -- part by part
 infixr 20 ◌beside◌
 ◌beside◌ : {p q : List ℕ} {ps qs : List (List ℕ)} → p ≡ q → ps ≡ qs → p ∷ ps ≡ q ∷ qs
-e beside f = ap2 ◌∷◌ e f
+e beside f = ap₂ ◌∷◌ e f
 
 module _ {σ : ℕ → ℕ} (ex : Exchange σ) where
   fixed : (s : List ℕ) → all is_plain s ≡ true → s ≡ map σ s
@@ -72,7 +72,7 @@ module _ {σ : ℕ → ℕ} (ex : Exchange σ) where
   lines-exchanged [] = refl
   lines-exchanged (line ∷ lines) =
       let whole : ended (map σ line) ≡ map σ (ended line) = ap (λ (c : ℕ). map σ line ++ (c ∷ [])) (sym (ex.plain carriage_return refl)) ∙ sym (map-append σ line (carriage_return ∷ [])) in
-      ap2 ◌++◌ whole (lines-exchanged lines) ∙ sym (map-append σ (ended line) (flat_map ended lines))
+      ap₂ ◌++◌ whole (lines-exchanged lines) ∙ sym (map-append σ (ended line) (flat_map ended lines))
 
   own_byte_lem : (d : Delims) (x : ℕ) → is_own x ≡ true → own_byte (exchanged σ d) x ≡ σ (own_byte d x)
   unfolding own_byte is_in
@@ -92,7 +92,7 @@ module _ {σ : ℕ → ℕ} (ex : Exchange σ) where
   own-exchanged : (d : Delims) (text : List ℕ) → all is_own text ≡ true → own (exchanged σ d) text ≡ map σ (own d text)
   unfolding all
   own-exchanged d [] e = refl
-  own-exchanged d (x ∷ text) e = let both = and_both (is_own x) (all is_own text) e in ap2 ◌∷◌ (own_byte_lem d x both.0) (own-exchanged d text both.1)
+  own-exchanged d (x ∷ text) e = let both = and_both (is_own x) (all is_own text) e in ap₂ ◌∷◌ (own_byte_lem d x both.0) (own-exchanged d text both.1)
 
   -- ---- the segments
   module _ (d : Delims) where
@@ -141,7 +141,7 @@ module _ {σ : ℕ → ℕ} (ex : Exchange σ) where
         beside (ap (joined (σ d.caret)) (each_fixed (place_parts f) (place-text f)) ∙ joined-exchanged d.caret (place_parts f))
         beside own-exchanged d (code_text f.code) (code_own f.code)
         beside fixed (f.severity ∷ []) (text-plain (f.severity ∷ []) (severity_is f e))
-        beside (ap2 ◌++◌ (decimal_fixed f.rule) (own-exchanged d (bytes "^^L") refl) ∙ sym (map-append σ (decimal f.rule) (own d (bytes "^^L"))))
+        beside (ap₂ ◌++◌ (decimal_fixed f.rule) (own-exchanged d (bytes "^^L") refl) ∙ sym (map-append σ (decimal f.rule) (own d (bytes "^^L"))))
         beside refl)
         ∙ joined-exchanged d.bar _
 

@@ -8,7 +8,7 @@ use native.Mathlib.Omega.{arith}
 use lib.Dec.{eqb, leb, ltb}
 use lib.ListN.{length, drop, length-append}
 use lib.Seq.{take-append_seam}
-use borrow.Author.Tests.{eq-eqb, eqb-true, eqb-false, lt-ltb, le-ltb, leb_true, leb_false, not-false}
+use borrow.Author.Tests.{eq-eqb, eqb-true, eqb-false, lt-ltb, le-ltb, leb-true, leb-false, not-false}
 use Rattle.hl7.specs.Place.{delims_of}
 use Rattle.hl7.specs.Refusals.{Told, told, first_row, passes, message_rows, form_rows}
 use Rattle.hl7.proofs.Refusing.{none-exactly}
@@ -72,10 +72,10 @@ module _ (m b stamp : List ℕ) (control : ℕ) (out : List ℕ) where
       by false fits e f =
           ap writes (into_refused m b table (eqb-false _ 0 e)) ∙ rw (e, by_admission m b stamp control out, e) refl
       by true false e f =
-          let less = leb_false (length found) (length table) f in
+          let less = leb-false (length found) (length table) f in
           ap writes (into_short m b table (eqb-true _ 0 e) less) ∙ rw (e, lt-ltb (length table) (length found) less) refl
       by true true e f =
-          let room = leb_true (length found) (length table) f in
+          let room = leb-true (length found) (length table) f in
           ap writes (into_room m b table (eqb-true _ 0 e) room) ∙ write_found (drop (length found) table) (eqb-true _ 0 e)
           ∙ rw (e, le-ltb (length table) (length found) room, by_admission m b stamp control out, e) refl
 

@@ -1,5 +1,5 @@
 -- The laws of the layout. Assumes nothing.
-use mathlib.Core.Path.{◌≡◌, refl, sym, ap, ap2, ◌∙◌}
+use mathlib.Core.Path.{◌≡◌, refl, sym, ap, ap₂, ◌∙◌}
 use mathlib.Core.Bool.{Bool, true, false, cond}
 use mathlib.Core.List.{List, [], ◌∷◌, ◌++◌, map, flat_map, append-nil, append_assoc}
 use Prim.Native.Nat.{ℕ, ◌/◌, ◌%◌}
@@ -143,4 +143,4 @@ own-standard d h text = rw (standard-is d h) (each text)
   where
     each : (text : List ℕ) → text ≡ own standard text
     each [] = refl
-    each (x ∷ text) = ap2 (λ (y : ℕ) (l : List ℕ). y ∷ l) (sym (standard-byte x)) (each text)
+    each (x ∷ text) = ap₂ (λ (y : ℕ) (l : List ℕ). y ∷ l) (sym (standard-byte x)) (each text)

@@ -1,5 +1,5 @@
 -- The ERRs of lists of findings, one after the other, and the loop that writes them from sheet to sheet. Assumes nothing.
-use mathlib.Core.Path.{◌≡◌, refl, sym, ap, ap2, ◌∙◌}
+use mathlib.Core.Path.{◌≡◌, refl, sym, ap, ap₂, ◌∙◌}
 use mathlib.Core.Bool.{Bool, true, false, cond, ◌||◌, or-false}
 use mathlib.Core.List.{List, [], ◌∷◌, ◌++◌, map, flat_map, append-nil, append_assoc}
 use Prim.Native.Nat.{ℕ, zero, suc, ◌≤◌, ◌<◌}
@@ -141,7 +141,7 @@ module _ (m b : List ℕ) (first : Sheet) (o : List ℕ) (from : ℕ) where
 -- ---- from the first sheet on, these are the ERRs of all findings
 module _ (m b : List ℕ) (by : Terms) (all : List Finding) {first : Sheet} (g : Gets m b by false false all first) {o p : List ℕ} {at : ℕ} {r : Put} (w : Puts m b first o at p r) where
   pub put_all : Wrote o at (errs by.d all) p r.at
-  put_all = wrote_as w.wrote (ap2 (λ (t : Terms) (l : List Finding). errs t.d l) g.same (sym (g.all refl)))
+  put_all = wrote_as w.wrote (ap₂ (λ (t : Terms) (l : List Finding). errs t.d l) g.same (sym (g.all refl)))
 
   pub put_told : r.fault ≡ has is_fault all
   put_told = w.told ∙ g.told

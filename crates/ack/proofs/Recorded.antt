@@ -1,6 +1,6 @@
 -- Writing from records, in the words of the code: what they weigh, the ways out, and the ACK from its draft. Assumes nothing.
 use Prim.Native.Nat.{ℕ, ◌+◌, ◌≤◌, ◌<◌, min}
-use mathlib.Core.Path.{◌≡◌, refl, sym, ap, ap2, subst2, ◌∙◌}
+use mathlib.Core.Path.{◌≡◌, refl, sym, ap, ap₂, subst₂, ◌∙◌}
 use mathlib.Core.Bool.{Bool, true, false, cond, not, ◌&&◌, ◌||◌, or-false, or_assoc}
 use mathlib.Core.List.{List, [], ◌∷◌, ◌++◌, flat_map}
 use native.Mathlib.Omega.{arith}
@@ -233,7 +233,7 @@ module _ (m : List ℕ) (table : List Finding) (count : ℕ) (stamp : List ℕ) 
     refused_gives some =
         let none : errs r.d (take r.count table) ≡ [] = ap (λ (n : ℕ). errs r.d (take n table)) (w.refused some) in
         let same : after ≡ out = e.holds ∙ ap (splice mid at) none ∙ f.none some in
-        ap2 outcome (w.tells out refl) same ∙ sym (stays_by (first_row (record_rows m overs looked stamp (ack_of m looked stamp control) out)) (ack_of m looked stamp control) out (λ zero. some (sym numbered ∙ zero)))
+        ap₂ outcome (w.tells out refl) same ∙ sym (stays_by (first_row (record_rows m overs looked stamp (ack_of m looked stamp control) out)) (ack_of m looked stamp control) out (λ zero. some (sym numbered ∙ zero)))
 
     -- the heading, and the ERRs behind it
     written_gives : r.answer.number ≡ 0 → Gives r.answer after given
@@ -242,11 +242,11 @@ module _ (m : List ℕ) (table : List Finding) (count : ℕ) (stamp : List ℕ) 
         let right = zero_right m overs looked stamp control out (numbered ∙ zero) in
         let fits = zero-fits ack out (sym (ap (λ (o : Outcome). o.told.number) right.2) ∙ numbered ∙ zero) in
         let listed : take r.count table ≡ looked = ap (λ (n : ℕ). take n table) (w.whole zero ∙ looked-long count table) in
-        let front = subst2 (λ (d : Delims) (s : ℕ). Wrote out 0 (heading d (msh_of m) stamp control s) mid at) (w.own zero) (w.decided zero) (f.front zero) in
-        let others = subst2 (λ (d : Delims) (l : List Finding). Wrote mid at (errs d l) after end) (w.own zero) listed e in
+        let front = subst₂ (λ (d : Delims) (s : ℕ). Wrote out 0 (heading d (msh_of m) stamp control s) mid at) (w.own zero) (w.decided zero) (f.front zero) in
+        let others = subst₂ (λ (d : Delims) (l : List Finding). Wrote mid at (errs d l) after end) (w.own zero) listed e in
         let whole = wrote_as (front then others) (sym (ack-is (delims_of m) (msh_of m) stamp control looked)) in
-        ap2 outcome (w.tells out refl ∙ ap (λ (o : Outcome). o.told) right.2) (wrote-at-start whole fits)
-        ∙ ap2 outcome (ap (λ (o : Outcome). o.told) (fits_told ack out fits)) refl ∙ sym (fits_told ack out fits) ∙ sym right.2
+        ap₂ outcome (w.tells out refl ∙ ap (λ (o : Outcome). o.told) right.2) (wrote-at-start whole fits)
+        ∙ ap₂ outcome (ap (λ (o : Outcome). o.told) (fits_told ack out fits)) refl ∙ sym (fits_told ack out fits) ∙ sym right.2
 
     pub written : Gives r.answer after (write_from m table count stamp control out)
     written = by (eqb r.answer.number 0) refl ∙ looks out

@@ -1,5 +1,5 @@
 -- What the loops over records keep: what is left to weigh, or to write, completes the whole. Assumes nothing.
-use mathlib.Core.Path.{◌≡◌, refl, sym, ap, subst, subst2, ◌∙◌}
+use mathlib.Core.Path.{◌≡◌, refl, sym, ap, subst, subst₂, ◌∙◌}
 use mathlib.Core.Bool.{Bool, true, false, cond}
 use Prim.Native.Nat.{ℕ, zero, suc, ◌+◌, ◌-◌, ◌<◌, ◌≤◌, min, zero-le}
 use native.Mathlib.Omega.{arith}
@@ -75,7 +75,7 @@ module _ (d : Delims) (lines : List ℕ) (n : ℕ) (o : List ℕ) (from : ℕ) w
   Notes i at now = (i ≤ n) × Writes d (records_from lines 0 n) n o from (n - i) i at now
 
   as_left : {k l i j at : ℕ} {now : List ℕ} → k ≡ l → i ≡ j → Writes d (records_from lines 0 n) n o from k i at now → Writes d (records_from lines 0 n) n o from l j at now
-  as_left {at = at} {now} e f w = subst2 (λ (k i : ℕ). Writes d (records_from lines 0 n) n o from k i at now) e f w
+  as_left {at = at} {now} e f w = subst₂ (λ (k i : ℕ). Writes d (records_from lines 0 n) n o from k i at now) e f w
 
   pub notes_start : from ≤ limit → Notes 0 from o
   notes_start near = (omega arith, as_left (omega arith) refl (writes_start d (records_from lines 0 n) n o from near))

@@ -1,6 +1,6 @@
 -- Grading and then writing with a table of one's own, in the words of the code. Assumes nothing.
 use Prim.Native.Nat.{ℕ, ◌+◌, ◌≤◌, ◌<◌}
-use mathlib.Core.Path.{◌≡◌, refl, sym, ap, ap2, ◌∙◌}
+use mathlib.Core.Path.{◌≡◌, refl, sym, ap, ap₂, ◌∙◌}
 use mathlib.Core.Bool.{Bool, true, false, cond, ◌&&◌}
 use mathlib.Core.List.{List}
 use native.Mathlib.Omega.{arith}
@@ -33,7 +33,7 @@ module _ (m b stamp : List ℕ) (control : ℕ) (out : List ℕ) {graded written
   given zero =
       let few : graded.detail ≤ record_count = omega (arith, ap (λ (t : Told). t.detail) told, into_fits m b own_table (numbered ∙ zero), length-replicate record_count blank) in
       let stated : stated_count graded ≡ graded.detail = rw (eq-eqb _ 0 zero, le-leb graded.detail record_count few) refl in
-      rw (eq-eqb _ 0 (numbered ∙ zero), eq-eqb _ 0 zero) (w ∙ ap2 (λ (t : List Finding) (n : ℕ). write_from m t n stamp control out) left (stated ∙ ap (λ (t : Told). t.detail) told))
+      rw (eq-eqb _ 0 (numbered ∙ zero), eq-eqb _ 0 zero) (w ∙ ap₂ (λ (t : List Finding) (n : ℕ). write_from m t n stamp control out) left (stated ∙ ap (λ (t : Told). t.detail) told))
 
   -- a refusal is told, and nothing is written
   refused : (graded.number ≡ 0 → ⊥) → Gives (settled_by graded written) after (lent_of own_table m b stamp control out)
@@ -43,7 +43,7 @@ module _ (m b stamp : List ℕ) (control : ℕ) (out : List ℕ) {graded written
       let over : ltb (length table) (stated_count graded) ≡ true = lt-ltb (length table) (stated_count graded) (omega (arith, long, stated)) in
       let stays = (over-stays m (ltb (length table) (stated_count graded)) (take (stated_count graded) table) stamp control out over).0 in
       let same : after ≡ out = ap (λ (o : Outcome). o.output) w ∙ stays in
-      rw (ne_eqb _ 0 (λ zero. some (sym numbered ∙ zero)), ne_eqb _ 0 some) (ap2 outcome told same)
+      rw (ne_eqb _ 0 (λ zero. some (sym numbered ∙ zero)), ne_eqb _ 0 some) (ap₂ outcome told same)
 
   pub settles : Gives (settled_by graded written) after (lent_of own_table m b stamp control out)
   settles = by (eqb graded.number 0) refl

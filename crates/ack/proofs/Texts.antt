@@ -6,7 +6,7 @@ use mathlib.Core.List.{List, [], ◌∷◌, ◌++◌}
 use Prim.Native.Nat.{ℕ, zero, suc, ◌+◌, ◌/◌, ◌%◌, ◌<◌}
 use native.Mathlib.Omega.{arith}
 use lib.Dec.{eqb, leb, ltb}
-use borrow.Author.Tests.{ne_eqb, le-leb, leb_true, ltb-true, not-false}
+use borrow.Author.Tests.{ne_eqb, le-leb, leb-true, ltb-true, not-false}
 use Rattle.hl7.specs.Text.{bytes}
 use Rattle.hl7.specs.Bytes.{is_digit, is_in, all, differs}
 use Rattle.hl7.specs.Place.{carriage_return, delims_of}
@@ -68,7 +68,7 @@ own-text-clean = all_as is_own (differs carriage_return) byte
 -- ---- numbers and the stamp
 digit-text : (x : ℕ) → is_digit x ≡ true → is_text x ≡ true
 digit-text x e =
-    let low = leb_true 48 x (and_both (leb 48 x) (leb x 57) e).0 in
+    let low = leb-true 48 x (and_both (leb 48 x) (leb x 57) e).0 in
     rw (ne_eqb x carriage_return (λ same. omega (arith, same, low)), digit-plain x e)
 
 pub decimal-text : (n : ℕ) → all is_text (decimal n) ≡ true

@@ -1,5 +1,5 @@
 -- The ways out of the call that answers a batch file, in the words of the code. Assumes nothing.
-use mathlib.Core.Path.{◌≡◌, refl, sym, ap, ap2, ◌∙◌}
+use mathlib.Core.Path.{◌≡◌, refl, sym, ap, ap₂, ◌∙◌}
 use mathlib.Core.Bool.{Bool, true, false, cond, not, ◌&&◌, ◌||◌}
 use mathlib.Core.List.{List, [], ◌∷◌, ◌++◌, map}
 use Prim.Native.Nat.{ℕ, suc, ◌+◌, ◌≤◌, ◌<◌}
@@ -105,7 +105,7 @@ pub joined-left : (f : List ℕ) (at count : ℕ) (book stamp : List ℕ) (contr
 joined-left f at count book stamp control room out {kept} w same g =
     g
     ∙ ap (λ (c : ℕ). left_of (take kept.to room) kept.count (messages_at f kept.from) book stamp c out) same
-    ∙ sym (ap2 (λ (refused acks : List ℕ). by_rows (row_at 15 refused ∷ short_row acks out ∷ []) acks out) w.refused w.acks)
+    ∙ sym (ap₂ (λ (refused acks : List ℕ). by_rows (row_at 15 refused ∷ short_row acks out ∷ []) acks out) w.refused w.acks)
 
 -- ---- the file
 -- where the length is right, the three other questions decide
@@ -173,4 +173,4 @@ module _ (f book stamp : List ℕ) (control : ℕ) (out : List ℕ) where
       → Gives a after (joined_of (messages_at f frame.start) book stamp first out) → Gives a after (batch_of f book stamp control out)
   unfolding batch_of first_row
   batch_right right w same g =
-      g ∙ ap2 (λ (ls : List (List ℕ)) (n : ℕ). joined_of (gathered ls).messages book stamp n out) w.body same ∙ rw right
+      g ∙ ap₂ (λ (ls : List (List ℕ)) (n : ℕ). joined_of (gathered ls).messages book stamp n out) w.body same ∙ rw right

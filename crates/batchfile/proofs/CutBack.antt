@@ -1,7 +1,7 @@
 -- What a file of the shape of a batch is: the frame names stand once each, in their places; and a file put together from a frame and messages is cut back
 -- into exactly these. Assumes nothing.
-use mathlib.Core.Path.{◌≡◌, refl, sym, ap, ap2, ◌∙◌}
-use mathlib.Core.Bool.{Bool, true, false, cond, ◌&&◌, ◌||◌, and_true, true≢false}
+use mathlib.Core.Path.{◌≡◌, refl, sym, ap, ap₂, ◌∙◌}
+use mathlib.Core.Bool.{Bool, true, false, cond, ◌&&◌, ◌||◌, and-true, true≢false}
 use mathlib.Core.List.{List, [], ◌∷◌, ◌++◌, flatten, append_assoc, append-nil}
 use Prim.Native.Nat.{ℕ, zero, suc, ◌+◌, ◌<◌}
 use Prim.Native.Char.{code}
@@ -318,7 +318,7 @@ messages_back (m ∷ ms) rest each none =
     let lines : lines_of ((m ++ flatten ms) ++ rest) ≡ lines_of m ++ lines_of (flatten ms ++ rest) = ap lines_of (append_assoc m (flatten ms) rest) ∙ lines-append m (flatten ms ++ rest) is.closed in (
       ap gathered lines
           ∙ gathered-message (lines_of m) (lines_of (flatten ms ++ rest)) is.first is.others is.frameless (ap (λ (g : Gathered). g.before) later.0)
-          ∙ ap2 (λ (one : List ℕ) (others : List (List ℕ)). record { before = []; messages = one ∷ others }) (lines-joined m) (ap (λ (g : Gathered). g.messages) later.0),
+          ∙ ap₂ (λ (one : List ℕ) (others : List (List ℕ)). record { before = []; messages = one ∷ others }) (lines-joined m) (ap (λ (g : Gathered). g.messages) later.0),
       ap from_frame lines ∙ from-append (lines_of m) (lines_of (flatten ms ++ rest)) is.frameless ∙ later.1,
     )
 
@@ -338,12 +338,12 @@ module _ (fhs bhs : List ℕ) (ms : List (List ℕ)) (bts fts : List ℕ) where
 
   module _ (parts : Parts) where
     trailer : lines_of (bts ++ fts) ≡ bts ∷ fts ∷ []
-    trailer = lines-append bts fts parts.third.closed ∙ ap2 (λ (a b : List (List ℕ)). a ++ b) parts.third.alone parts.fourth.alone
+    trailer = lines-append bts fts parts.third.closed ∙ ap₂ (λ (a b : List (List ℕ)). a ++ b) parts.third.alone parts.fourth.alone
 
     heads : lines_of file_of ≡ fhs ∷ bhs ∷ lines_of (flatten ms ++ (bts ++ fts))
     heads =
         lines-append fhs (bhs ++ (flatten ms ++ (bts ++ fts))) parts.first.closed
-        ∙ ap2 (λ (a b : List (List ℕ)). a ++ b) parts.first.alone (lines-append bhs (flatten ms ++ (bts ++ fts)) parts.second.closed ∙ ap (λ (a : List (List ℕ)). a ++ lines_of (flatten ms ++ (bts ++ fts))) parts.second.alone)
+        ∙ ap₂ (λ (a b : List (List ℕ)). a ++ b) parts.first.alone (lines-append bhs (flatten ms ++ (bts ++ fts)) parts.second.closed ∙ ap (λ (a : List (List ℕ)). a ++ lines_of (flatten ms ++ (bts ++ fts))) parts.second.alone)
 
     back : (gathered (lines_of (flatten ms ++ (bts ++ fts))) ≡ record { before = []; messages = ms }) × (from_frame (lines_of (flatten ms ++ (bts ++ fts))) ≡ bts ∷ fts ∷ [])
     unfolding gathered from_frame
@@ -376,4 +376,4 @@ module _ (fhs bhs : List ℕ) (ms : List (List ℕ)) (bts fts : List ℕ) where
         ≡ (opens (bytes "FHS") file_of && keeps_rows (delims_of file_of) fhs && is_segment (delims_of file_of) (bytes "BHS") bhs && is_segment (delims_of file_of) (bytes "BTS") bts
         && is_segment (delims_of file_of) (bytes "FTS") fts)
     unfolding is_framed
-    cut_framed = rw (cut_frame.0, cut_frame.1, cut_frame.2, cut_frame.3, cut_started, cut-over) (simp and_true)
+    cut_framed = rw (cut_frame.0, cut_frame.1, cut_frame.2, cut_frame.3, cut_started, cut-over) (simp and-true)

@@ -1,5 +1,5 @@
 -- Laws of `specs/Frame.antt`, in the words of the code: the counts, the frame segments, where they stand. Assumes nothing.
-use mathlib.Core.Path.{◌≡◌, refl, ap, ap2, ◌∙◌}
+use mathlib.Core.Path.{◌≡◌, refl, ap, ap₂, ◌∙◌}
 use mathlib.Core.Bool.{Bool, true, false, not, ◌&&◌, ◌||◌}
 use mathlib.Core.List.{List, [], ◌∷◌}
 use Prim.Native.Nat.{ℕ, ◌-◌, ◌<◌, min}
@@ -55,7 +55,7 @@ nothing-there e (x ∷ l) f = let z : ◌≡◌ {A = ℕ} 0 1 = cc in absurd (om
 
 pub asked_rows : (d : Delims) (line : List ℕ) {byte seg : Found} {a b : Bool} → byte ≡ first_of (wrong_bytes 0 line) → IsNothing byte a → seg ≡ first_of (wrong_segments d 0 (cut carriage_return line)) → IsNothing seg b → (a && b) ≡ keeps_rows d line
 unfolding keeps_rows first_row
-asked_rows d line p a q b = ap2 ◌&&◌ (a (wrong_bytes 0 line) p) (b (wrong_segments d 0 (cut carriage_return line)) q) ∙ both (wrong_bytes 0 line) (wrong_segments d 0 (cut carriage_return line))
+asked_rows d line p a q b = ap₂ ◌&&◌ (a (wrong_bytes 0 line) p) (b (wrong_segments d 0 (cut carriage_return line)) q) ∙ both (wrong_bytes 0 line) (wrong_segments d 0 (cut carriage_return line))
   where
     both : (bytes segs : List ℕ) → (not (is_some bytes) && not (is_some segs)) ≡ passes (row_at 3 bytes ∷ row_at 5 segs ∷ [])
     both [] [] = refl

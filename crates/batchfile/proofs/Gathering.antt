@@ -1,5 +1,5 @@
 -- Laws of `specs/Messages.antt`, in the words of the code: where a segment, a message and the messages end, and what is left from there on. Assumes nothing.
-use mathlib.Core.Path.{◌≡◌, refl, sym, ap, ap2, ◌∙◌}
+use mathlib.Core.Path.{◌≡◌, refl, sym, ap, ap₂, ◌∙◌}
 use mathlib.Core.Bool.{Bool, true, false, cond, ◌||◌, true≢false}
 use mathlib.Core.List.{List, [], ◌∷◌, ◌++◌, append_assoc, append-nil}
 use Prim.Native.Nat.{ℕ, suc, ◌+◌, ◌-◌, ◌≤◌, ◌<◌}
@@ -126,7 +126,7 @@ asked_frame line fhs bhs bts fts = rw (fhs, bhs, bts, fts)
 module _ (f : List ℕ) (at r : ℕ) (l : LineEnds f at r) where
   module _ (more : at < length f) where
     lines-here : lines_at f at ≡ between f at r ∷ lines_at f r
-    lines-here = lines-some (drop at f) (omega (arith, length-drop at f)) ∙ ap2 (λ (line : List ℕ) (lines : List (List ℕ)). line ∷ lines) (sym l.line) (sym l.others)
+    lines-here = lines-some (drop at f) (omega (arith, length-drop at f)) ∙ ap₂ (λ (line : List ℕ) (lines : List (List ℕ)). line ∷ lines) (sym l.line) (sym l.others)
 
     line-long : 0 < length (between f at r)
     line-long = omega (arith, length-take (r - at) (drop at f), length-drop at f, l.onward.further more, l.onward.within (omega arith))
@@ -207,7 +207,7 @@ module _ (f : List ℕ) (at n e : ℕ) (l : LineEnds f at n) (p : Passing f n e)
 
       of : (frame msh : Bool) → at < length f → is_frame (between f at n) ≡ frame → is_msh (between f at n) ≡ msh → (gathered_at f at).before ≡ [] → 0 < length (messages_at f at) → messages_at f at ≡ between f at e ∷ messages_at f e
       of true msh more a b start some = absurd (omega (arith, ap (λ (g : Gathered). length g.messages) (gathered_frame f at n l more a), some))
-      of false true more a b start some = ap messages_of (gathered-line f at n l more a b) ∙ ap2 (λ (m : List ℕ) (ms : List (List ℕ)). m ∷ ms) whole p.messages
+      of false true more a b start some = ap messages_of (gathered-line f at n l more a b) ∙ ap₂ (λ (m : List ℕ) (ms : List (List ℕ)). m ∷ ms) whole p.messages
       of false false more a b start some =
           let joins : between f at n ++ (gathered_at f n).before ≡ [] = sym (ap before_of (gathered-line f at n l more a b)) ∙ start in
           absurd (omega (arith, ap length joins, length-append (between f at n) (gathered_at f n).before, line-long f at n l more))

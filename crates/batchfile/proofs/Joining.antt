@@ -1,5 +1,5 @@
 -- The ACKs written one after the other, into the output or into a room where they are kept: what is known of all by those that are left. Assumes nothing.
-use mathlib.Core.Path.{◌≡◌, refl, sym, ap, ap2, subst, ◌∙◌}
+use mathlib.Core.Path.{◌≡◌, refl, sym, ap, ap₂, subst, ◌∙◌}
 use mathlib.Core.Bool.{Bool, true, false}
 use mathlib.Core.List.{List, [], ◌∷◌, ◌++◌, append_assoc, append-nil}
 use Prim.Native.Nat.{ℕ, suc, ◌+◌, ◌-◌, ◌≤◌, ◌<◌, min}
@@ -170,7 +170,7 @@ module _ (f : List ℕ) (at count : ℕ) (book stamp : List ℕ) (control : ℕ)
             refused = p.refused ∙ refused-later book stamp (k + 1) (between f from r) rest left (is.fine zero-told) ∙ ap (λ (n : ℕ). refused_from book stamp n rest) (omega arith);
             acks =
                 p.acks
-                ∙ ap (λ (l : List ℕ). take to room ++ l) (acks_more book stamp (control + k) (between f from r) rest left ∙ ap2 (λ (n c : ℕ). ack_for (between f from r) book stamp n ++ acks_from book stamp c rest) (sym counted) following)
+                ∙ ap (λ (l : List ℕ). take to room ++ l) (acks_more book stamp (control + k) (between f from r) rest left ∙ ap₂ (λ (n c : ℕ). ack_for (between f from r) book stamp n ++ acks_from book stamp c rest) (sym counted) following)
                 ∙ sym (append_assoc (take to room) ack (acks_from book stamp (control + (k + 1)) rest))
                 ∙ ap (λ (l : List ℕ). l ++ acks_from book stamp (control + (k + 1)) rest) front;
           }

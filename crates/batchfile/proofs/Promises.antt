@@ -1,6 +1,6 @@
 -- What `batch_of` says: each refusal exactly when its row is the first to hold, the lowest ordinal, and of the bytes that are written that they are the joined
 -- ACKs, each what its message alone is answered, whatever its neighbours are. Assumes nothing.
-use mathlib.Core.Path.{◌≡◌, refl, sym, ap, ap2, subst, ◌∙◌}
+use mathlib.Core.Path.{◌≡◌, refl, sym, ap, ap₂, subst, ◌∙◌}
 use mathlib.Core.Bool.{Bool, true, false, cond, true≢false}
 use mathlib.Core.Logic.{◌↔◌}
 use mathlib.Core.List.{List, [], ◌∷◌, ◌++◌, append_assoc}
@@ -148,7 +148,7 @@ joined_alone book stamp n control (m ∷ ms) alone none room = by (meets_one boo
     by true e none ih = absurd (omega (arith, ap length none))
     by false e none ih =
         let long = length-append ack rest in
-        ap2 ◌++◌ (sym (alone_written m book stamp control alone e (omega (arith, room, long)))) (ih none (omega (arith, room, long)))
+        ap₂ ◌++◌ (sym (alone_written m book stamp control alone e (omega (arith, room, long)))) (ih none (omega (arith, room, long)))
 
 module _ (f book stamp : List ℕ) (control : ℕ) (out : List ℕ) where
   -- 15's detail is the lowest ordinal of a message that meets one of 1 to 10

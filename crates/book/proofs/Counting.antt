@@ -8,7 +8,7 @@ use mathlib.Core.List.{List, [], ◌∷◌, map}
 use lib.Dec.{leb}
 use lib.ListN.{length, get_or, take, drop, length-map, drop_of_length-le}
 use lib.Seq.{length-take-le}
-use borrow.Author.Tests.{leb_true}
+use borrow.Author.Tests.{leb-true}
 use Rattle.hl7.specs.Bytes.{all}
 use Rattle.hl7.specs.Refusals.{Told, told, row, first_row}
 use Rattle.hl7.proofs.Comparing.{and_both, all-at, rest_at}
@@ -40,8 +40,8 @@ counted b at h =
     record {
       rules = sym (row-length (rule_in s.set_count) b s.rule_count s.rules_at (contents_at b at).rules s.sets_at p.rules_read);
       sets = sym (row-length code_set b s.set_count s.sets_at (contents_at b at).sets w.0 p.sets_read);
-      few_rules = leb_true s.rule_count rule_limit few.0;
-      few_sets = leb_true s.set_count set_limit few.1;
+      few_rules = leb-true s.rule_count rule_limit few.0;
+      few_sets = leb-true s.set_count set_limit few.1;
     }
 
 -- ---- those that start at the positions

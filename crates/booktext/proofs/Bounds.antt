@@ -6,7 +6,7 @@ use Prim.Native.Nat.{ℕ, suc, ◌+◌, ◌^◌, ◌≤◌}
 use native.Mathlib.Omega.{arith}
 use lib.Dec.{eqb, leb, ltb}
 use lib.ListN.{length, take, drop, length-take}
-use borrow.Author.Tests.{ltb-false, leb_true, eqb-true, eq-eqb, ne_eqb, not-true}
+use borrow.Author.Tests.{ltb-false, leb-true, eqb-true, eq-eqb, ne_eqb, not-true}
 use Rattle.hl7.specs.Bytes.{within, among}
 use Rattle.hl7.specs.Spans.{occurrences}
 use Rattle.hl7.proofs.Comparing.{and_both}
@@ -181,7 +181,7 @@ refusal-row t = by (eqb (bytes_told t).number 0) refl
 
 short-book : (cs : List Contents) → well_formed cs ≡ true → length (book_bytes cs) ≤ 65536
 unfolding well_formed
-short-book cs h = leb_true (length (book_bytes cs)) book_limit (and_both (within 1 section_limit (length cs) && each section_fits cs && distinct (keys cs)) (leb (length (book_bytes cs)) book_limit) h).1
+short-book cs h = leb-true (length (book_bytes cs)) book_limit (and_both (within 1 section_limit (length cs) && each section_fits cs && distinct (keys cs)) (leb (length (book_bytes cs)) book_limit) h).1
 
 compiled-short : (t : List ℕ) → (refusal t).number ≡ 0 → length (compiled t) ≤ 65536
 unfolding compiled
@@ -206,7 +206,7 @@ packs_row {told} r n =
     let both = and_both (leb told.number 56) (not (eqb told.number 55)) r.number.holds in
     let other : is_length told.number ≡ false = rw (ne_eqb told.number 0 n) (not-true (eqb told.number 55) both.1) in
     record {
-      number = leb_true told.number 56 both.0;
+      number = leb-true told.number 56 both.0;
       detail = omega (arith, r.detail);
       section = r.section;
       lengths = λ e. absurd (true≢false (sym e ∙ other));

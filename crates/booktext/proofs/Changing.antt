@@ -1,5 +1,5 @@
 -- Laws of what later statements change: a rule that is dropped or amended, and a section's statements settled. Assumes nothing.
-use mathlib.Core.Path.{◌≡◌, refl, sym, ap, ap2, ◌∙◌}
+use mathlib.Core.Path.{◌≡◌, refl, sym, ap, ap₂, ◌∙◌}
 use mathlib.Core.Bool.{Bool, true, false, cond, not, ◌&&◌, ◌||◌, or_assoc, or-false}
 use mathlib.Core.List.{List, [], ◌∷◌, map}
 use Prim.Native.Nat.{ℕ, ◌+◌, ◌-◌, ◌/◌, ◌%◌, ◌≤◌, ◌<◌}
@@ -38,7 +38,7 @@ module _ (spot : ℕ) (marks : List ℕ) where
 -- ---- a rule that is amended
 module _ (spot : ℕ) (s x : Statement) where
   amend-by : (a b : Bool) → says_of a_severity spot x ≡ a → says_of a_bound spot x ≡ b → amend spot s x ≡ cond a (give (get_or (word x 3) 0 0) s) (cond b (bind (drop 3 x.words) s) s)
-  amend-by a b e f = ap2 (λ (y z : Bool). cond y (give (get_or (word x 3) 0 0) s) (cond z (bind (drop 3 x.words) s) s)) e f
+  amend-by a b e f = ap₂ (λ (y z : Bool). cond y (give (get_or (word x 3) 0 0) s) (cond z (bind (drop 3 x.words) s) s)) e f
 
   -- it stays one
   pub amend-rule : makes_rule (amend spot s x) ≡ makes_rule s
@@ -144,7 +144,7 @@ module _ (t cells marks : List ℕ) (i : ℕ) (m : Marks (map (noted t) cells) m
         unfolding settled_as
         settle_stays q rule a after r n =
             notes_as t before count after r (noted t rule ∷ []) n _
-            (ap (λ (s : Statement). s ∷ []) (a ∙ ap2 (λ (n : ℕ) (ss : List Statement). amended n (noted t (get_or cells i 0)) ss) spot-here (later_cells t cells marks i m)) ∙ sym (rw (settle_rule, gone-is, q)))
+            (ap (λ (s : Statement). s ∷ []) (a ∙ ap₂ (λ (n : ℕ) (ss : List Statement). amended n (noted t (get_or cells i 0)) ss) spot-here (later_cells t cells marks i m)) ∙ sym (rw (settle_rule, gone-is, q)))
 
 -- there are no more of them than before
 settled_as-few : (s : Statement) (ss : List Statement) → length (settled_as s ss) ≤ 1

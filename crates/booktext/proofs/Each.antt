@@ -1,5 +1,5 @@
 -- Laws of `each`: of lists put together, and of the statements that are found among others. Assumes nothing.
-use mathlib.Core.Path.{◌≡◌, refl, sym, ap, ap2, ◌∙◌}
+use mathlib.Core.Path.{◌≡◌, refl, sym, ap, ap₂, ◌∙◌}
 use mathlib.Core.Bool.{Bool, true, false, cond, ◌&&◌, and_assoc}
 use mathlib.Core.List.{List, [], ◌∷◌, ◌++◌}
 use Prim.Native.Nat.{ℕ, zero, suc}
@@ -15,7 +15,7 @@ module _ {A : Type 0} (test : A → Bool) where
   each_append (x ∷ xs) ys = ap (λ (b : Bool). test x && b) (each_append xs ys) ∙ sym (and_assoc (test x) (each test xs) (each test ys))
 
   pub each_join : (xs ys : List A) → each test xs ≡ true → each test ys ≡ true → each test (xs ++ ys) ≡ true
-  each_join xs ys e f = each_append xs ys ∙ ap2 ◌&&◌ e f
+  each_join xs ys e f = each_append xs ys ∙ ap₂ ◌&&◌ e f
 
   -- of two parts
   pub each_both : (xs ys : List A) → each test (xs ++ ys) ≡ true → (each test xs ≡ true) × (each test ys ≡ true)
@@ -30,7 +30,7 @@ pub each_as : {A : Type 0} (test other : A → Bool) → ((x : A) → test x ≡
 each_as test other f [] e = e
 each_as test other f (x ∷ xs) e =
     let both = and_both (test x) (each test xs) e in
-    ap2 ◌&&◌ (f x both.0) (each_as test other f xs both.1)
+    ap₂ ◌&&◌ (f x both.0) (each_as test other f xs both.1)
 
 module _ (test : Statement → Bool) where
   pub each-body : (ss : List Statement) → each test ss ≡ true → each test (body ss) ≡ true

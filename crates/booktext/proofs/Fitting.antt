@@ -1,12 +1,12 @@
 -- The codes of sound statements fit: they are plain, and their lengths fit a byte. Assumes nothing.
-use mathlib.Core.Path.{◌≡◌, refl, ap2, subst, ◌∙◌}
+use mathlib.Core.Path.{◌≡◌, refl, ap₂, subst, ◌∙◌}
 use mathlib.Core.Bool.{Bool, true, false, cond, ◌&&◌}
 use mathlib.Core.List.{List, [], ◌∷◌, ◌++◌, map}
 use Prim.Native.Nat.{ℕ, zero, suc, ◌≤◌, ◌<◌}
 use native.Mathlib.Omega.{arith}
 use lib.Dec.{leb}
 use lib.ListN.{length, get_or, drop}
-use borrow.Author.Tests.{leb_true, le-leb, eqb-true}
+use borrow.Author.Tests.{leb-true, le-leb, eqb-true}
 use Rattle.hl7.specs.Bytes.{within, same, all}
 use Rattle.hl7.proofs.Comparing.{and_both}
 use Rattle.grade.specs.Limits.{code_limit}
@@ -31,7 +31,7 @@ listed_fit [] e = refl
 listed_fit (s ∷ ss) e = by_case (says a_code s) refl (listed_fit ss (and_both (sound s) (each sound ss) e).1)
   where
     by_case : (b : Bool) → says a_code s ≡ b → each (text_fits code_limit) (listed ss) ≡ true → each (text_fits code_limit) (cond b (drop 1 s.words ++ listed ss) (listed ss)) ≡ true
-    by_case true f ih = each_append (text_fits code_limit) (drop 1 s.words) (listed ss) ∙ ap2 ◌&&◌ (sound-codes s a_code (and_both (sound s) (each sound ss) e).0 f) ih
+    by_case true f ih = each_append (text_fits code_limit) (drop 1 s.words) (listed ss) ∙ ap₂ ◌&&◌ (sound-codes s a_code (and_both (sound s) (each sound ss) e).0 f) ih
     by_case false f ih = ih
 
 codes_from_fit : (name : List ℕ) (ss : List Statement) → each sound ss ≡ true → each (text_fits code_limit) (codes_at (from a_set name ss)) ≡ true
@@ -42,7 +42,7 @@ codes_from_fit name (s ∷ ss) e = by_case (is_of a_set name s) refl (codes_from
     by_case : (b : Bool) → is_of a_set name s ≡ b → each (text_fits code_limit) (codes_at (from a_set name ss)) ≡ true → each (text_fits code_limit) (codes_at (cond b (s ∷ ss) (from a_set name ss))) ≡ true
     by_case true f ih =
         each_append (text_fits code_limit) (drop 2 s.words) (listed (body ss))
-        ∙ ap2 ◌&&◌ (sound-codes s a_set (and_both (sound s) (each sound ss) e).0 (and_both (says a_set s) (same (word s 1) name) f).0)
+        ∙ ap₂ ◌&&◌ (sound-codes s a_set (and_both (sound s) (each sound ss) e).0 (and_both (says a_set s) (same (word s 1) name) f).0)
         (listed_fit (body ss) (each-body sound ss (and_both (sound s) (each sound ss) e).1))
     by_case false f ih = ih
 
@@ -57,7 +57,7 @@ kept_fit test name ss (c ∷ codes) e = by_case (lessened name c ss) (and_both (
   where
     by_case : (b : Bool) → test c ≡ true → each test (kept name ss codes) ≡ true → each test (cond b (kept name ss codes) (c ∷ kept name ss codes)) ≡ true
     by_case true f ih = ih
-    by_case false f ih = ap2 ◌&&◌ f ih
+    by_case false f ih = ap₂ ◌&&◌ f ih
 
 ready-sound : (s : Statement) → ready s ≡ true → sound s ≡ true
 unfolding ready
@@ -77,19 +77,19 @@ added_fit name [] e = refl
 added_fit name (s ∷ ss) e =
     let both = and_both (ready s) (each ready ss) e in
     each_append (text_fits code_limit) (kept name ss (added_by name s)) (added name ss)
-    ∙ ap2 ◌&&◌ (kept_fit (text_fits code_limit) name ss (added_by name s) (added_by_fit name s both.0)) (added_fit name ss both.1)
+    ∙ ap₂ ◌&&◌ (kept_fit (text_fits code_limit) name ss (added_by name s) (added_by_fit name s both.0)) (added_fit name ss both.1)
 
 pub held_fit : (all ss : List Statement) (name : List ℕ) → each sound all ≡ true → each ready ss ≡ true → each (text_fits code_limit) (held all ss name) ≡ true
 unfolding held
 held_fit all ss name e f =
     each_append (text_fits code_limit) (kept name ss (codes_of all name)) (added name ss)
-    ∙ ap2 ◌&&◌ (kept_fit (text_fits code_limit) name ss (codes_of all name) (codes_fit all name e)) (added_fit name ss f)
+    ∙ ap₂ ◌&&◌ (kept_fit (text_fits code_limit) name ss (codes_of all name) (codes_fit all name e)) (added_fit name ss f)
 
 -- a key or a code has a length that fits a byte
 pub fits-short : (w : List ℕ) → text_fits 20 w ≡ true → length w ≤ 255
 fits-short w e =
     let size = (and_both (within 1 20 (length w)) (all plain w) e).0 in
-    omega (arith, leb_true (length w) 20 (and_both (leb 1 (length w)) (leb (length w) 20) size).1)
+    omega (arith, leb-true (length w) 20 (and_both (leb 1 (length w)) (leb (length w) 20) size).1)
 
 pub fit_short : (codes : List (List ℕ)) → each (text_fits code_limit) codes ≡ true → each is_short codes ≡ true
 fit_short codes e = each_as (text_fits code_limit) is_short (λ w k. le-leb (length w) 255 (fits-short w k)) codes e

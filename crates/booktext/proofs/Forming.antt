@@ -6,7 +6,7 @@ use Prim.Native.Nat.{ℕ, suc, ◌+◌, ◌≤◌, ◌<◌}
 use native.Mathlib.Omega.{arith}
 use lib.Dec.{eqb, leb, ltb}
 use lib.ListN.{length, length-append, length-map}
-use borrow.Author.Tests.{eqb-true, eqb-false, eq-eqb, leb_false, le-leb, ltb-false}
+use borrow.Author.Tests.{eqb-true, eqb-false, eq-eqb, leb-false, le-leb, ltb-false}
 use Rattle.hl7.specs.Bytes.{within, same, among}
 use Rattle.hl7.proofs.Comparing.{and_both, same_equal, same_self, among-append}
 use Rattle.grade.specs.Book.{distinct, keys}
@@ -94,7 +94,7 @@ names-passed t all count (s ∷ ss) near h = by (eqb (name_fault all count s) 0)
     of : (b : Bool) → says a_section s ≡ b → key_first all s ≡ true → (b && leb section_limit count) ≡ false → (first_name_fault t all (cond b (suc count) count) ss).number ≡ 0 → Later (suc count) → Later count
         → Passed all count (s ∷ ss)
     of true e first few h more same =
-        let p = more (leb_false section_limit count few) h in
+        let p = more (leb-false section_limit count few) h in
         record { firsts = rw (first, p.firsts) refl; some = rw e (omega (arith, p.some)); few = rw e (omega (arith, p.few)) }
     of false e first few h more same =
         let p = same near h in

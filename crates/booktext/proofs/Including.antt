@@ -6,7 +6,7 @@ use Prim.Native.Nat.{ℕ, ◌+◌, ◌≤◌}
 use native.Mathlib.Omega.{arith}
 use lib.Dec.{eqb, leb}
 use lib.ListN.{length, get_or, drop}
-use borrow.Author.Tests.{eqb-true, leb_true}
+use borrow.Author.Tests.{eqb-true, leb-true}
 use Rattle.hl7.proofs.Comparing.{and_both}
 use Rattle.grade.specs.Encoding.{each}
 use Rattle.grade.specs.Rule.{severity_of}
@@ -54,7 +54,7 @@ given-right s u h = by (leb (length s.words) 2) refl right
     later false y e = e
 
     by : (b : Bool) → leb (length s.words) 2 ≡ b → (b || is_severity_word (word s 2)) ≡ true → (eqb (get_or (word s 2) 0 0) 0 || is_severity (severity_of (get_or (word s 2) 0 0))) ≡ true
-    by true e r = rw (none s.words (leb_true (length s.words) 2 e)) refl
+    by true e r = rw (none s.words (leb-true (length s.words) 2 e)) refl
     by false e r = later (eqb (get_or (word s 2) 0 0) 0) _ (and_both (eqb (length (word s 2)) 1) _ r).1
 
 given-ready : (letter : ℕ) (ss : List Statement) → (eqb letter 0 || is_severity (severity_of letter)) ≡ true → each sound ss ≡ true → each ready (map (give letter) ss) ≡ true

@@ -1,5 +1,5 @@
 -- Laws of cells and marks: what a noted statement says, and what its mark tells. Assumes nothing.
-use mathlib.Core.Path.{◌≡◌, refl, sym, ap, ap2, ◌∙◌}
+use mathlib.Core.Path.{◌≡◌, refl, sym, ap, ap₂, ◌∙◌}
 use mathlib.Core.Bool.{Bool, true, false, cond, not, ◌&&◌}
 use mathlib.Core.List.{List, [], ◌∷◌, ◌++◌, map, append_assoc, append-nil}
 use Prim.Native.Nat.{ℕ, zero, suc, ◌+◌, ◌*◌, ◌/◌, ◌%◌, ◌-◌, ◌≤◌, ◌<◌}
@@ -86,7 +86,7 @@ module _ (t : List ℕ) (cell : ℕ) where
   pub noted-give : (r letter : ℕ) → r / 256 ≡ cell / 256 → r % 256 ≡ letter → noted t r ≡ give letter (noted t cell)
   unfolding noted
   noted-give r letter e f =
-      ap2 (λ (q l : ℕ). said q l) e f ∙ by (makes_rule line_says && leb 1 (bound_in cell))
+      ap₂ (λ (q l : ℕ). said q l) e f ∙ by (makes_rule line_says && leb 1 (bound_in cell))
     where
       said : ℕ → ℕ → Statement
       said q l = bound_by t (q / 2097152) (statement_at t (q % 2097152) l)
@@ -98,7 +98,7 @@ module _ (t : List ℕ) (cell : ℕ) where
 -- with the bound of another line
 pub noted-bind : (t : List ℕ) (cell line r : ℕ) → makes_rule (noted t cell) ≡ true → line_in r ≡ line_in cell → bound_in r ≡ line + 1 → r % 256 ≡ cell % 256 → noted t r ≡ bind (drop 3 (words_from t line)) (noted t cell)
 noted-bind t cell line r rule l b g =
-    let same : line_says t r ≡ line_says t cell = ap2 (statement_at t) l g in
+    let same : line_says t r ≡ line_says t cell = ap₂ (statement_at t) l g in
     let ruled : makes_rule (noted t r) ≡ true = noted_as t r makes_rule (λ bound. refl) ∙ ap makes_rule same ∙ sym (noted_as t cell makes_rule (λ bound. refl)) ∙ rule in
     noted-bound t r ruled line b
     ∙ ap (bind (drop 3 (words_from t line))) same
@@ -147,7 +147,7 @@ module _ (s : Statement) {mark : ℕ} (e : mark ≡ mark_of s) where
   mark_spot = let small = verb_below (word s 0) in omega (arith, e, small)
 
   pub mark_says : (v spot : ℕ) {b : Bool} → b ≡ (eqb (mark % 16) v && eqb (mark / 16) spot) → b ≡ says_of v spot s
-  mark_says v spot f = f ∙ ap2 (λ (x y : ℕ). eqb x v && eqb y spot) mark_verb mark_spot
+  mark_says v spot f = f ∙ ap₂ (λ (x y : ℕ). eqb x v && eqb y spot) mark_verb mark_spot
 
 -- of the statements in cells
 module _ (t : List ℕ) where
@@ -169,7 +169,7 @@ module _ (t : List ℕ) where
   marks_before [] [] (suc n) e = refl
   marks_before [] (m ∷ marks) (suc n) e = absurd (omega (arith, ap length e))
   marks_before (c ∷ cells) [] (suc n) e = absurd (omega (arith, ap length e))
-  marks_before (c ∷ cells) (m ∷ marks) (suc n) e = ap2 ◌∷◌ (ap (λ (l : List ℕ). get_or l 0 0) e) (marks_before cells marks n (ap (drop 1) e))
+  marks_before (c ∷ cells) (m ∷ marks) (suc n) e = ap₂ ◌∷◌ (ap (λ (l : List ℕ). get_or l 0 0) e) (marks_before cells marks n (ap (drop 1) e))
 
   pub marks_length : (cells marks : List ℕ) → Marks (map (noted t) cells) marks → length marks ≡ length cells
   marks_length cells marks e = ap length e ∙ length-map (map (noted t) cells) mark_of ∙ length-map cells (noted t)

@@ -1,5 +1,5 @@
 -- Laws of the names of a section's sets: a name's number, one name more, and loops that note names. Assumes nothing.
-use mathlib.Core.Path.{◌≡◌, refl, sym, ap, ap2, subst, ◌∙◌}
+use mathlib.Core.Path.{◌≡◌, refl, sym, ap, ap₂, subst, ◌∙◌}
 use mathlib.Core.Bool.{Bool, true, false, cond, not, ◌||◌, true≢false}
 use mathlib.Core.List.{List, [], ◌∷◌, ◌++◌, map, map-append, append-nil}
 use Prim.Native.Nat.{ℕ, suc, ◌+◌, ◌≤◌, ◌<◌}
@@ -35,7 +35,7 @@ module _ (t : List ℕ) (spans : List Span) (count i : ℕ) where
   names_step h k =
       let inside : i < length (take count spans) = omega (arith, length-take count spans) in
       ap (map (span_bytes t)) (drop-cons (take count spans) i no_span inside)
-      ∙ ap2 (λ (s : Span) (n : ℕ). span_bytes t s ∷ names_left t spans count n) (get_or-take count spans i no_span h) (sym (add-one i))
+      ∙ ap₂ (λ (s : Span) (n : ℕ). span_bytes t s ∷ names_left t spans count n) (get_or-take count spans i no_span h) (sym (add-one i))
 
 module _ (t x : List ℕ) (spans : List Span) (count i : ℕ) where
   pub number-over : count ≤ i → number_from (i + 1) x (names_left t spans count i) ≡ 0
@@ -48,7 +48,7 @@ module _ (t x : List ℕ) (spans : List Span) (count i : ℕ) where
       unfolding number_from
       number_is =
           ap (number_from (i + 1) x) (names_step t spans count i h k)
-          ∙ ap2 (λ (b : Bool) (n : ℕ). cond b (i + 1) (number_from n x (names_left t spans count (i + 1)))) (sym (f ∙ ap (same x) g)) (sym (add-one (i + 1)))
+          ∙ ap₂ (λ (b : Bool) (n : ℕ). cond b (i + 1) (number_from n x (names_left t spans count (i + 1)))) (sym (f ∙ ap (same x) g)) (sym (add-one (i + 1)))
 
       pub number-here : b ≡ true → number_from (i + 1) x (names_left t spans count i) ≡ i + 1
       number-here e = number_is ∙ rw e
@@ -100,7 +100,7 @@ module _ (t : List ℕ) (names : Names) (name : Span) where
     unfolding with_names
     with_is all now =
         ap (λ (b : Bool). cond b all (all ++ (span_bytes t name ∷ [])))
-        (ap2 among (sym p) (sym (now.exact few)) ∙ number-among 0 w (names_in t names) ∙ ap (λ (k : ℕ). not (eqb k 0)) (sym f))
+        (ap₂ among (sym p) (sym (now.exact few)) ∙ number-among 0 w (names_in t names) ∙ ap (λ (k : ℕ). not (eqb k 0)) (sym f))
 
     pub note_old : (n ≡ 0 → ⊥) → NamesMore t names names (span_bytes t name ∷ [])
     note_old k all now =

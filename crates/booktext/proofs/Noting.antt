@@ -1,5 +1,5 @@
 -- Laws of what a section takes over: a common that is used twice, and statements that are noted one after the other. Assumes nothing.
-use mathlib.Core.Path.{◌≡◌, refl, sym, ap, ap2, subst, ◌∙◌}
+use mathlib.Core.Path.{◌≡◌, refl, sym, ap, ap₂, subst, ◌∙◌}
 use mathlib.Core.Bool.{Bool, true, false, cond, not, ◌&&◌}
 use mathlib.Core.List.{List, [], ◌∷◌, ◌++◌, map, append-nil, append_assoc, map-append}
 use Prim.Native.Nat.{ℕ, ◌+◌, ◌*◌, ◌≤◌, ◌<◌}
@@ -50,7 +50,7 @@ module _ (t : List ℕ) (head start : ℕ) where
       pub twice_here : b ≡ true → {line section : ℕ} {r : Told} → r ≡ tell 46 line section → line ≡ line_of t at → section ≡ line_of t head → r ≡ all_twice (body_from t start)
       twice_here f g l m =
           let ss = body_from t (next_line t at) in
-          g ∙ ap2 (tell 46) l m
+          g ∙ ap₂ (tell 46) l m
           ∙ sym (twice_step ss (onward-some t (body_from t) h) ∙ ap (λ (x : Bool). cond x (tell 46 (line_of t at) (line_of t head)) (all_twice ss)) f)
 
       pub twice_on : b ≡ false → {p r : ℕ} → p ≡ next_line t at → Finds t (body_from t p) (body_from t (next_line t r)) r → all_twice (body_from t start) ≡ all_twice (onward t (body_from t) r)
@@ -77,7 +77,7 @@ module _ (t : List ℕ) where
 
   -- a statement by its line and the severity that it was given
   pub noted-line : (at letter : ℕ) → length t ≤ text_limit → at ≤ length t → letter ≤ 255 → noted t (at * 256 + letter) ≡ statement_at t at letter
-  noted-line at letter short near small = noted-plain t (at * 256 + letter) (omega arith) ∙ ap2 (statement_at t) (omega arith) (omega arith)
+  noted-line at letter short near small = noted-plain t (at * 256 + letter) (omega arith) ∙ ap₂ (statement_at t) (omega arith) (omega arith)
 
   -- with as many as fit, or more
   over_with : (cells : List ℕ) (count : ℕ) (ss more : List Statement) → statement_limit < count → Holds t cells count ss → statement_limit < length (ss ++ more)
@@ -193,5 +193,5 @@ module _ (t : List ℕ) (at : ℕ) where
 
       pub taken-some : found ≤ length t → {p letter : ℕ} {x : List ℕ} → p ≡ next_line t found → x ≡ get_or (words_from t at) 2 [] → letter ≡ get_or x 0 0 → map (give letter) (body_from t p) ≡ all-taken
       taken-some k q y l =
-          ap2 (λ (u z : ℕ). map (give u) (body_from t z)) (l ∙ ap (λ (u : List ℕ). get_or u 0 0) y) q
+          ap₂ (λ (u z : ℕ). map (give u) (body_from t z)) (l ∙ ap (λ (u : List ℕ). get_or u 0 0) y) q
           ∙ sym (taken_is ∙ ap (λ (ss : List Statement). given_by (body (drop 1 ss))) (f.some k))

@@ -1,6 +1,6 @@
 -- Laws of what stands in a section before a statement: rules by their marks, codes of sets, and rows 47 to 49. Assumes nothing.
-use mathlib.Core.Path.{◌≡◌, refl, sym, ap, ap2, ◌∙◌}
-use mathlib.Core.Bool.{Bool, true, false, cond, not, ◌&&◌, ◌||◌, and_assoc, and_true, and-false, or_assoc, or-false, true≢false}
+use mathlib.Core.Path.{◌≡◌, refl, sym, ap, ap₂, ◌∙◌}
+use mathlib.Core.Bool.{Bool, true, false, cond, not, ◌&&◌, ◌||◌, and_assoc, and-true, and-false, or_assoc, or-false, true≢false}
 use mathlib.Core.List.{List, [], ◌∷◌, ◌++◌, map, map-append, append-nil}
 use Prim.Native.Nat.{ℕ, ◌+◌, ◌/◌, ◌%◌, ◌≤◌, ◌<◌}
 use native.Mathlib.Omega.{arith}
@@ -8,7 +8,7 @@ use native.Mathlib.Numerals.{add-one}
 use lib.Dec.{eqb, leb}
 use lib.ListN.{length, get_or, take, drop}
 use lib.Seq.{take-suc}
-use borrow.Author.Tests.{leb_true, eqb-true, eqb-false, eq-eqb, ne_eqb, not-true, not-false}
+use borrow.Author.Tests.{leb-true, eqb-true, eqb-false, eq-eqb, ne_eqb, not-true, not-false}
 use Rattle.hl7.specs.Bytes.{is_in, same, among}
 use Rattle.hl7.specs.declared.cut.Span.{Span}
 use Rattle.hl7.proofs.Comparing.{from_step, from_done, and_both, or_neither, same_equal, among-append}
@@ -37,11 +37,11 @@ module _ (puts takes : Statement → Bool) (taken rest : List Statement → Bool
     (rest-none : rest [] ≡ false) (rest_more : (x : Statement) (ss : List Statement) → rest (x ∷ ss) ≡ ((puts x && not (taken ss)) || rest ss)) where
   there-is : (so : Bool) (ss : List Statement) → there puts takes so ss ≡ ((so && not (taken ss)) || rest ss)
   unfolding there
-  there-is so [] = sym (ap2 (λ (a b : Bool). (so && not a) || b) Taken-none rest-none ∙ or-false (so && true) ∙ and_true so)
+  there-is so [] = sym (ap₂ (λ (a b : Bool). (so && not a) || b) Taken-none rest-none ∙ or-false (so && true) ∙ and-true so)
   there-is so (x ∷ ss) =
       there-is (puts x || (not (takes x) && so)) ss
       ∙ by (puts x) (takes x) so (taken ss) (rest ss)
-      ∙ sym (ap2 (λ (a b : Bool). (so && not a) || b) (taken_more x ss) (rest_more x ss))
+      ∙ sym (ap₂ (λ (a b : Bool). (so && not a) || b) (taken_more x ss) (rest_more x ss))
     where
       by : (p k so gone later : Bool) → (((p || (not k && so)) && not gone) || later) ≡ ((so && not (k || gone)) || ((p && not gone) || later))
       by true k false gone later = refl
@@ -71,7 +71,7 @@ module _ (spot : ℕ) where
     where
       amended_one : makes_rule s ≡ true → standing (amended (spot_of s) s ss ∷ []) ≡ (eqb spot (spot_of s) || false)
       amended_one e =
-          ap2 (λ (b : Bool) (n : ℕ). is_in spot (cond b (n ∷ []) [])) (amended_as makes_rule amend-rule (spot_of s) s ss ∙ e) (amended_as spot_of amend-spot (spot_of s) s ss)
+          ap₂ (λ (b : Bool) (n : ℕ). is_in spot (cond b (n ∷ []) [])) (amended_as makes_rule amend-rule (spot_of s) s ss ∙ e) (amended_as spot_of amend-spot (spot_of s) s ss)
 
       by : (rule gone at : Bool) → makes_rule s ≡ rule → dropped (spot_of s) ss ≡ gone → eqb (spot_of s) spot ≡ at → standing (cond rule (cond gone [] (amended (spot_of s) s ss ∷ [])) (s ∷ [])) ≡ (rule && at && not (dropped spot ss))
       by false gone at e f g = ap (λ (b : Bool). is_in spot (cond b (spot_of s ∷ []) [])) e
@@ -130,8 +130,8 @@ has_there all ss name c =
 pub stands-is : (so : Bool) (mark spot : ℕ) {v p : ℕ} {rule gone : Bool} → v ≡ mark % 16 → rule ≡ of_rule v → p ≡ mark / 16 → gone ≡ (eqb (mark % 16) a_drop && eqb (mark / 16) spot)
     → (s : Statement) → mark ≡ mark_of s → ((rule && eqb p spot) || (not gone && so)) ≡ (rules_it spot s || (not (says_of a_drop spot s) && so))
 stands-is so mark spot ev er ep eg s e =
-    ap2 (λ (a b : Bool). a || (not b && so))
-    (ap2 (λ (a : Bool) (n : ℕ). a && eqb n spot) (er ∙ ap of_rule (ev ∙ mark_verb s e)) (ep ∙ mark_spot s e))
+    ap₂ (λ (a b : Bool). a || (not b && so))
+    (ap₂ (λ (a : Bool) (n : ℕ). a && eqb n spot) (er ∙ ap of_rule (ev ∙ mark_verb s e)) (ep ∙ mark_spot s e))
     (mark_says s e a_drop spot eg)
 
 module _ (spot : ℕ) (marks : List ℕ) where
@@ -291,8 +291,8 @@ module _ (t name code : List ℕ) (so : Bool) (cell mark : ℕ) (m : mark ≡ ma
 
   after_is : {x : Bool} → x ≡ (same (word (noted t cell) 1) name && among code (drop 2 (noted t cell).words)) → has-by so v x ≡ has_after
   after_is g =
-      ap2 (has-by so) verb-after g
-      ∙ ap2 (λ (a b : Bool). a || (not b && so))
+      ap₂ (has-by so) verb-after g
+      ∙ ap₂ (λ (a b : Bool). a || (not b && so))
       (sym (and_assoc (says a_more (noted t cell)) (same (word (noted t cell) 1) name) (among code (drop 2 (noted t cell).words))))
       (sym (and_assoc (says a_less (noted t cell)) (same (word (noted t cell) 1) name) (among code (drop 2 (noted t cell).words))))
 
@@ -338,7 +338,7 @@ module _ (t name code cells : List ℕ) where
 pub asked_is : (all before : List Statement) (s : Statement) (w : Span) (t : List ℕ) {less has b : Bool} {name text : List ℕ} → less ≡ says a_less s → name ≡ word s 1 → text ≡ span_bytes t w
     → has ≡ has_code all before name text → b ≡ cond less has (not has) → b ≡ code_asked all before s (span_bytes t w)
 asked_is all before s w t el en et eh eb =
-    eb ∙ ap2 (λ (a b : Bool). cond a b (not b)) el (eh ∙ ap2 (has_code all before) en et)
+    eb ∙ ap₂ (λ (a b : Bool). cond a b (not b)) el (eh ∙ ap₂ (has_code all before) en et)
 
 -- ---- the rows
 -- of a verb, where a rule of the place and kind stands or not, and where the codes are as they have to be or not
@@ -347,7 +347,7 @@ rows v so right = cond (eqb v a_rule && so) 47 (cond (of_place v && not (eqb v a
 
 rows-place : (v : ℕ) (so right : Bool) → of_place v ≡ true → cond (eqb v a_rule && so) 47 (cond (not (eqb v a_rule) && not so) 48 0) ≡ rows v so right
 rows-place v so right e =
-    let low : v ≤ a_drop = leb_true v a_drop (and_both (leb a_rule v) (leb v a_drop) e).1 in
+    let low : v ≤ a_drop = leb-true v a_drop (and_both (leb a_rule v) (leb v a_drop) e).1 in
     sym (rw (e, ne_eqb v a_more (λ q. absurd (omega (arith, q))), ne_eqb v a_less (λ q. absurd (omega (arith, q)))))
 
 module _ (v : ℕ) (e : of_place v ≡ false) (so right : Bool) where
@@ -379,7 +379,7 @@ module _ (t cells marks : List ℕ) (i : ℕ) (m : Marks (map (noted t) cells) m
 
   rows-here : (so right : Bool) → so ≡ stands (spot_of here) earlier → right ≡ asked_of here → rows v so right ≡ rule_fault (statements t) earlier here
   unfolding rule_fault
-  rows-here so right f g = ap (λ (n : ℕ). rows n so right) verb-here ∙ ap2 (rows (verb here)) f g
+  rows-here so right f g = ap (λ (n : ℕ). rows n so right) verb-here ∙ ap₂ (rows (verb here)) f g
 
   pub fault-place : placed ≡ true → {spot r : ℕ} {so : Bool} → spot ≡ get_or marks i 0 / 16 → ((ss : List Statement) → Marks ss (take i marks) → so ≡ stands spot ss)
       → r ≡ cond (eqb v a_rule && so) 47 (cond (not (eqb v a_rule) && not so) 48 0) → r ≡ rule_fault (statements t) earlier here
@@ -425,7 +425,7 @@ module _ (t cells : List ℕ) (head i : ℕ) where
 
     pub fault-told : (n ≡ 0 → ⊥) → {r : Told} {at line section : ℕ} → at ≡ line_in (get_or cells i 0) → line ≡ line_of t at → section ≡ line_of t head → r ≡ tell n line section → r ≡ fault_from
     fault-told some ea el es er =
-        er ∙ ap2 (tell n) (el ∙ ap (line_of t) (ea ∙ sym (noted-at t (get_or cells i 0)))) es
+        er ∙ ap₂ (tell n) (el ∙ ap (line_of t) (ea ∙ sym (noted-at t (get_or cells i 0)))) es
         ∙ sym (fault-is ∙ ap (λ (b : Bool). cond b (first_rule_fault t (statements t) (line_of t head) (map (noted t) (take i cells) ++ (noted t (get_or cells i 0) ∷ [])) (map (noted t) (drop (i + 1) cells))) (tell n (line_of t (noted t (get_or cells i 0)).at) (line_of t head))) (ne_eqb n 0 some))
 
     pub fault_more : n ≡ 0 → fault_from ≡ first_rule_fault t (statements t) (line_of t head) (map (noted t) (take (i + 1) cells)) (map (noted t) (drop (i + 1) cells))

@@ -1,5 +1,5 @@
 -- What compiling a text promises. Assumes nothing.
-use mathlib.Core.Path.{◌≡◌, refl, sym, ap, ap2, ◌∙◌}
+use mathlib.Core.Path.{◌≡◌, refl, sym, ap, ap₂, ◌∙◌}
 use mathlib.Core.Bool.{Bool, true, false, cond, ◌&&◌, ◌||◌}
 use mathlib.Core.List.{List, [], ◌∷◌, ◌++◌, map, map-append}
 use Prim.Native.Nat.{ℕ, ◌+◌, ◌*◌, ◌/◌, ◌%◌, ◌≤◌, ◌<◌}
@@ -7,7 +7,7 @@ use native.Mathlib.Omega.{arith}
 use lib.Dec.{leb}
 use lib.Arith.{digits_div, digits_mod}
 use lib.ListN.{length, get_or, drop}
-use borrow.Author.Tests.{le-leb, leb_true}
+use borrow.Author.Tests.{le-leb, leb-true}
 use Rattle.hl7.specs.Bytes.{within, among, same}
 use Rattle.hl7.proofs.Comparing.{and_both, same_self}
 use Rattle.grade.specs.Book.{Contents, distinct, keys, malformed, other_version, decoded}
@@ -82,7 +82,7 @@ named-still (s ∷ ss) = rw (named-still ss) refl
 
 names-still : (ss : List Statement) → names_of (map still ss) ≡ names_of ss
 unfolding names_of
-names-still ss = ap2 (λ (a b : List (List ℕ)). with_names [] (a ++ b)) (pinned-still ss) (named-still ss)
+names-still ss = ap₂ (λ (a b : List (List ℕ)). with_names [] (a ++ b)) (pinned-still ss) (named-still ss)
 
 -- what later statements change does not hang on positions either
 amend-still : (spot : ℕ) (s x : Statement) → amend spot (still s) (still x) ≡ still (amend spot s x)
@@ -107,7 +107,7 @@ dropped-still spot (x ∷ ss) = ap (λ (b : Bool). says_of a_drop spot x || b) (
 settled-still : (ss : List Statement) → settled (map still ss) ≡ map still (settled ss)
 unfolding settled settled_as spot_of
 settled-still [] = refl
-settled-still (s ∷ ss) = ap2 ◌++◌ one (settled-still ss) ∙ sym (map-append still (settled_as s ss) (settled ss))
+settled-still (s ∷ ss) = ap₂ ◌++◌ one (settled-still ss) ∙ sym (map-append still (settled_as s ss) (settled ss))
   where
     by : (a b : Bool) → cond a (cond b [] (still (amended (spot_of s) s ss) ∷ [])) (still s ∷ []) ≡ map still (cond a (cond b [] (amended (spot_of s) s ss ∷ [])) (s ∷ []))
     by true true = refl
@@ -116,7 +116,7 @@ settled-still (s ∷ ss) = ap2 ◌++◌ one (settled-still ss) ∙ sym (map-appe
 
     one : settled_as (still s) (map still ss) ≡ map still (settled_as s ss)
     one =
-        ap2 (λ (b : Bool) (y : Statement). cond (makes_rule s) (cond b [] (y ∷ [])) (still s ∷ [])) (dropped-still (spot_of s) ss) (amended-still (spot_of s) s ss)
+        ap₂ (λ (b : Bool) (y : Statement). cond (makes_rule s) (cond b [] (y ∷ [])) (still s ∷ [])) (dropped-still (spot_of s) ss) (amended-still (spot_of s) s ss)
         ∙ by (makes_rule s) (dropped (spot_of s) ss)
 
 lessened-still : (name c : List ℕ) (ss : List Statement) → lessened name c (map still ss) ≡ lessened name c ss
@@ -127,12 +127,12 @@ lessened-still name c (x ∷ ss) = ap (λ (b : Bool). names_code a_less name c x
 kept-still : (name : List ℕ) (ss : List Statement) (cs : List (List ℕ)) → kept name (map still ss) cs ≡ kept name ss cs
 unfolding kept
 kept-still name ss [] = refl
-kept-still name ss (c ∷ cs) = ap2 (λ (b : Bool) (l : List (List ℕ)). cond b l (c ∷ l)) (lessened-still name c ss) (kept-still name ss cs)
+kept-still name ss (c ∷ cs) = ap₂ (λ (b : Bool) (l : List (List ℕ)). cond b l (c ∷ l)) (lessened-still name c ss) (kept-still name ss cs)
 
 added-still : (name : List ℕ) (ss : List Statement) → added name (map still ss) ≡ added name ss
 unfolding added
 added-still name [] = refl
-added-still name (x ∷ ss) = ap2 ◌++◌ (kept-still name ss (added_by name x)) (added-still name ss)
+added-still name (x ∷ ss) = ap₂ ◌++◌ (kept-still name ss (added_by name x)) (added-still name ss)
 
 -- the names of the commons that it uses
 unfoldable pub uses_of : List Statement → List (List ℕ)
@@ -150,7 +150,7 @@ or_later false e = e
 map-held : {A : Type 0} (f g : List ℕ → A) (names : List (List ℕ)) → ((name : List ℕ) → among name names ≡ true → f name ≡ g name) → map f names ≡ map g names
 unfolding among
 map-held f g [] h = refl
-map-held f g (name ∷ names) h = ap2 ◌∷◌ (h name (rw (same_self name) refl)) (map-held f g names (λ x e. h x (or_later (same x name) e)))
+map-held f g (name ∷ names) h = ap₂ ◌∷◌ (h name (rw (same_self name) refl)) (map-held f g names (λ x e. h x (or_later (same x name) e)))
 
 -- two lists of all statements that agree on the commons which a section uses
 abbrev Commons : (all other : List Statement) → List (List ℕ) → Type 0
@@ -181,7 +181,7 @@ expand-still all other (s ∷ ss) (z ∷ zs) e c =
     let head : still s ≡ still z = ap (λ (l : List Statement). get_or l 0 (still s)) e in
     let tail : map still ss ≡ map still zs = ap (drop 1) e in
     map-append still (s ∷ taken all s) (expand all ss)
-    ∙ ap2 ◌++◌ (ap2 ◌∷◌ head (taken-still all other s z head (λ u. c (word s 1) (own_use u)))) (expand-still all other ss zs tail (λ name h. c name (later_use name h)))
+    ∙ ap₂ ◌++◌ (ap₂ ◌∷◌ head (taken-still all other s z head (λ u. c (word s 1) (own_use u)))) (expand-still all other ss zs tail (λ name h. c name (later_use name h)))
     ∙ sym (map-append still (z ∷ taken other z) (expand other zs))
   where
     own_use : says a_use s ≡ true → among (word s 1) (cond (says a_use s) (word s 1 ∷ uses_of ss) (uses_of ss)) ≡ true
@@ -206,10 +206,10 @@ own_page all other own theirs key e commons sets =
     let last : map still (settled ss) ≡ map still (settled zs) = sym (settled-still ss) ∙ ap settled said ∙ settled-still zs in
     let names : names_of (settled ss) ≡ names_of (settled zs) = sym (names-still (settled ss)) ∙ ap names_of last ∙ names-still (settled zs) in
     let codes : (name : List ℕ) → among name (names_of (settled ss)) ≡ true → held all ss name ≡ held other zs name =
-    λ name h. ap2 ◌++◌
-    (sym (kept-still name ss (codes_of all name)) ∙ ap2 (kept name) said (sets name h) ∙ kept-still name zs (codes_of other name))
+    λ name h. ap₂ ◌++◌
+    (sym (kept-still name ss (codes_of all name)) ∙ ap₂ (kept name) said (sets name h) ∙ kept-still name zs (codes_of other name))
     (sym (added-still name ss) ∙ ap (added name) said ∙ added-still name zs) in
-    ap2 (λ (rules : List Rule) (sets : List (List (List ℕ))). record { key = key; rules = rules; sets = sets })
+    ap₂ (λ (rules : List Rule) (sets : List (List (List ℕ))). record { key = key; rules = rules; sets = sets })
     (ap (λ (n : List (List ℕ)). rules_of n (settled ss)) names
     ∙ sym (rules-still (names_of (settled zs)) (settled ss))
     ∙ ap (rules_of (names_of (settled zs))) last
@@ -227,8 +227,8 @@ unfolding place_fits
 place-small p h =
     let all = and_both (counted p.segment && within (first_field p.segment) field_limit p.field) (leb p.component component_limit) h in
     let field = (and_both (counted p.segment) (within (first_field p.segment) field_limit p.field) all.0).1 in
-    let few = leb_true p.field field_limit (and_both (leb (first_field p.segment) p.field) (leb p.field field_limit) field).1 in
-    let short = leb_true p.component component_limit all.1 in
+    let few = leb-true p.field field_limit (and_both (leb (first_field p.segment) p.field) (leb p.field field_limit) field).1 in
+    let short = leb-true p.component component_limit all.1 in
     (omega (arith, few), omega (arith, short))
 
 -- two rules within their limits have the same number only where they have the same place and kind

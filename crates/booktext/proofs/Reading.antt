@@ -9,7 +9,7 @@ use native.Mathlib.Numerals.{add-one}
 use native.Mathlib.Decide.{dec_lt}
 use lib.Dec.{eqb, leb, ltb}
 use lib.ListN.{length, get_or, take, drop}
-use borrow.Author.Tests.{leb_true, lt-ltb, le-ltb, lt-leb}
+use borrow.Author.Tests.{leb-true, lt-ltb, le-ltb, lt-leb}
 use Rattle.hl7.specs.Bytes.{is_digit, all, same}
 use Rattle.hl7.specs.Counted.{too_large}
 use Rattle.hl7.specs.Cut.{end_from}
@@ -36,7 +36,7 @@ number-few n w (name ∷ names) = by (same w name) (number-few (suc n) w names)
 
 -- a number that was picked is small where both choices are
 pub picked_few : (n : ℕ) {r rest : ℕ} → leb n 255 ≡ true → r ≤ max n rest → rest ≤ 255 → r ≤ 255
-picked_few n h picked later = omega (arith, leb_true n 255 h)
+picked_few n h picked later = omega (arith, leb-true n 255 h)
 
 -- the verbs that change rules or sets
 pub asked_change : (w : List ℕ) {severity bound dropped more less : Bool} {a b c d e : ℕ}
@@ -88,7 +88,7 @@ module _ (w : List ℕ) {every : Bool} {value first : ℕ} (read : (every ≡ al
   asked_number = rw (read.0, read.1, begin, capped_small (value_of w))
 
   pub number_small : asks_number w every first value ≡ true → value ≤ 255
-  number_small e = leb_true value 255 (and_both (leb 1 (length w) && leb (length w) 3 && every && not (eqb first (code "0"))) (leb value 255) e).1
+  number_small e = leb-true value 255 (and_both (leb 1 (length w) && leb (length w) 3 && every && not (eqb first (code "0"))) (leb value 255) e).1
 
   pub number_read : asks_number w every first value ≡ true → value ≡ number_in w
   unfolding number_in

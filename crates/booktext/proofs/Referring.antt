@@ -1,5 +1,5 @@
 -- Laws of names: where the first statement with a verb and a name stands, which names are not there, and the rows on them in order. Assumes nothing.
-use mathlib.Core.Path.{◌≡◌, refl, sym, ap, ap2, ◌∙◌}
+use mathlib.Core.Path.{◌≡◌, refl, sym, ap, ap₂, ◌∙◌}
 use mathlib.Core.Bool.{Bool, true, false, cond, not, ◌&&◌, ◌||◌}
 use mathlib.Core.List.{List, [], ◌∷◌}
 use Prim.Native.Nat.{ℕ, suc, ◌+◌, ◌≤◌, ◌<◌}
@@ -7,7 +7,7 @@ use native.Mathlib.Omega.{arith}
 use native.Mathlib.Numerals.{add-one}
 use lib.Dec.{eqb, leb}
 use lib.ListN.{length, get_or, drop}
-use borrow.Author.Tests.{leb_true, leb_false, eqb-false, eq-eqb, ne_eqb}
+use borrow.Author.Tests.{leb-true, leb-false, eqb-false, eq-eqb, ne_eqb}
 use Rattle.hl7.specs.Bytes.{within}
 use Rattle.grade.specs.Encoding.{each}
 use Rattle.grade.specs.Limits.{section_limit}
@@ -27,19 +27,19 @@ module _ (t : List ℕ) {list tail : List Statement} {r : ℕ} (f : Finds t list
   at-found {x} e = by_case (leb r (length t)) refl
     where
       by_case : (b : Bool) → leb r (length t) ≡ b → x ≡ at_of list
-      by_case true k = e ∙ ap (λ (b : Bool). cond b r 0) k ∙ sym (ap at_of (f.some (leb_true r (length t) k)))
-      by_case false k = e ∙ ap (λ (b : Bool). cond b r 0) k ∙ sym (ap at_of (f.none (leb_false r (length t) k)))
+      by_case true k = e ∙ ap (λ (b : Bool). cond b r 0) k ∙ sym (ap at_of (f.some (leb-true r (length t) k)))
+      by_case false k = e ∙ ap (λ (b : Bool). cond b r 0) k ∙ sym (ap at_of (f.none (leb-false r (length t) k)))
 
   pub there-found : leb r (length t) ≡ is_there list
   there-found = by_case (leb r (length t)) refl
     where
       by_case : (b : Bool) → leb r (length t) ≡ b → leb r (length t) ≡ is_there list
-      by_case true k = k ∙ sym (ap is_there (f.some (leb_true r (length t) k)))
-      by_case false k = k ∙ sym (ap is_there (f.none (leb_false r (length t) k)))
+      by_case true k = k ∙ sym (ap is_there (f.some (leb-true r (length t) k)))
+      by_case false k = k ∙ sym (ap is_there (f.none (leb-false r (length t) k)))
 
 -- whether it is that at a position
 pub first_found : (t : List ℕ) (all : List Statement) (at : ℕ) {v x : ℕ} {name : List ℕ} {tail : List Statement} {r : ℕ} → v ≡ verb (statement_at t at 0) → name ≡ get_or (words_from t at) 1 [] → Finds t (from v name all) tail r → x ≡ cond (leb r (length t)) r 0 → eqb x at ≡ is_first all (statement_at t at 0)
-first_found t all at e f d g = ap (λ (x : ℕ). eqb x at) (at-found t d g ∙ ap2 (λ (v : ℕ) (name : List ℕ). at_of (from v name all)) e f)
+first_found t all at e f d g = ap (λ (x : ℕ). eqb x at) (at-found t d g ∙ ap₂ (λ (v : ℕ) (name : List ℕ). at_of (from v name all)) e f)
 
 -- ---- row 43
 module _ (t : List ℕ) (at : ℕ) {v : ℕ} {b : Bool} (e : v ≡ verb (statement_at t at 0)) (f : b ≡ within a_set a_section v) where
@@ -59,7 +59,7 @@ names-is t at e f c g h = rw (c, f, h, g, e)
 
 -- it is a rule of kind CODE
 pub asks-is : (t : List ℕ) (at : ℕ) {v k : ℕ} {x : List ℕ} {b : Bool} → v ≡ verb (statement_at t at 0) → b ≡ of_rule v → x ≡ get_or (words_from t at) 2 [] → k ≡ kind_number x → (b && eqb k a_code_kind) ≡ asks_code (statement_at t at 0)
-asks-is t at e f g h = ap2 ◌&&◌ (f ∙ ap of_rule e) (ap (λ (k : ℕ). eqb k a_code_kind) (h ∙ ap kind_number g))
+asks-is t at e f g h = ap₂ ◌&&◌ (f ∙ ap of_rule e) (ap (λ (k : ℕ). eqb k a_code_kind) (h ∙ ap kind_number g))
 
 module _ (t : List ℕ) (at : ℕ) {v : ℕ} (e : v ≡ verb (statement_at t at 0)) where
   abbrev lacks-by : Bool → Bool → Bool → Bool
@@ -69,7 +69,7 @@ module _ (t : List ℕ) (at : ℕ) {v : ℕ} (e : v ≡ verb (statement_at t at 
   unfolding lacks
   lacks-is {takes} f g h =
       ap (λ (x : Bool). lacks-by x (names_set (statement_at t at 0)) (says some_sets (statement_at t at 0))) f
-      ∙ ap2 (lacks-by takes) g h
+      ∙ ap₂ (lacks-by takes) g h
 
   pub lacks_common : v ≡ a_use → {name : List ℕ} {b : Bool} → name ≡ get_or (words_from t at) 1 [] → b ≡ is_there (from a_common name (statements t)) → not b ≡ lacks (statements t) (statement_at t at 0)
   lacks_common h f g =
@@ -104,7 +104,7 @@ module _ (all : List Statement) (count : ℕ) (s : Statement) where
 
   fault-is : {double many lack : Bool} → doubled ≡ double → (says a_section s && leb section_limit count) ≡ many → lacks all s ≡ lack → name_fault all count s ≡ fault-by double many lack
   unfolding name_fault
-  fault-is {double} d m l = ap (λ (x : Bool). fault-by x (says a_section s && leb section_limit count) (lacks all s)) d ∙ ap2 (fault-by double) m l
+  fault-is {double} d m l = ap (λ (x : Bool). fault-by x (says a_section s && leb section_limit count) (lacks all s)) d ∙ ap₂ (fault-by double) m l
 
   module _ {double : Bool} (d : double ≡ doubled) where
     pub fault_double : double ≡ true → 43 ≡ name_fault all count s
@@ -125,7 +125,7 @@ module _ (all : List Statement) (count : ℕ) (s : Statement) where
   section-room : name_fault all count s ≡ 0 → says a_section s ≡ true → count < section_limit
   section-room e f =
       let clear = by_case doubled (says a_section s && leb section_limit count) (lacks all s) (sym (fault-is refl refl refl) ∙ e) in
-      leb_false section_limit count (sym (ap (λ (b : Bool). b && leb section_limit count) f) ∙ clear)
+      leb-false section_limit count (sym (ap (λ (b : Bool). b && leb section_limit count) f) ∙ clear)
     where
       by_case : (double many lack : Bool) → fault-by double many lack ≡ 0 → many ≡ false
       by_case true many lack k = absurd (omega (arith, k))
@@ -210,7 +210,7 @@ module _ (t : List ℕ) (sections at : ℕ) (w : Naming t sections at) where
         step = onward_step t (left t) h g d
 
         count-is : {b : Bool} → says a_section s ≡ b → n ≡ cond b (suc sections) sections
-        count-is q = c ∙ ap2 (λ (u m : ℕ). cond (eqb u a_section) m sections) e (add-one sections) ∙ ap (λ (b : Bool). cond b (suc sections) sections) q
+        count-is q = c ∙ ap₂ (λ (u m : ℕ). cond (eqb u a_section) m sections) e (add-one sections) ∙ ap (λ (b : Bool). cond b (suc sections) sections) q
 
         told_on : name-told t 0 (statements t) ≡ name-told t n ss
         told_on =

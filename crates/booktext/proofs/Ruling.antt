@@ -1,5 +1,5 @@
 -- Laws of the rules of a section: how many there are, and their bytes. Assumes nothing.
-use mathlib.Core.Path.{◌≡◌, refl, sym, ap, ap2, subst, ◌∙◌}
+use mathlib.Core.Path.{◌≡◌, refl, sym, ap, ap₂, subst, ◌∙◌}
 use mathlib.Core.Bool.{Bool, true, false, cond, not, ◌&&◌, ◌||◌, true≢false}
 use mathlib.Core.List.{List, [], ◌∷◌, ◌++◌, map, append-nil, append_assoc}
 use Prim.Native.Nat.{ℕ, zero, suc, ◌+◌, ◌%◌, ◌-◌, ◌≤◌, ◌<◌}
@@ -8,7 +8,7 @@ use native.Mathlib.Omega.{arith}
 use native.Mathlib.Decide.{dec_lt}
 use lib.Dec.{eqb, leb}
 use lib.ListN.{length, get_or, take, drop, get_or-eq_default}
-use borrow.Author.Tests.{eq-eqb, ne_eqb, eqb-true, leb_true}
+use borrow.Author.Tests.{eq-eqb, ne_eqb, eqb-true, leb-true}
 use Rattle.hl7.specs.Bytes.{within}
 use Rattle.hl7.proofs.Comparing.{from_step, from_done, and_both}
 use Rattle.grade.specs.Rule.{name_bytes, counted, place_fits, severity_of, severity_letter, kind_of, kind_fits, rule_fits, rule_with}
@@ -172,7 +172,7 @@ module _ (s : Statement) (ok : ready s ≡ true) (rule : makes_rule s ≡ true) 
   rule-place = rule_verb_lem (λ (v : ℕ). place_right v (word s 1) ≡ true → is_place (word s 1) ≡ true) (λ h. h) (λ h. h) (verb s) rule right.place
 
   pub rule_kind : 1 ≤ kind_number (word s 2)
-  rule_kind = leb_true 1 (kind_number (word s 2)) (rule_verb_lem (λ (v : ℕ). kind_right v (word s 2) ≡ true → leb 1 (kind_number (word s 2)) ≡ true) (λ h. h) (λ h. h) (verb s) rule right.kind)
+  rule_kind = leb-true 1 (kind_number (word s 2)) (rule_verb_lem (λ (v : ℕ). kind_right v (word s 2) ≡ true → leb 1 (kind_number (word s 2)) ≡ true) (λ h. h) (λ h. h) (verb s) rule right.kind)
 
   pub rule-own : is_severity_word (word s 3) ≡ true
   rule-own = rule_verb_lem (λ (v : ℕ). severity_right v (length s.words) (word s 2) (word s 3) ≡ true → is_severity_word (word s 3) ≡ true) (λ h. h) (λ h. h) (verb s) rule right.severity
@@ -204,7 +204,7 @@ module _ (s : Statement) (ok : ready s ≡ true) (rule : makes_rule s ≡ true) 
         let kind = kind_said (kind_number (word s 2)) (number_from 1 (word s 4) names) (number_in (word s 4)) (number_in (word s 5)) rule_kind most in
         let place = place_in (word s 1) in
         let bound = rule-bound in
-        ap2 (λ (x : SeverityRead) (y : KindRead). rule_fits n (rule_or (rule_with place x y))) severity.reads kind.reads
+        ap₂ (λ (x : SeverityRead) (y : KindRead). rule_fits n (rule_or (rule_with place x y))) severity.reads kind.reads
         ∙ rw (place_fits_lem (word s 1) rule-place, kind.fits n (length s.words - 4) (word s 4) (word s 5) refl refl bound held) refl
 
     rule-spelt : rule_bytes (made names s)
@@ -214,9 +214,9 @@ module _ (s : Statement) (ok : ready s ≡ true) (rule : makes_rule s ≡ true) 
         let severity = severity_said (letter_of s) rule-letter in
         let kind = kind_said (kind_number (word s 2)) (number_from 1 (word s 4) names) (number_in (word s 4)) (number_in (word s 5)) rule_kind most in
         let place = place_in (word s 1) in
-        ap2 (λ (x : SeverityRead) (y : KindRead). rule_bytes (rule_or (rule_with place x y))) severity.reads kind.reads
+        ap₂ (λ (x : SeverityRead) (y : KindRead). rule_bytes (rule_or (rule_with place x y))) severity.reads kind.reads
         ∙ sym (append_assoc (name_bytes place.segment) (place.field ∷ place.component ∷ []) (kind_byte kind.kind ∷ severity_letter severity.severity ∷ last_bytes kind.kind))
-        ∙ ap2 (λ (l : List ℕ) (x : ℕ). place_bytes place ++ (get_or l 0 0 ∷ x ∷ drop 1 l)) kind.spelt severity.spelt
+        ∙ ap₂ (λ (l : List ℕ) (x : ℕ). place_bytes place ++ (get_or l 0 0 ∷ x ∷ drop 1 l)) kind.spelt severity.spelt
 
   pub rule-written : (names : List (List ℕ)) {o p q r u first second low_word high_word_lem : List ℕ} {at b c d e kind set low high letter : ℕ}
       → first ≡ word s 1 → second ≡ word s 2 → (kind ≡ kind_number second) × (kind ≤ 6)

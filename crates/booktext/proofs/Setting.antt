@@ -1,12 +1,12 @@
 -- Laws of sets: their bytes, set by set; and rows 52 and 53. Assumes nothing.
-use mathlib.Core.Path.{◌≡◌, refl, sym, ap, ap2, subst, ◌∙◌}
+use mathlib.Core.Path.{◌≡◌, refl, sym, ap, ap₂, subst, ◌∙◌}
 use mathlib.Core.Bool.{Bool, true, false, cond, not, ◌&&◌, ◌||◌, true≢false, not-not}
 use mathlib.Core.List.{List, [], ◌∷◌, ◌++◌, map}
 use Prim.Native.Nat.{ℕ, ◌+◌, ◌%◌, ◌≤◌, ◌<◌, min}
 use native.Mathlib.Omega.{arith}
 use lib.Dec.{eqb, leb, ltb}
 use lib.ListN.{length, get_or, drop}
-use borrow.Author.Tests.{leb_true, le-leb, le-ltb, ltb-false}
+use borrow.Author.Tests.{leb-true, le-leb, le-ltb, ltb-false}
 use Rattle.hl7.specs.Bytes.{within, among}
 use Rattle.hl7.proofs.Comparing.{and_both, or_neither, none_of, from_step, from_done}
 use Rattle.grade.specs.Limits.{code_count_limit}
@@ -43,9 +43,9 @@ size_wrong n {count} e f = by_case (within 1 code_count_limit n) refl
     by_case false g = refl
     by_case true g =
         let fits = and_both (leb 1 n) (leb n code_count_limit) g in
-        let low : 1 ≤ n = leb_true 1 n fits.0 in
-        let high : n ≤ code_count_limit = leb_true n code_count_limit fits.1 in
-        absurd (true≢false (sym f ∙ ap2 ◌||◌ (le-ltb count 1 (omega (arith, e, low))) (le-ltb code_count_limit count (omega (arith, e, high)))))
+        let low : 1 ≤ n = leb-true 1 n fits.0 in
+        let high : n ≤ code_count_limit = leb-true n code_count_limit fits.1 in
+        absurd (true≢false (sym f ∙ ap₂ ◌||◌ (le-ltb count 1 (omega (arith, e, low))) (le-ltb code_count_limit count (omega (arith, e, high)))))
 
 module _ {count : ℕ} (f : (ltb count 1 || ltb code_count_limit count) ≡ false) where
   count_fits : (1 ≤ count) × (count ≤ code_count_limit)
@@ -58,7 +58,7 @@ module _ {count : ℕ} (f : (ltb count 1 || ltb code_count_limit count) ≡ fals
   count-exact n e = omega (arith, e, count_fits.1)
 
   size_right : (n : ℕ) → count ≡ min n 1025 → within 1 code_count_limit n ≡ true
-  size_right n e = ap2 ◌&&◌ (le-leb 1 n (omega (arith, e, count_fits.0))) (le-leb n code_count_limit (omega (arith, e, count_fits.1)))
+  size_right n e = ap₂ ◌&&◌ (le-leb 1 n (omega (arith, e, count_fits.0))) (le-leb n code_count_limit (omega (arith, e, count_fits.1)))
 
 -- ---- the set with a name
 -- a row refuses, whatever was written
@@ -79,7 +79,7 @@ module _ (t name : List ℕ) (ss : List Statement) (out : List ℕ) {p : List �
       → Puts (first_bad_set t (line_of t head) (statements t) ss (name ∷ [])) (set_bytes (held (statements t) ss name)) out at (p ++ out) (record { told = told; at = at })
   set_wrong f head w {told} {a = a} {b} at g k l e =
       let want : tell 53 a b ≡ first_bad_set t (line_of t head) (statements t) ss (name ∷ []) =
-      ap2 (tell 53) (k ∙ ap (line_of t) (at-found t f g)) l ∙ sym (bad_is t (line_of t head) (statements t) ss name [] false (size_wrong _ sized w)) in
+      ap₂ (tell 53) (k ∙ ap (line_of t) (at-found t f g)) l ∙ sym (bad_is t (line_of t head) (statements t) ss name [] false (size_wrong _ sized w)) in
       puts_refused (e ∙ want) (λ z. absurd (omega (arith, ap (λ (x : Told). x.number) want ∙ z))) (ap length nothing_written)
 
   -- its bytes were put
@@ -183,7 +183,7 @@ module _ (t : List ℕ) (names : List (List ℕ)) (line : ℕ) (cells : List ℕ
         ∙ ap (λ (x : Bool). cond x (tell 52 (line_of t (noted t (get_or cells i 0)).at) line) (first_stray t line names (map (noted t) (drop (i + 1) cells)))) (sym e ∙ f)
 
     pub stray_here : b ≡ true → {told : Told} {at a c : ℕ} → at ≡ line_in (get_or cells i 0) → a ≡ line_of t at → c ≡ line → told ≡ tell 52 a c → told ≡ first_stray t line names (map (noted t) cells)
-    stray_here f l g k q = q ∙ ap2 (tell 52) (g ∙ ap (line_of t) (l ∙ sym (noted-at t (get_or cells i 0)))) k ∙ sym (stray_first f)
+    stray_here f l g k q = q ∙ ap₂ (tell 52) (g ∙ ap (line_of t) (l ∙ sym (noted-at t (get_or cells i 0)))) k ∙ sym (stray_first f)
 
     pub stray_later : b ≡ false → first_stray t line names (map (noted t) cells) ≡ first_stray t line names (map (noted t) (drop (i + 1) cells))
     stray_later f = stray_first f

@@ -1,5 +1,5 @@
 -- Laws of settled statements: what is right of a section's statements is right of them as they are settled. Assumes nothing.
-use mathlib.Core.Path.{◌≡◌, refl, sym, ap, ap2, ◌∙◌}
+use mathlib.Core.Path.{◌≡◌, refl, sym, ap, ap₂, ◌∙◌}
 use mathlib.Core.Bool.{Bool, true, false, cond, ◌&&◌, ◌||◌}
 use mathlib.Core.List.{List, [], ◌∷◌}
 use Prim.Native.Nat.{ℕ, suc, ◌+◌, ◌-◌, ◌≤◌}
@@ -7,7 +7,7 @@ use native.Mathlib.Omega.{arith}
 use lib.Dec.{eqb, leb}
 use lib.ListN.{length, get_or, drop, length-drop}
 use lib.Seq.{get_or-drop}
-use borrow.Author.Tests.{eqb-true, leb_true, le-leb}
+use borrow.Author.Tests.{eqb-true, leb-true, le-leb}
 use Rattle.hl7.specs.Bytes.{within}
 use Rattle.hl7.proofs.Comparing.{and_both}
 use Rattle.grade.specs.Encoding.{each}
@@ -82,18 +82,18 @@ module _ (s x : Statement) (ok : ready s ≡ true) (rule : makes_rule s ≡ true
   bind-ready e f =
       let v = eqb-true (verb x) a_bound e in
       let counted : within 4 5 (length x.words) ≡ true = rw v at other.count in
-      let least = leb_true 4 (length x.words) (and_both (leb 4 (length x.words)) _ counted).0 in
-      let most = leb_true (length x.words) 5 (and_both (leb 4 (length x.words)) _ counted).1 in
+      let least = leb-true 4 (length x.words) (and_both (leb 4 (length x.words)) _ counted).0 in
+      let most = leb-true (length x.words) 5 (and_both (leb 4 (length x.words)) _ counted).1 in
       let size : length (bind (drop 3 x.words) s).words ≡ suc (length x.words) = omega (arith, length-drop 3 x.words, least) in
       let n = length (bind (drop 3 x.words) s).words in
-      let many : within 4 6 n ≡ true = ap2 ◌&&◌ (le-leb 4 n (omega (arith, size, least))) (le-leb n 6 (omega (arith, size, most))) in
+      let many : within 4 6 n ≡ true = ap₂ ◌&&◌ (le-leb 4 n (omega (arith, size, least))) (le-leb n 6 (omega (arith, size, most))) in
       let kind = same_kind s x (rule_verb_lem (λ (n : ℕ). of_place n ≡ true) refl refl (verb s) rule) (ap of_place v) f in
       let bound : bound_fits (kind_number (word x 2)) (length x.words - 3) (word x 3) (word x 4) ≡ true = rw v at other.bound in
       let words : (k : ℕ) → get_or (drop 3 x.words) k [] ≡ word x (3 + k) = λ k. get_or-drop 3 x.words k [] in
       let left : length (bind (drop 3 x.words) s).words - 4 ≡ length x.words - 3 = omega (arith, size, least) in
       rw (rule-sound (bind (drop 3 x.words) s) rule many (rule-place s ok rule) (le-leb 1 (kind_number (word s 2)) (rule_kind s ok rule)) (rule-own s ok rule)
-      (ap2 (λ (low high : List ℕ). bound_fits (kind_number (word s 2)) (length (bind (drop 3 x.words) s).words - 4) low high) (words 0) (words 1)
-      ∙ ap2 (λ (k n : ℕ). bound_fits k n (word x 3) (word x 4)) (sym kind) left
+      (ap₂ (λ (low high : List ℕ). bound_fits (kind_number (word s 2)) (length (bind (drop 3 x.words) s).words - 4) low high) (words 0) (words 1)
+      ∙ ap₂ (λ (k n : ℕ). bound_fits k n (word x 3) (word x 4)) (sym kind) left
       ∙ bound)) (and_both (sound s) _ ok).1
 
   pub amend-ready : ready (amend (spot_of s) s x) ≡ true
@@ -118,7 +118,7 @@ unfolding settled settled_as
 settled-ready [] e = refl
 settled-ready (s ∷ ss) e =
     let both = and_both (ready s) (each ready ss) e in
-    each_append ready (settled_as s ss) (settled ss) ∙ ap2 ◌&&◌ (by (makes_rule s) (dropped (spot_of s) ss) refl both.0 both.1) (settled-ready ss both.1)
+    each_append ready (settled_as s ss) (settled ss) ∙ ap₂ ◌&&◌ (by (makes_rule s) (dropped (spot_of s) ss) refl both.0 both.1) (settled-ready ss both.1)
   where
     by : (a b : Bool) → makes_rule s ≡ a → ready s ≡ true → each ready ss ≡ true → each ready (cond a (cond b [] (amended (spot_of s) s ss ∷ [])) (s ∷ [])) ≡ true
     by true true rule ok every = refl

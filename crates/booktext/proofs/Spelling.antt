@@ -1,12 +1,12 @@
 -- Laws of the codes of one set: word by word, line by line and statement by statement, written and counted. Assumes nothing.
-use mathlib.Core.Path.{◌≡◌, refl, sym, ap, ap2, subst, ◌∙◌}
+use mathlib.Core.Path.{◌≡◌, refl, sym, ap, ap₂, subst, ◌∙◌}
 use mathlib.Core.Bool.{Bool, true, false, cond, not, ◌&&◌, ◌||◌}
 use mathlib.Core.List.{List, [], ◌∷◌, ◌++◌, map, append-nil}
 use Prim.Native.Nat.{ℕ, ◌+◌, ◌-◌, ◌%◌, ◌≤◌, ◌<◌, min}
 use native.Mathlib.Omega.{arith}
 use lib.Dec.{eqb}
 use lib.ListN.{length, get_or, take, drop, length-append}
-use borrow.Author.Tests.{leb_true, eq-eqb, ne_eqb, not-true, not-false}
+use borrow.Author.Tests.{leb-true, eq-eqb, ne_eqb, not-true, not-false}
 use Rattle.hl7.specs.Bytes.{same, among}
 use Rattle.hl7.specs.declared.cut.Span.{Span}
 use Rattle.hl7.proofs.Comparing.{and_both, from_step, from_done}
@@ -124,7 +124,7 @@ module _ {t : List ℕ} {i : ℕ} {w : Span} (n : NextWord t i w) where
   words-short h e = and_both (is_short (span_bytes t w)) (each is_short (words_from t w.end)) (ap (each is_short) (sym (n.some h)) ∙ e)
 
   pub word-short : w.start < w.end → {x : List ℕ} → each is_short (words_from t i) ≡ true → x ≡ span_bytes t w → length x ≤ 255
-  word-short h e f = omega (arith, leb_true (length (span_bytes t w)) 255 (words-short h e).0, ap length f)
+  word-short h e f = omega (arith, leb-true (length (span_bytes t w)) 255 (words-short h e).0, ap length f)
 
   module _ (name : List ℕ) (ss : List Statement) where
     pub words-over : w.end ≤ w.start → kept name ss (words_from t i) ≡ []
@@ -225,7 +225,7 @@ module _ (t cells marks : List ℕ) (i : ℕ) (m : Marks (map (noted t) cells) m
 
         pub more_put : {o after : List ℕ} {a r : Run} → Spelt (kept name (map (noted t) (take (length cells - (i + 1)) (drop (i + 1) cells))) (words_from t p)) o a after r
             → Spelt (kept name after_it (added_by name (noted t (get_or cells i 0)))) o a after r
-        more_put s = spelt_as s (ap2 (kept name) (later_cells t cells marks i m) more_codes)
+        more_put s = spelt_as s (ap₂ (kept name) (later_cells t cells marks i m) more_codes)
 
 -- those of the statements in cells
 module _ (t name cells : List ℕ) (i : ℕ) where

@@ -1,12 +1,12 @@
 -- Laws of statements: what the lines from a position on say, and a loop over them or over those of a body. Assumes nothing.
 use mathlib.Core.Path.{◌≡◌, refl, sym, ap, ◌∙◌}
-use mathlib.Core.Bool.{Bool, true, false, cond, not, ◌&&◌, and_true, and-false}
+use mathlib.Core.Bool.{Bool, true, false, cond, not, ◌&&◌, and-true, and-false}
 use mathlib.Core.List.{List, [], ◌∷◌}
 use Prim.Native.Nat.{ℕ, ◌+◌, ◌≤◌, ◌<◌}
 use native.Mathlib.Omega.{arith}
 use lib.Dec.{eqb, leb, ltb}
 use lib.ListN.{length, get_or}
-use borrow.Author.Tests.{leb_true, leb_false, le-leb, lt-leb, ltb-true, ltb-false, lt-ltb, le-ltb, not-true, not-false}
+use borrow.Author.Tests.{leb-true, leb-false, le-leb, lt-leb, ltb-true, ltb-false, lt-ltb, le-ltb, not-true, not-false}
 use Rattle.hl7.specs.Bytes.{within, same}
 use Rattle.hl7.specs.Spans.{parts_from}
 use Rattle.hl7.specs.declared.cut.Span.{Span}
@@ -86,8 +86,8 @@ module _ (t : List ℕ) (rest : ℕ → List Statement) where
   found-onward {p} {r} f = by_case (leb r (length t)) refl
     where
       by_case : (b : Bool) → leb r (length t) ≡ b → rest p ≡ onward t rest r
-      by_case true e = f.some (leb_true r (length t) e) ∙ sym (onward-some (leb_true r (length t) e))
-      by_case false e = f.none (leb_false r (length t) e) ∙ sym (onward-none (leb_false r (length t) e))
+      by_case true e = f.some (leb-true r (length t) e) ∙ sym (onward-some (leb-true r (length t) e))
+      by_case false e = f.none (leb-false r (length t) e) ∙ sym (onward-none (leb-false r (length t) e))
 
   -- one turn: the search goes on with the next line
   module _ {at p r : ℕ} (h : at ≤ length t) (e : p ≡ next_line t at) (f : Finds t (rest p) (rest (next_line t r)) r) where
@@ -117,9 +117,9 @@ unfolding left words-first
 left_at t start {r} f = by_case (leb r (length t)) refl
   where
     by_case : (b : Bool) → leb r (length t) ≡ b → left t r ≡ onward t (left t) r
-    by_case false e = left_done t r (leb_false r (length t) e) ∙ sym (onward-none t (left t) (leb_false r (length t) e))
+    by_case false e = left_done t r (leb-false r (length t) e) ∙ sym (onward-none t (left t) (leb-false r (length t) e))
     by_case true e =
-        let h = leb_true r (length t) e in
+        let h = leb-true r (length t) e in
         let some : 1 ≤ length (words_from t r) = omega (arith, first-spoken start (parts_from line_feed t start) (omega (arith, ap length (f.some h))), ap words-first (f.some h)) in
         left_step t r h ∙ spoken r (words_from t r) _ (sym (lt-ltb 0 (length (words_from t r)) some)) ∙ sym (onward-some t (left t) h)
 
@@ -161,7 +161,7 @@ module _ (t name : List ℕ) (at v : ℕ) {w : List ℕ} {b : Bool} (e : w ≡ g
   pub same_name : not b ≡ false → {u : ℕ} → u ≡ verb (statement_at t at 0) → eqb u v ≡ is_of v name (statement_at t at 0)
   same_name g h =
       ap (λ (x : ℕ). eqb x v) h
-      ∙ sym (ap (λ (x : Bool). says v (statement_at t at 0) && x) (named (not-false b g)) ∙ and_true (says v (statement_at t at 0)))
+      ∙ sym (ap (λ (x : Bool). says v (statement_at t at 0) && x) (named (not-false b g)) ∙ and-true (says v (statement_at t at 0)))
 
 module _ (v : ℕ) (name : List ℕ) where
   pub from_is : (s : Statement) (ss : List Statement) {b : Bool} → is_of v name s ≡ b → from v name (s ∷ ss) ≡ cond b (s ∷ ss) (from v name ss)

@@ -1,6 +1,6 @@
 -- Laws of words and lines: what is said from a position on, word by word. A blank is passed; LF, a bar or the end ends it; a run of other bytes is a word.
 -- Assumes nothing.
-use mathlib.Core.Path.{◌≡◌, refl, sym, ap, ap2, ◌∙◌}
+use mathlib.Core.Path.{◌≡◌, refl, sym, ap, ap₂, ◌∙◌}
 use mathlib.Core.Bool.{Bool, true, false, cond, not, ◌&&◌, ◌||◌, true≢false}
 use mathlib.Core.List.{List, [], ◌∷◌, ◌++◌, append-nil}
 use Prim.Native.Nat.{ℕ, ◌+◌, ◌-◌, ◌≤◌, ◌<◌}
@@ -44,7 +44,7 @@ module _ (test : ℕ → Bool) where
   cut-run [] s e = cut-some s
   cut-run (x ∷ w) s e =
       let both = and_both (spares test x) (all (spares test) w) e in
-      ap2 (λ (b : Bool) (parts : List (List ℕ)). ahead b x parts) (not-true (test x) both.0) (cut-run w s both.1)
+      ap₂ (λ (b : Bool) (parts : List (List ℕ)). ahead b x parts) (not-true (test x) both.0) (cut-run w s both.1)
 
   first_stop : (x : ℕ) (s : List ℕ) → test x ≡ true → first test (x ∷ s) ≡ []
   unfolding cut_at ahead
@@ -241,7 +241,7 @@ module _ (t : List ℕ) (at start end : ℕ) (e : start ≡ at + length (run bla
   word_bytes =
       let w = run dark (drop start t) in
       let width : end - start ≡ length w = omega arith in
-      ap2 (λ (n : ℕ) (l : List ℕ). take n l) width (sym (run_split dark (drop start t))) ∙ take-append_seam w (drop (length w) (drop start t))
+      ap₂ (λ (n : ℕ) (l : List ℕ). take n l) width (sym (run_split dark (drop start t))) ∙ take-append_seam w (drop (length w) (drop start t))
 
   word-within : start < end → end ≤ length t
   word-within h =

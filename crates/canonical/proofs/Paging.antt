@@ -1,5 +1,5 @@
 -- Blocks of printed lines: which verbs they have, where a block ends, and where a head is found by its name. Assumes nothing.
-use mathlib.Core.Path.{◌≡◌, refl, sym, ap, ap2, ◌∙◌}
+use mathlib.Core.Path.{◌≡◌, refl, sym, ap, ap₂, ◌∙◌}
 use mathlib.Core.Bool.{Bool, true, false, cond, not, ◌&&◌, ◌||◌, true≢false}
 use mathlib.Core.List.{List, [], ◌∷◌, ◌++◌, append-nil, append_assoc}
 use Prim.Native.Nat.{ℕ, ◌+◌}
@@ -32,7 +32,7 @@ distinct_apart [] x ys e = refl
 distinct_apart (y ∷ xs) x ys e =
     let both = and_both (not (among y (xs ++ (x ∷ ys)))) (distinct (xs ++ (x ∷ ys))) e in
     let later = or_neither (among y xs) (same y x || among y ys) (sym (among-append y xs (x ∷ ys)) ∙ not-true _ both.0) in
-    ap2 ◌||◌ (same_turned y x (or_neither (same y x) (among y ys) later.1).0) (distinct_apart xs x ys both.1)
+    ap₂ ◌||◌ (same_turned y x (or_neither (same y x) (among y ys) later.1).0) (distinct_apart xs x ys both.1)
 
 pub distinct_append : (xs ys : List (List ℕ)) → distinct xs ≡ true → distinct ys ≡ true → each (λ (x : List ℕ). not (among x ys)) xs ≡ true → distinct (xs ++ ys) ≡ true
 unfolding distinct
@@ -40,7 +40,7 @@ distinct_append [] ys e f g = f
 distinct_append (x ∷ xs) ys e f g =
     let one = and_both (not (among x xs)) (distinct xs) e in
     let two = and_both (not (among x ys)) (each (λ (y : List ℕ). not (among y ys)) xs) g in
-    ap2 ◌&&◌ (ap not (among-append x xs ys ∙ ap2 ◌||◌ (not-true (among x xs) one.0) (not-true (among x ys) two.0))) (distinct_append xs ys one.1 f two.1)
+    ap₂ ◌&&◌ (ap not (among-append x xs ys ∙ ap₂ ◌||◌ (not-true (among x xs) one.0) (not-true (among x ys) two.0))) (distinct_append xs ys one.1 f two.1)
 
 -- so each is noted, and those that are noted change nothing
 pub names_new : (xs ys : List (List ℕ)) → distinct (xs ++ ys) ≡ true → with_names xs ys ≡ xs ++ ys

@@ -1,5 +1,5 @@
 -- What printed lines are when they are read back: each line says its words, and stands where the lines before it end. Assumes nothing.
-use mathlib.Core.Path.{◌≡◌, refl, sym, ap, ap2, ◌∙◌}
+use mathlib.Core.Path.{◌≡◌, refl, sym, ap, ap₂, ◌∙◌}
 use mathlib.Core.Bool.{Bool, true, not, ◌&&◌, true≢false}
 use mathlib.Core.List.{List, [], ◌∷◌, ◌++◌, append_assoc}
 use Prim.Native.Nat.{ℕ, ◌+◌}
@@ -81,7 +81,7 @@ module _ (test : ℕ → Bool) (weaker : (x : ℕ) → Clean x ≡ true → test
   all-marked [] e = refl
   all-marked (w ∷ ws) e =
       let both = and_both (is_word w) (each is_word ws) e in
-      ap2 ◌&&◌ passes (all_append test w (marked 32 ws) (all-word w both.0) (all-marked ws both.1))
+      ap₂ ◌&&◌ passes (all_append test w (marked 32 ws) (all-word w both.0) (all-marked ws both.1))
 
   pub all-joined : (ws : List (List ℕ)) → each is_word ws ≡ true → all test (joined 32 ws) ≡ true
   unfolding joined all

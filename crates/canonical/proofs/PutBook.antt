@@ -1,5 +1,5 @@
 -- Laws of writing a whole book: its sections, the text before them, and what showing it answers. Assumes nothing.
-use mathlib.Core.Path.{◌≡◌, refl, sym, ap, ap2, ◌∙◌}
+use mathlib.Core.Path.{◌≡◌, refl, sym, ap, ap₂, ◌∙◌}
 use mathlib.Core.Bool.{Bool, true, false, cond}
 use mathlib.Core.List.{List, [], ◌∷◌, ◌++◌, map}
 use Prim.Native.Nat.{ℕ, ◌+◌, ◌≤◌, ◌<◌}
@@ -66,10 +66,10 @@ module _ (b : List ℕ) (start : ℕ) (stands : stands_at b start ≡ true) wher
         let rules : rules_in b s ≡ c.rules = sym itself.0 in
         let many : length c.sets ≡ count = ap length itself.1 ∙ sets-length b s section-holds ∙ sym en in
         wrote_as
-        (wrote_as sets-put (ap2 (λ (k : List ℕ) (l : List (List (List ℕ))). printed (set_lines k 1 l)) named sets)
+        (wrote_as sets-put (ap₂ (λ (k : List ℕ) (l : List (List (List ℕ))). printed (set_lines k 1 l)) named sets)
         then two_written (bytes "section") named first-put key-put feed-put
         then wrote_as pin-put (ap (λ (k : List ℕ). pin_bytes k count) named ∙ pin_printed c.key c.sets many)
-        then wrote_as rules-put (ap2 (λ (k : List ℕ) (l : List Rule). printed (rule_lines k [] l)) named rules))
+        then wrote_as rules-put (ap₂ (λ (k : List ℕ) (l : List Rule). printed (rule_lines k [] l)) named rules))
         (section_lines_lem c)
 
 -- ---- sections, one after the other

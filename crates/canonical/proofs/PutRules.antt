@@ -1,5 +1,5 @@
 -- Laws of writing a section's rules: their words, their lines, and the places and kinds that are noted on the way. Assumes nothing.
-use mathlib.Core.Path.{◌≡◌, refl, sym, ap, ap2, ◌∙◌}
+use mathlib.Core.Path.{◌≡◌, refl, sym, ap, ap₂, ◌∙◌}
 use mathlib.Core.Bool.{Bool, true, false, cond, ◌||◌, or_assoc, or-false}
 use mathlib.Core.List.{List, [], ◌∷◌, ◌++◌, append-nil, append_assoc}
 use Prim.Native.Char.{code}
@@ -83,7 +83,7 @@ module _ (rules : List Rule) (i : ℕ) (spots : List ℕ) where
     rules_more h k e =
         let noted = ap (λ (n : ℕ). take n (set spots i (rule_spot rule))) (add-one i) ∙ take-suc-set spots i (rule_spot rule) k in
         ap (λ (l : List Rule). printed (rule_lines key (take i spots) l)) (drop-cons rules i no_rule h)
-        ∙ ap2 (λ (before : List ℕ) (n : ℕ). line_bytes (rule_line key (take i spots) rule) ++ printed (rule_lines key before (drop n rules)))
+        ∙ ap₂ (λ (before : List ℕ) (n : ℕ). line_bytes (rule_line key (take i spots) rule) ++ printed (rule_lines key before (drop n rules)))
         (sym (ap (take (i + 1)) e ∙ noted)) (sym (add-one i))
 
     pub rules-over : length rules ≤ i → rules_from ≡ []

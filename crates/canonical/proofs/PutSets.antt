@@ -1,5 +1,5 @@
 -- Laws of writing a section's sets: a line of two words, the codes, the sets, and the line that fixes their order. Assumes nothing.
-use mathlib.Core.Path.{◌≡◌, refl, sym, ap, ap2, ◌∙◌}
+use mathlib.Core.Path.{◌≡◌, refl, sym, ap, ap₂, ◌∙◌}
 use mathlib.Core.Bool.{Bool, true, cond}
 use mathlib.Core.List.{List, [], ◌∷◌, ◌++◌, map, append-nil, append_assoc}
 use Prim.Native.Nat.{ℕ, suc, ◌+◌, ◌-◌, ◌≤◌, ◌<◌}
@@ -81,7 +81,7 @@ module _ (key : List ℕ) (sets : List (List (List ℕ))) (i : ℕ) where
       let line = bytes "set" ∷ set_name key (i + 1) ∷ [] in
       ap (λ (l : List (List (List ℕ))). printed (set_lines key (i + 1) l)) (drop-cons sets i [] h)
       ∙ printed_both (line ∷ map code_line (get_or sets i [])) (set_lines key (suc (i + 1)) (drop (suc i) sets))
-      ∙ ap2 (λ (m n : ℕ). printed (line ∷ map code_line (get_or sets i [])) ++ printed (set_lines key m (drop n sets))) (sym (add-one (i + 1))) (sym (add-one i))
+      ∙ ap₂ (λ (m n : ℕ). printed (line ∷ map code_line (get_or sets i [])) ++ printed (set_lines key m (drop n sets))) (sym (add-one (i + 1))) (sym (add-one i))
       ∙ ap (λ (cs : List (List ℕ)). printed (line ∷ map code_line cs) ++ printed (set_lines key (i + 1 + 1) (drop (i + 1) sets))) (sym e)
 
   pub sets_over : length sets ≤ i → sets_from ≡ []

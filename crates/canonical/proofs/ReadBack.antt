@@ -1,5 +1,5 @@
 -- Numbers, places, kinds, severities and names that were spelled are read back, and what was spelled is a word. Assumes nothing.
-use mathlib.Core.Path.{◌≡◌, refl, sym, ap, ap2, ◌∙◌}
+use mathlib.Core.Path.{◌≡◌, refl, sym, ap, ap₂, ◌∙◌}
 use mathlib.Core.Bool.{Bool, true, false, cond, not, ◌&&◌, ◌||◌, and-false, true≢false}
 use mathlib.Core.List.{List, [], ◌∷◌, ◌++◌, head-eq_of_cons-eq, tail-eq_of_cons-eq}
 use Prim.Native.Char.{code}
@@ -7,7 +7,7 @@ use Prim.Native.Nat.{ℕ, ◌≤◌}
 use native.Mathlib.Omega.{arith}
 use lib.Dec.{eqb, leb}
 use lib.ListN.{length, get_or, length-append}
-use borrow.Author.Tests.{leb_true, eqb-true, le-leb}
+use borrow.Author.Tests.{leb-true, eqb-true, le-leb}
 use Rattle.hl7.specs.Bytes.{within, all, differs, same}
 use Rattle.hl7.specs.Cut.{ahead, cut}
 use Rattle.hl7.specs.Number.{value_after}
@@ -42,13 +42,13 @@ plain-clean x e = by (plain x) (Clean x) (upto-at (λ (k : ℕ). not (plain k) |
         let v = and_both _ (not (eqb x (code "~"))) u.0 in
         let w = and_both _ (not (eqb x (code "^"))) v.0 in
         let y = and_both (within 33 126 x) (not (eqb x (code "|"))) w.0 in
-        leb_true x 126 (and_both (leb 33 x) (leb x 126) y.0).1
+        leb-true x 126 (and_both (leb 33 x) (leb x 126) y.0).1
 
 -- a key or a code is a word
 pub text-word : (limit : ℕ) (w : List ℕ) → text_fits limit w ≡ true → is_word w ≡ true
 text-word limit w e =
     let both = and_both (within 1 limit (length w)) (all plain w) e in
-    ap2 ◌&&◌ (and_both (leb 1 (length w)) (leb (length w) limit) both.0).0 (all_as plain Clean plain-clean w both.1)
+    ap₂ ◌&&◌ (and_both (leb 1 (length w)) (leb (length w) limit) both.0).0 (all_as plain Clean plain-clean w both.1)
 
 -- ---- numbers
 abbrev number_back : ℕ → Bool
@@ -115,10 +115,10 @@ module _ (p : Place) (fits : place_fits p ≡ true) where
   place_bounds =
       let outer = and_both (counted p.segment && within (first_field p.segment) field_limit p.field) (leb p.component component_limit) fits in
       let inner = and_both (counted p.segment) (within (first_field p.segment) field_limit p.field) outer.0 in
-      (inner.0, inner.1, leb_true p.component component_limit outer.1)
+      (inner.0, inner.1, leb-true p.component component_limit outer.1)
 
   pub field_small : p.field ≤ 99
-  field_small = leb_true p.field field_limit (and_both (leb (first_field p.segment) p.field) (leb p.field field_limit) place_bounds.1).1
+  field_small = leb-true p.field field_limit (and_both (leb (first_field p.segment) p.field) (leb p.field field_limit) place_bounds.1).1
 
   abbrev numbers : List ℕ
   numbers = tail p.field p.component
@@ -157,14 +157,14 @@ module _ (p : Place) (fits : place_fits p ≡ true) where
   pub place_right_lem : is_place (place_word p) ≡ true
   unfolding is_place place_in
   place_right_lem =
-      ap2 ◌&&◌
+      ap₂ ◌&&◌
       (ap (λ (w : List ℕ). eqb (get_or w 3 0) (code "-") && (not (pointed w) || leb 1 (component w))) place_spelled ∙ numbers-right.2)
       (ap place_fits place_back ∙ fits)
 
   pub place_word_lem : is_word (place_word p) ≡ true
   unfolding place_word all
   place_word_lem =
-      ap2 ◌&&◌
+      ap₂ ◌&&◌
       (le-leb 1 (length (place_word p)) (omega (arith, ap length place_spelled)))
       (all_append Clean (name_bytes p.segment) (code "-" ∷ numbers) (name_right_lem p.segment place_bounds.0).1 numbers-right.3)
 
@@ -216,7 +216,7 @@ module _ (m n : ℕ) (h : m ≤ 255) (g : n ≤ 255) where
   name_back [] [] e = (refl, sym (number_back_lem m h) ∙ ap number_in (tail-eq_of_cons-eq e) ∙ number_back_lem n g)
   name_back [] (y ∷ l) e = absurd (true≢false (sym (no_slash m h) ∙ ap (all (differs (code "/"))) (tail-eq_of_cons-eq e) ∙ has_slash l (decimal n)))
   name_back (x ∷ k) [] e = absurd (true≢false (sym (no_slash n g) ∙ ap (all (differs (code "/"))) (sym (tail-eq_of_cons-eq e)) ∙ has_slash k (decimal m)))
-  name_back (x ∷ k) (y ∷ l) e = let both = name_back k l (tail-eq_of_cons-eq e) in (ap2 ◌∷◌ (head-eq_of_cons-eq e) both.0, both.1)
+  name_back (x ∷ k) (y ∷ l) e = let both = name_back k l (tail-eq_of_cons-eq e) in (ap₂ ◌∷◌ (head-eq_of_cons-eq e) both.0, both.1)
 
   apart : (k l : List ℕ) → (set_name k m ≡ set_name l n → ⊥) → same (set_name k m) (set_name l n) ≡ false
   apart k l differ = by (same (set_name k m) (set_name l n)) refl
@@ -235,5 +235,5 @@ module _ (m n : ℕ) (h : m ≤ 255) (g : n ≤ 255) where
 pub name-word : (limit : ℕ) (key : List ℕ) (n : ℕ) → text_fits limit key ≡ true → n ≤ 255 → is_word (set_name key n) ≡ true
 unfolding all
 name-word limit key n e h =
-    ap2 ◌&&◌ (le-leb 1 (length (set_name key n)) (omega (arith, length-append key (code "/" ∷ decimal n))))
+    ap₂ ◌&&◌ (le-leb 1 (length (set_name key n)) (omega (arith, length-append key (code "/" ∷ decimal n))))
     (all_append Clean key (code "/" ∷ decimal n) (word-clean key (text-word limit key e)) (word-clean (decimal n) (number_word n h)))

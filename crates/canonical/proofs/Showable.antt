@@ -1,12 +1,12 @@
 -- What can be shown, the lines that show it, and the verbs that they have. Assumes nothing.
-use mathlib.Core.Path.{◌≡◌, refl, sym, ap2}
+use mathlib.Core.Path.{◌≡◌, refl, sym, ap₂}
 use mathlib.Core.Bool.{Bool, true, false, cond, ◌&&◌, ◌||◌, true≢false}
 use mathlib.Core.List.{List, [], ◌∷◌, ◌++◌, map}
 use Prim.Native.Nat.{ℕ, suc, ◌≤◌}
 use native.Mathlib.Omega.{arith}
 use lib.Dec.{eqb, leb}
 use lib.ListN.{length}
-use borrow.Author.Tests.{leb_true, eqb-true}
+use borrow.Author.Tests.{leb-true, eqb-true}
 use Rattle.hl7.specs.Text.{bytes}
 use Rattle.hl7.specs.Bytes.{within, is_in, same}
 use Rattle.hl7.proofs.Comparing.{and_both}
@@ -53,8 +53,8 @@ fits-of c e f =
     let w = and_both (leb (length c.rules) rule_limit) (leb (length c.sets) set_limit) v.1 in
     record {
       key = v.0;
-      few_rules = leb_true (length c.rules) rule_limit w.0;
-      few_sets = leb_true (length c.sets) set_limit w.1;
+      few_rules = leb-true (length c.rules) rule_limit w.0;
+      few_sets = leb-true (length c.sets) set_limit w.1;
       rules = both (length c.sets) c.rules u.1 f;
       sets = t.1;
     }
@@ -64,7 +64,7 @@ fits-of c e f =
     both sets (r ∷ rules) e f =
         let one = and_both (rule_fits sets r) (each (rule_fits sets) rules) e in
         let two = and_both (high_said r.kind) (each (λ (q : Rule). high_said q.kind) rules) f in
-        ap2 ◌&&◌ (ap2 ◌&&◌ one.0 two.0) (both sets rules one.1 two.1)
+        ap₂ ◌&&◌ (ap₂ ◌&&◌ one.0 two.0) (both sets rules one.1 two.1)
 
 abbrev pub AllFit : List Contents → Type 0
 AllFit [] = Unit {0}
@@ -83,7 +83,7 @@ formed cs e h =
     let t = and_both _ (leb (length (book_bytes cs)) book_limit) e in
     let u = and_both _ (distinct (keys cs)) t.0 in
     let v = and_both (within 1 section_limit (length cs)) (each section_fits cs) u.0 in
-    record { few = v.0; fit = all_fit cs v.1 h; differ = u.1; short = leb_true (length (book_bytes cs)) book_limit t.1 }
+    record { few = v.0; fit = all_fit cs v.1 h; differ = u.1; short = leb-true (length (book_bytes cs)) book_limit t.1 }
   where
     all_fit : (cs : List Contents) → each section_fits cs ≡ true → each high_fits cs ≡ true → AllFit cs
     all_fit [] e h = tt
@@ -104,10 +104,10 @@ module _ (sets : ℕ) (r : Rule) (e : is_shown sets r ≡ true) where
   shown_high = (and_both (rule_fits sets r) (high_said r.kind) e).1
 
 pub within_bounds : (low high n : ℕ) → within low high n ≡ true → (low ≤ n) × (n ≤ high)
-within_bounds low high n e = let both = and_both (leb low n) (leb n high) e in (leb_true low n both.0, leb_true n high both.1)
+within_bounds low high n e = let both = and_both (leb low n) (leb n high) e in (leb-true low n both.0, leb-true n high both.1)
 
 pub length_bounds : (low high : ℕ) → within 1 high low ≡ true → leb high 255 ≡ true → (low ≤ 255) × (high ≤ 255)
-length_bounds low high e f = let small = leb_true high 255 f in (omega (arith, within_bounds 1 high low e), small)
+length_bounds low high e f = let small = leb-true high 255 f in (omega (arith, within_bounds 1 high low e), small)
 
 pub time_bound : (n : ℕ) → time_digits n ≡ true → n ≤ 14
 time_bound n =
@@ -155,7 +155,7 @@ module _ (test : ℕ → Bool) where
   rule-verbs : (key before : List ℕ) (rules : List Rule) → test a_rule ≡ true → test an_also ≡ true → verbs_pass test (rule_lines key before rules) ≡ true
   unfolding rule_lines
   rule-verbs key before [] r a = refl
-  rule-verbs key before (x ∷ rules) r a = ap2 ◌&&◌ (rule_verb_lem before x r a) (rule-verbs key (before ++ (rule_spot x ∷ [])) rules r a)
+  rule-verbs key before (x ∷ rules) r a = ap₂ ◌&&◌ (rule_verb_lem before x r a) (rule-verbs key (before ++ (rule_spot x ∷ [])) rules r a)
 
   pub page_verbs : (c : Contents) → test some_sets ≡ true → test a_rule ≡ true → test an_also ≡ true → verbs_pass test (page_lines c) ≡ true
   unfolding verb_of verbs number_from same
@@ -163,15 +163,15 @@ module _ (test : ℕ → Bool) where
     where
       pins : (sets : List (List (List ℕ))) → verbs_pass test (pin_lines c.key sets) ≡ true
       pins [] = refl
-      pins (set ∷ sets) = ap2 ◌&&◌ s refl
+      pins (set ∷ sets) = ap₂ ◌&&◌ s refl
 
   pub code_verbs : (codes : List (List ℕ)) → test a_code ≡ true → verbs_pass test (map code_line codes) ≡ true
   unfolding verb_of verbs number_from same
   code_verbs [] k = refl
-  code_verbs (c ∷ codes) k = ap2 ◌&&◌ k (code_verbs codes k)
+  code_verbs (c ∷ codes) k = ap₂ ◌&&◌ k (code_verbs codes k)
 
   pub set-verbs : (key : List ℕ) (n : ℕ) (sets : List (List (List ℕ))) → test a_set ≡ true → test a_code ≡ true → verbs_pass test (set_lines key n sets) ≡ true
   unfolding set_lines verb_of verbs number_from same
   set-verbs key n [] s k = refl
   set-verbs key n (codes ∷ sets) s k =
-      ap2 ◌&&◌ s (each_join (λ (ws : List (List ℕ)). test (line_verb ws)) (map code_line codes) (set_lines key (suc n) sets) (code_verbs codes k) (set-verbs key (suc n) sets s k))
+      ap₂ ◌&&◌ s (each_join (λ (ws : List (List ℕ)). test (line_verb ws)) (map code_line codes) (set_lines key (suc n) sets) (code_verbs codes k) (set-verbs key (suc n) sets s k))

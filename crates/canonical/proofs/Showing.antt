@@ -1,5 +1,5 @@
 -- What a section's own lines of the canonical text say: its rules, and the names of its sets. Assumes nothing.
-use mathlib.Core.Path.{◌≡◌, refl, sym, ap, ap2, ◌∙◌}
+use mathlib.Core.Path.{◌≡◌, refl, sym, ap, ap₂, ◌∙◌}
 use mathlib.Core.Bool.{Bool, true, false, cond, not, ◌&&◌, ◌||◌, true≢false}
 use mathlib.Core.List.{List, [], ◌∷◌, ◌++◌, append-nil}
 use Prim.Native.Nat.{ℕ, suc, ◌+◌, ◌≤◌, ◌<◌}
@@ -54,13 +54,13 @@ module _ (key : List ℕ) where
       → among (set_name other m) (set_names key n sets) ≡ false
   unfolding among set_names
   names_apart other m n [] h few e = refl
-  names_apart other m n (set ∷ sets) h few e = ap2 ◌||◌ (e n (omega arith) (omega arith)) (names_apart other m (suc n) sets h (omega arith) (λ k low high. e k (omega arith) high))
+  names_apart other m n (set ∷ sets) h few e = ap₂ ◌||◌ (e n (omega arith) (omega arith)) (names_apart other m (suc n) sets h (omega arith) (λ k low high. e k (omega arith) high))
 
   pub names-distinct : (n : ℕ) (sets : List (List (List ℕ))) → n + length sets ≤ 256 → distinct (set_names key n sets) ≡ true
   unfolding distinct set_names
   names-distinct n [] few = refl
   names-distinct n (set ∷ sets) few =
-      ap2 ◌&&◌
+      ap₂ ◌&&◌
       (ap not (names_apart key n (suc n) sets (omega arith) (omega arith) (λ k low high. other_number_lem n k (omega arith) high key (λ e. absurd (omega arith)))))
       (names-distinct (suc n) sets (omega arith))
 
@@ -97,7 +97,7 @@ module _ (key : List ℕ) (sets : List (List (List ℕ))) (few : length sets ≤
   rules_back at before (r ∷ rules) e =
       let both = and_both (is_shown (length sets) r) (each (is_shown (length sets)) rules) e in
       let next = next_at at (rule_line key before r) in
-      rw (makes_rule_lem before r) (ap2 ◌∷◌ (made_back at before r both.0) (rules_back next (before ++ (rule_spot r ∷ [])) rules both.1))
+      rw (makes_rule_lem before r) (ap₂ ◌∷◌ (made_back at before r both.0) (rules_back next (before ++ (rule_spot r ∷ [])) rules both.1))
 
   abbrev in_names : List ℕ → Bool
   in_names x = among x (set_names key 1 sets)
@@ -121,7 +121,7 @@ module _ (key : List ℕ) (sets : List (List (List ℕ))) (few : length sets ≤
       by Kind.Number e f = rw f h
       by Kind.Date e f = rw f h
       by (Kind.Time digits) e f = rw f h
-      by (Kind.Code set) e f = let bounds = within_bounds 1 (length sets) set e in rw f (ap2 ◌&&◌ (name-among key set 1 sets bounds.0 (omega arith)) h)
+      by (Kind.Code set) e f = let bounds = within_bounds 1 (length sets) set e in rw f (ap₂ ◌&&◌ (name-among key set 1 sets bounds.0 (omega arith)) h)
 
   named_in : (at : ℕ) (before : List ℕ) (rules : List Rule) → each (is_shown (length sets)) rules ≡ true → each in_names (named (placed at (rule_lines key before rules))) ≡ true
   unfolding named placed rule_lines

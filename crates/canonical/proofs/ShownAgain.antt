@@ -1,5 +1,5 @@
 -- A book that is shown and compiled again is the same book. Assumes nothing.
-use mathlib.Core.Path.{◌≡◌, refl, sym, ap, ap2, ◌∙◌}
+use mathlib.Core.Path.{◌≡◌, refl, sym, ap, ap₂, ◌∙◌}
 use mathlib.Core.Bool.{Bool, true, false, ◌&&◌}
 use mathlib.Core.List.{List, [], ◌∷◌, ◌++◌}
 use Prim.Native.Nat.{ℕ, suc, ◌≤◌}
@@ -33,7 +33,7 @@ small x = ltb x 256
 all_small : (b : List ℕ) → Bytes b → all small b ≡ true
 unfolding all
 all_small [] h = refl
-all_small (x ∷ b) h = ap2 ◌&&◌ (lt-ltb x 256 (h 0)) (all_small b (λ k. h (suc k)))
+all_small (x ∷ b) h = ap₂ ◌&&◌ (lt-ltb x 256 (h 0)) (all_small b (λ k. h (suc k)))
 
 parts : (s t : List ℕ) → all small (s ++ t) ≡ true → (all small s ≡ true) × (all small t ≡ true)
 unfolding all
@@ -41,7 +41,7 @@ parts [] t e = (refl, e)
 parts (x ∷ s) t e =
     let both = and_both (small x) (all small (s ++ t)) e in
     let more = parts s t both.1 in
-    (ap2 ◌&&◌ both.0 more.0, more.1)
+    (ap₂ ◌&&◌ both.0 more.0, more.1)
 
 kind_said : (k : Kind) → all small (last_bytes k) ≡ true → high_said k ≡ true
 unfolding all
@@ -61,7 +61,7 @@ rules-said (r ∷ rules) e =
     let both = parts (rule_bytes r) (spell_all rule_bytes rules) e in
     let four = r.place.field ∷ r.place.component ∷ kind_byte r.kind ∷ severity_letter r.severity ∷ [] in
     let after = (parts (name_bytes r.place.segment) (four ++ last_bytes r.kind) both.0).1 in
-    ap2 ◌&&◌ (kind_said r.kind (parts four (last_bytes r.kind) after).1) (rules-said rules both.1)
+    ap₂ ◌&&◌ (kind_said r.kind (parts four (last_bytes r.kind) after).1) (rules-said rules both.1)
 
 sections-said : (cs : List Contents) → all small (spell_all section_bytes cs) ≡ true → each high_fits cs ≡ true
 sections-said [] e = refl
@@ -71,7 +71,7 @@ sections-said (c ∷ cs) e =
     let held = spell_all set_bytes c.sets in
     let head = two_bytes_of (length c.rules) ++ (length c.sets ∷ []) in
     let after = (parts (text_bytes c.key) (head ++ (ruled ++ held)) both.0).1 in
-    ap2 ◌&&◌ (rules-said c.rules (parts ruled held (parts head (ruled ++ held) after).1).0) (sections-said cs both.1)
+    ap₂ ◌&&◌ (rules-said c.rules (parts ruled held (parts head (ruled ++ held) after).1).0) (sections-said cs both.1)
 
 book-said : (cs : List Contents) → all small (book_bytes cs) ≡ true → each high_fits cs ≡ true
 unfolding book_bytes

@@ -1,5 +1,5 @@
 -- The canonical text of a book means the book: its sets are found by their names, which differ, and each section says its own. Assumes nothing.
-use mathlib.Core.Path.{◌≡◌, refl, sym, ap, ap2, ◌∙◌}
+use mathlib.Core.Path.{◌≡◌, refl, sym, ap, ap₂, ◌∙◌}
 use mathlib.Core.Bool.{true, false, not, ◌&&◌, ◌||◌}
 use mathlib.Core.List.{List, [], ◌∷◌, ◌++◌, map, append-nil, append_assoc}
 use Prim.Native.Nat.{ℕ, suc, ◌+◌, ◌≤◌}
@@ -77,7 +77,7 @@ sets_back all pre key n (codes ∷ sets) tail d e ends =
     let later = set_lines key (suc n) sets ++ tail in
     let here = e ∙ ap (λ (l : Lines). pre ++ (set_line key n ∷ l)) (append_assoc lines (set_lines key (suc n) sets) tail) in
     let there = here ∙ sym (append_assoc pre (set_line key n ∷ lines) later) in
-    ap2 ◌∷◌
+    ap₂ ◌∷◌
     (set_back all pre key n codes later d here (sets_end_lem key (suc n) sets tail ends))
     (sets_back all (pre ++ (set_line key n ∷ lines)) key (suc n) sets tail d there ends)
 
@@ -128,7 +128,7 @@ sections_back all pre at (c ∷ cs) fits d e =
     ap (λ (l : Lines). sections_in (placed 0 all) (placed at l)) (book-parted c cs)
     ∙ ap (sections_in (placed 0 all)) (placed-append at (sets c cs) (section_line c.key ∷ after c cs))
     ∙ skip_sections (placed 0 all) at (sets c cs) (placed here (section_line c.key ∷ after c cs)) (set-verbs (is_not a_section) c.key 1 c.sets refl refl)
-    ∙ ap2 ◌∷◌
+    ∙ ap₂ ◌∷◌
     (section_back c cs all pre d e page fits.0)
     (ap (sections_in (placed 0 all)) (placed-append page (page_lines c) (book_lines cs))
     ∙ skip_sections (placed 0 all) page (page_lines c) (placed next (book_lines cs)) (page_verbs (is_not a_section) c refl refl refl)
@@ -145,16 +145,16 @@ sets-named key n [] = refl
 sets-named key n (codes ∷ sets) =
     ap (λ (l : List (List ℕ)). set_name key n ∷ l)
     (names_at-append a_set (map code_line codes) (set_lines key (suc n) sets)
-    ∙ ap2 ◌++◌ (names_at-none a_set (map code_line codes) (code_verbs (is_not a_set) codes refl)) (sets-named key (suc n) sets))
+    ∙ ap₂ ◌++◌ (names_at-none a_set (map code_line codes) (code_verbs (is_not a_set) codes refl)) (sets-named key (suc n) sets))
 
 pub book-named : (cs : List Contents) → names_at a_set (all_lines cs) ≡ all_names cs
 unfolding names_at book_lines section_lines all_names verb_of verbs number_from same
 book-named [] = refl
 book-named (c ∷ cs) =
     names_at-append a_set (section_lines c) (book_lines cs)
-    ∙ ap2 ◌++◌
+    ∙ ap₂ ◌++◌
     (names_at-append a_set (sets c cs) (section_line c.key ∷ page_lines c)
-    ∙ ap2 ◌++◌ (sets-named c.key 1 c.sets) (names_at-none a_set (page_lines c) (page_verbs (is_not a_set) c refl refl refl))
+    ∙ ap₂ ◌++◌ (sets-named c.key 1 c.sets) (names_at-none a_set (page_lines c) (page_verbs (is_not a_set) c refl refl refl))
     ∙ append-nil (set_names c.key 1 c.sets))
     (book-named cs)
 
@@ -166,14 +166,14 @@ foreign key n (c ∷ cs) h fits e =
     let neither = or_neither (same key c.key) (among key (keys cs)) e in
     let few = fits.0.few_sets in
     among-append (set_name key n) (set_names c.key 1 c.sets) (all_names cs)
-    ∙ ap2 ◌||◌
+    ∙ ap₂ ◌||◌
     (names_apart c.key key n 1 c.sets h (omega arith) (λ k low high. other_key n k h high key c.key neither.0))
     (foreign key n cs h fits.1 neither.1)
 
 own_foreign : (key : List ℕ) (n : ℕ) (sets : List (List (List ℕ))) (cs : List Contents) → n + length sets ≤ 256 → AllFit cs → among key (keys cs) ≡ false → each (λ (x : List ℕ). not (among x (all_names cs))) (set_names key n sets) ≡ true
 unfolding set_names
 own_foreign key n [] cs few fits e = refl
-own_foreign key n (codes ∷ sets) cs few fits e = ap2 ◌&&◌ (ap not (foreign key n cs (omega arith) fits e)) (own_foreign key (suc n) sets cs (omega arith) fits e)
+own_foreign key n (codes ∷ sets) cs few fits e = ap₂ ◌&&◌ (ap not (foreign key n cs (omega arith) fits e)) (own_foreign key (suc n) sets cs (omega arith) fits e)
 
 names_differ : (cs : List Contents) → AllFit cs → distinct (keys cs) ≡ true → distinct (all_names cs) ≡ true
 unfolding distinct all_names

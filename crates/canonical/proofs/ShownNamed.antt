@@ -1,7 +1,7 @@
 -- No row refuses a name of the canonical text: the names of sets differ, so do those of sections, and every set that is named is there (rows 43 to 45).
 -- Assumes nothing.
-use mathlib.Core.Path.{◌≡◌, refl, sym, ap, ap2, ◌∙◌}
-use mathlib.Core.Bool.{Bool, true, false, cond, not, ◌&&◌, ◌||◌, or_true}
+use mathlib.Core.Path.{◌≡◌, refl, sym, ap, ap₂, ◌∙◌}
+use mathlib.Core.Bool.{Bool, true, false, cond, not, ◌&&◌, ◌||◌, or-true}
 use mathlib.Core.List.{List, [], ◌∷◌, ◌++◌, map, append_assoc}
 use Prim.Native.Nat.{ℕ, suc, ◌+◌, ◌≤◌, ◌<◌}
 use native.Mathlib.Omega.{arith}
@@ -126,14 +126,14 @@ module _ (all : List Statement) where
     rule-known before [] e = refl
     rule-known before (r ∷ rules) e =
         let both = and_both (is_shown (length sets) r) (each (is_shown (length sets)) rules) e in
-        ap2 ◌&&◌
+        ap₂ ◌&&◌
         (ap not (rule-asks (is_in (rule_spot r) before) (place_word r.place) (kind_word r.kind) (severity_letter r.severity ∷ []) (bound_words key r.kind) ∙ bound-known r.kind (shown_kind (length sets) r both.0)))
         (rule-known (before ++ (rule_spot r ∷ [])) rules both.1)
 
   names-there : (key : List ℕ) (n : ℕ) (sets : List (List (List ℕ))) → ((m : ℕ) → n ≤ m → m < n + length sets → is_set all (set_name key m) ≡ true) → each (is_set all) (set_names key n sets) ≡ true
   unfolding set_names
   names-there key n [] there = refl
-  names-there key n (set ∷ sets) there = ap2 ◌&&◌ (there n (omega arith) (omega arith)) (names-there key (suc n) sets (λ m low high. there m (omega arith) (omega arith)))
+  names-there key n (set ∷ sets) there = ap₂ ◌&&◌ (there n (omega arith) (omega arith)) (names-there key (suc n) sets (λ m low high. there m (omega arith) (omega arith)))
 
   pin_known : (key : List ℕ) (sets : List (List (List ℕ))) → ((m : ℕ) → 1 ≤ m → m ≤ length sets → is_set all (set_name key m) ≡ true) → each (names all) (pin_lines key sets) ≡ true
   unfolding lacks verb_of verbs number_from same
@@ -152,7 +152,7 @@ module _ (all : List Statement) where
       let mine : (m : ℕ) → 1 ≤ m → m ≤ length c.sets → is_set all (set_name c.key m) ≡ true =
       λ m low high. there (set_name c.key m) (among-append (set_name c.key m) own (all_names cs) ∙ ap (λ (b : Bool). b || among (set_name c.key m) (all_names cs)) (name-among c.key m 1 c.sets low (omega arith))) in
       let others : (x : List ℕ) → among x (all_names cs) ≡ true → is_set all x ≡ true =
-      λ x e. there x (among-append x own (all_names cs) ∙ ap (λ (b : Bool). among x own || b) e ∙ or_true (among x own)) in
+      λ x e. there x (among-append x own (all_names cs) ∙ ap (λ (b : Bool). among x own || b) e ∙ or-true (among x own)) in
       ap (each (names all)) (book-parted c cs)
       ∙ each_join (names all) (sets c cs) (section_line c.key ∷ after c cs) (set_known c.key 1 c.sets)
       (section-known c.key (after c cs)
@@ -167,7 +167,7 @@ book-verbs test [] s k h p r a = refl
 book-verbs test (c ∷ cs) s k h p r a =
     let passes : List (List ℕ) → Bool = λ ws. test (line_verb ws) in
     each_join passes (section_lines c) (book_lines cs)
-    (each_join passes (sets c cs) (section_line c.key ∷ page_lines c) (set-verbs test c.key 1 c.sets s k) (ap2 ◌&&◌ h (page_verbs test c p r a)))
+    (each_join passes (sets c cs) (section_line c.key ∷ page_lines c) (set-verbs test c.key 1 c.sets s k) (ap₂ ◌&&◌ h (page_verbs test c p r a)))
     (book-verbs test cs s k h p r a)
 
 section-keys : (cs : List Contents) → names_at a_section (book_lines cs) ≡ keys cs
@@ -176,9 +176,9 @@ section-keys [] = refl
 section-keys (c ∷ cs) =
     ap (names_at a_section) (book-parted c cs)
     ∙ names_at-append a_section (sets c cs) (section_line c.key ∷ after c cs)
-    ∙ ap2 ◌++◌ (names_at-none a_section (sets c cs) (set-verbs (is_not a_section) c.key 1 c.sets refl refl))
+    ∙ ap₂ ◌++◌ (names_at-none a_section (sets c cs) (set-verbs (is_not a_section) c.key 1 c.sets refl refl))
     (ap (λ (l : List (List ℕ)). c.key ∷ l)
-    (names_at-append a_section (page_lines c) (book_lines cs) ∙ ap2 ◌++◌ (names_at-none a_section (page_lines c) (page_verbs (is_not a_section) c refl refl refl)) (section-keys cs)))
+    (names_at-append a_section (page_lines c) (book_lines cs) ∙ ap₂ ◌++◌ (names_at-none a_section (page_lines c) (page_verbs (is_not a_section) c refl refl refl)) (section-keys cs)))
 
 module _ (cs : List Contents) (f : Formed cs) where
   lines-keys : names_at a_section (all_lines cs) ≡ keys cs

@@ -1,6 +1,6 @@
 -- No row refuses the canonical text of a book: a section uses nothing, its rules say `also` where they must, and its sizes are a book's (rows 46 to 56).
 -- Assumes nothing.
-use mathlib.Core.Path.{◌≡◌, refl, ap, ap2, ◌∙◌}
+use mathlib.Core.Path.{◌≡◌, refl, ap, ap₂, ◌∙◌}
 use mathlib.Core.Bool.{Bool, true, false, cond, ◌&&◌}
 use mathlib.Core.List.{List, [], ◌∷◌, ◌++◌, map, head-eq_of_cons-eq, tail-eq_of_cons-eq}
 use Prim.Native.Nat.{ℕ, suc, ◌+◌, ◌≤◌}
@@ -92,12 +92,12 @@ module _ (key : List ℕ) (sets : ℕ) (t : List ℕ) (all : List Statement) (li
   rules-stand before spots at (r ∷ rules) plain noted e =
       let both = and_both (is_shown sets r) (each (is_shown sets) rules) e in
       let s = line_at at (rule_line key spots r) in
-      let stood : stands (spot_of s) before ≡ is_in (rule_spot r) spots = stands_plain (spot_of s) before plain ∙ ap2 is_in (spot_back at spots r both.0) noted in
+      let stood : stands (spot_of s) before ≡ is_in (rule_spot r) spots = stands_plain (spot_of s) before plain ∙ ap₂ is_in (spot_back at spots r both.0) noted in
       let right = verb-right all before at (is_in (rule_spot r) spots) (drop 1 (rule_line key spots r)) stood in
       rw right
       (rules-stand (before ++ (s ∷ [])) (spots ++ (rule_spot r ∷ [])) (next_at at (rule_line key spots r)) rules
-      (each_join is_plain before (s ∷ []) plain (ap2 ◌&&◌ (rule_verb_lem plain_verb spots r refl refl) refl))
-      (spots-append before (s ∷ []) ∙ ap2 ◌++◌ noted (spots_back at spots r both.0))
+      (each_join is_plain before (s ∷ []) plain (ap₂ ◌&&◌ (rule_verb_lem plain_verb spots r refl refl) refl))
+      (spots-append before (s ∷ []) ∙ ap₂ ◌++◌ noted (spots_back at spots r both.0))
       both.1)
 
 page_stands : (key : List ℕ) (t : List ℕ) (all : List Statement) (line : ℕ) (sets : List (List (List ℕ))) (at : ℕ) (rules : List Rule) → each (is_shown (length sets)) rules ≡ true
@@ -150,7 +150,7 @@ module _ (t : List ℕ) (c : Contents) (cs : List Contents) (fits : Fits c) (all
       firstly-none _ _ (ap (used_twice t line (placed at (after c cs))) (page_body c cs at) ∙ used_none t line (placed at (after c cs)) at (page_lines c) (page_verbs (is_not a_use) c refl refl refl))
       (firstly-none _ _ (ap (λ (l : List Statement). over 56 line (ltb statement_limit (length l))) page ∙ over_none 56 line statement_limit (length (placed at (page_lines c))) short)
       (firstly-none _ _ (ap (first_rule_fault t whole line []) page ∙ page_stands c.key t whole line c.sets at c.rules fits.rules)
-      (ap2 (λ (x : Contents) (l : List Statement). sizes_told t whole size line x l) (section_back c cs all pre d e at fits) page ∙ sizes_none size line at h)))
+      (ap₂ (λ (x : Contents) (l : List Statement). sizes_told t whole size line x l) (section_back c cs all pre d e at fits) page ∙ sizes_none size line at h)))
 
 -- ---- all of them
 skip_told : (t : List ℕ) (all : List Statement) (size at : ℕ) (xs : Lines) (ss : List Statement) → verbs_pass (is_not a_section) xs ≡ true → sections_told t all size (placed at xs ++ ss) ≡ sections_told t all size ss

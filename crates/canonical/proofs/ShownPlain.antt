@@ -1,11 +1,11 @@
 -- Statements none of which changes a rule or a set, as the canonical text has them: they mean what they say by themselves. Assumes nothing.
-use mathlib.Core.Path.{◌≡◌, refl, ap, ap2, ◌∙◌}
+use mathlib.Core.Path.{◌≡◌, refl, ap, ap₂, ◌∙◌}
 use mathlib.Core.Bool.{Bool, true, false, cond, ◌&&◌}
 use mathlib.Core.List.{List, [], ◌∷◌, ◌++◌, map, append-nil}
 use Prim.Native.Nat.{ℕ, ◌<◌}
 use native.Mathlib.Omega.{arith}
 use lib.Dec.{leb}
-use borrow.Author.Tests.{leb_true, ne_eqb}
+use borrow.Author.Tests.{leb-true, ne_eqb}
 use Rattle.hl7.specs.Bytes.{is_in}
 use Rattle.hl7.proofs.Comparing.{and_both}
 use Rattle.grade.specs.Book.{Contents}
@@ -27,7 +27,7 @@ abbrev pub is_plain : Statement → Bool
 is_plain s = plain_verb (verb s)
 
 plain-says : (v : ℕ) (s : Statement) → an_also < v → is_plain s ≡ true → says v s ≡ false
-plain-says v s h e = ne_eqb (verb s) v (λ q. absurd (omega (arith, q, leb_true (verb s) an_also e)))
+plain-says v s h e = ne_eqb (verb s) v (λ q. absurd (omega (arith, q, leb-true (verb s) an_also e)))
 
 -- ---- rules
 amend-plain : (spot : ℕ) (s x : Statement) → is_plain x ≡ true → amend spot s x ≡ s
@@ -52,8 +52,8 @@ unfolding settled settled_as
 settled_plain [] e = refl
 settled_plain (s ∷ ss) e =
     let later = (and_both (is_plain s) (each is_plain ss) e).1 in
-    ap2 ◌++◌
-    (ap2 (λ (gone : Bool) (x : Statement). cond (makes_rule s) (cond gone [] (x ∷ [])) (s ∷ [])) (dropped-plain (spot_of s) ss later) (amended-plain (spot_of s) s ss later) ∙ either (makes_rule s))
+    ap₂ ◌++◌
+    (ap₂ (λ (gone : Bool) (x : Statement). cond (makes_rule s) (cond gone [] (x ∷ [])) (s ∷ [])) (dropped-plain (spot_of s) ss later) (amended-plain (spot_of s) s ss later) ∙ either (makes_rule s))
     (settled_plain ss later)
   where
     either : (b : Bool) → cond b (s ∷ []) (s ∷ []) ≡ s ∷ []
@@ -97,7 +97,7 @@ stray_plain t line names (s ∷ ss) e =
 module _ (all ss : List Statement) (e : each is_plain ss ≡ true) where
   held_plain : (name : List ℕ) → held all ss name ≡ codes_of all name
   unfolding held
-  held_plain name = ap2 ◌++◌ (kept-plain name ss (codes_of all name) e) (added-plain name ss e) ∙ append-nil (codes_of all name)
+  held_plain name = ap₂ ◌++◌ (kept-plain name ss (codes_of all name) e) (added-plain name ss e) ∙ append-nil (codes_of all name)
 
   pub sets-plain : (names : List (List ℕ)) → map (held all ss) names ≡ map (codes_of all) names
   sets-plain names = λ i. map (λ (name : List ℕ). held_plain name i) names
@@ -115,7 +115,7 @@ unfolding placed
 placed-plain at [] e = refl
 placed-plain at (x ∷ xs) e =
     let both = and_both (plain_verb (line_verb x)) (verbs_pass plain_verb xs) e in
-    ap2 ◌&&◌ both.0 (placed-plain (next_at at x) xs both.1)
+    ap₂ ◌&&◌ both.0 (placed-plain (next_at at x) xs both.1)
 
 -- those of a section of the canonical text
 pub page_plain : (c : Contents) (at : ℕ) → each is_plain (placed at (page_lines c)) ≡ true

@@ -1,6 +1,6 @@
 -- No row refuses a line of the canonical text by itself: its bytes are allowed, each statement stands where it may, and its words are right (rows 32 to 42).
 -- Assumes nothing.
-use mathlib.Core.Path.{◌≡◌, refl, ap, ap2, ◌∙◌}
+use mathlib.Core.Path.{◌≡◌, refl, ap, ap₂, ◌∙◌}
 use mathlib.Core.Bool.{Bool, true, false, cond, ◌&&◌}
 use mathlib.Core.List.{List, [], ◌∷◌, ◌++◌, map, append_assoc}
 use Prim.Native.Nat.{ℕ, suc, ◌-◌, ◌≤◌}
@@ -101,7 +101,7 @@ rule-right b place kind severity bound c p k s f = by b
     count = suc (suc (suc (suc (length bound))))
 
     few : within 4 6 count ≡ true
-    few = ap2 ◌&&◌ (le-leb 4 count (omega arith)) (le-leb count 6 (omega arith))
+    few = ap₂ ◌&&◌ (le-leb 4 count (omega arith)) (le-leb count 6 (omega arith))
 
     fits : bound_fits (kind_number kind) (count - 4) (get_or bound 0 []) (get_or bound 1 []) ≡ true
     fits = let so-many : count - 4 ≡ length bound = omega arith in ap (λ (n : ℕ). bound_fits (kind_number kind) n (get_or bound 0 []) (get_or bound 1 [])) so-many ∙ f
@@ -136,7 +136,7 @@ module _ (key : List ℕ) (sets : ℕ) where
       let both = and_both (is_shown sets x) (each (is_shown sets) rules) e in
       let again = is_in (rule_spot x) before in
       let bound = bound_right_lem x.kind (shown_kind sets x both.0) (shown_high sets x both.0) in
-      ap2 ◌&&◌
+      ap₂ ◌&&◌
       (rule-right again (place_word x.place) (kind_word x.kind) (severity_letter x.severity ∷ []) (bound_words key x.kind) bound.0 (place_right_lem x.place (shown-place sets x both.0)) bound.1 (severity_right_lem x.severity) bound.2)
       (ap (λ (here : ℕ). right here (rule_lines key (before ++ (rule_spot x ∷ [])) rules ++ tail)) (rule-inside again) ∙ rules-right (before ++ (rule_spot x ∷ [])) rules tail both.1 r)
 

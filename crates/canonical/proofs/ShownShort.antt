@@ -7,7 +7,7 @@ use Prim.Native.Nat.{ℕ, suc, ◌+◌, ◌*◌, ◌≤◌}
 use native.Mathlib.Omega.{arith}
 use lib.Dec.{eqb, leb}
 use lib.ListN.{length, length-append}
-use borrow.Author.Tests.{leb_true}
+use borrow.Author.Tests.{leb-true}
 use Rattle.hl7.specs.Text.{bytes}
 use Rattle.hl7.specs.Bytes.{within, is_in, all}
 use Rattle.hl7.proofs.Comparing.{and_both, upto-at}
@@ -33,11 +33,11 @@ use Rattle.canonical.proofs.ShownPasses.{shown-passes}
 -- ---- numbers
 two_digits : (n : ℕ) → n ≤ 99 → length (decimal n) ≤ 2
 unfolding decimal last_digits
-two_digits n h = leb_true (length (decimal n)) 2 (upto-at (λ (k : ℕ). leb (length (decimal k)) 2) 100 n refl (omega arith))
+two_digits n h = leb-true (length (decimal n)) 2 (upto-at (λ (k : ℕ). leb (length (decimal k)) 2) 100 n refl (omega arith))
 
 three_digits : (n : ℕ) → n ≤ 255 → length (decimal n) ≤ 3
 unfolding decimal last_digits
-three_digits n h = leb_true (length (decimal n)) 3 (upto-at (λ (k : ℕ). leb (length (decimal k)) 3) 256 n refl (omega arith))
+three_digits n h = leb-true (length (decimal n)) 3 (upto-at (λ (k : ℕ). leb (length (decimal k)) 3) 256 n refl (omega arith))
 
 -- ---- words
 place_short : (p : Place) → place_fits p ≡ true → length (place_word p) ≤ 9

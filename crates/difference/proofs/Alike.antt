@@ -1,5 +1,5 @@
 -- Sections that say the same but for the numbers of their sets give the same findings. Assumes nothing.
-use mathlib.Core.Path.{◌≡◌, refl, sym, ap, ap2, ◌∙◌}
+use mathlib.Core.Path.{◌≡◌, refl, sym, ap, ap₂, ◌∙◌}
 use mathlib.Core.Bool.{Bool, cond, not, ◌&&◌, ◌||◌}
 use mathlib.Core.List.{List, [], map}
 use Prim.Native.Nat.{ℕ, zero, suc}
@@ -71,7 +71,7 @@ unfolding judges broken
 breaks_alike cs ds v e k l r same =
     let required = required_blank k ∙ ap is_required same ∙ sym (required_blank l) in
     let fitting = fits-blank cs ds v e k ∙ ap (λ (x : Kind). fits x ds v) same ∙ sym (fits-blank ds ds v refl l) in
-    ap2 (λ (a b : Bool). (not a || eqb r 0) && cond (is_value v) (not b) a) required fitting
+    ap₂ (λ (a b : Bool). (not a || eqb r 0) && cond (is_value v) (not b) a) required fitting
 
 -- ---- findings
 abbrev values_by : Delims → Place → List ℕ → List (List ℕ)
@@ -89,7 +89,7 @@ module _ (follows : ℕ → ℕ → Bool) (c d : Contents) (alike : Alike c d) (
       let about = ap (λ (p : Place). counted name && eqb p.segment name) (alike.rules i).place in
       let v = get_or (values_at follows c.rules c.sets m n i) r [] in
       let breaks = breaks_alike (codes_for c i) (codes_for d i) v ((alike.rules i).codes v) (rule_at c i).kind (rule_at d i).kind r (alike.rules i).kind in
-      ap2 ◌&&◌ about
+      ap₂ ◌&&◌ about
       (breaks
       ∙ ap (λ (vs : List (List ℕ)). judges (rule_at d i).kind r && broken (rule_at d i).kind (codes_for d i) (get_or vs r [])) (values_alike n i))
 

@@ -1,5 +1,5 @@
 -- Laws of what comparing two books answers: a refusal of either, or the lines in the output. Assumes nothing.
-use mathlib.Core.Path.{◌≡◌, sym, ap, ap2, ◌∙◌}
+use mathlib.Core.Path.{◌≡◌, sym, ap, ap₂, ◌∙◌}
 use mathlib.Core.Bool.{Bool, true, false, cond}
 use mathlib.Core.List.{List, [], ◌++◌, map}
 use Prim.Native.Nat.{ℕ, ◌≤◌, ◌<◌}
@@ -86,7 +86,7 @@ module _ (old olds : List ℕ) (first : Opened old olds) where
     listed = printed (differences (map (contents_at old) olds) (map (contents_at new) news))
 
     as_decoded : {o p : List ℕ} {at next : ℕ} → Wrote o at listed p next → Wrote o at text p next
-    as_decoded w = wrote_as w (ap2 (λ (x y : List Contents). printed (differences x y)) (sym first.say) (sym second.say))
+    as_decoded w = wrote_as w (ap₂ (λ (x y : List Contents). printed (differences x y)) (sym first.say) (sym second.say))
 
     module _ (is : Bytes old) (are : Bytes new) (out : List ℕ) {p : List ℕ} {size : ℕ} (w : Wrote [] 0 listed p size) where
       text-short : length text < limit

@@ -7,7 +7,7 @@ use Prim.Native.Nat.{ℕ, zero, suc, ◌+◌, ◌-◌, ◌*◌, ◌^◌, ◌≤�
 use native.Mathlib.Omega.{arith}
 use lib.Dec.{eqb, leb}
 use lib.ListN.{length, get_or, length-append}
-use borrow.Author.Tests.{leb_true, eqb-true, eqb-false}
+use borrow.Author.Tests.{leb-true, eqb-true, eqb-false}
 use Rattle.hl7.specs.Text.{bytes}
 use Rattle.hl7.specs.Bytes.{within, all, same, among}
 use Rattle.hl7.proofs.Comparing.{and_both}
@@ -45,7 +45,7 @@ up_to n w = leb (length w) n
 
 name-short : (n : ℕ) → length (name_bytes n) ≤ 3
 unfolding name_bytes segment_names
-name-short n = leb_true (length (name_bytes n)) 3 (each_at (up_to 3) ([] ∷ segment_names) n [] refl refl)
+name-short n = leb-true (length (name_bytes n)) 3 (each_at (up_to 3) ([] ∷ segment_names) n [] refl refl)
 
 place_short : (p : Place) → length (place_word p) ≤ 45
 unfolding place_word

@@ -1,6 +1,6 @@
 -- Laws of the codes of a rule's set: where they stand, whether all are among others, and how they are written. Assumes nothing.
 use mathlib.Core.Path.{◌≡◌, refl, sym, ap, ◌∙◌}
-use mathlib.Core.Bool.{Bool, true, false, cond, not, ◌&&◌, and_true, and_assoc}
+use mathlib.Core.Bool.{Bool, true, false, cond, not, ◌&&◌, and-true, and_assoc}
 use mathlib.Core.List.{List, [], ◌∷◌, ◌++◌}
 use Prim.Native.Nat.{ℕ, ◌+◌, ◌-◌, ◌≤◌, ◌<◌}
 use native.Mathlib.Omega.{arith}
@@ -99,7 +99,7 @@ module _ (b : List ℕ) where
 
     pub every-over : (others : List (List ℕ)) (so : Bool) → left ≤ 0 → (so && all_among (codes_from left from) others) ≡ so
     unfolding all_among
-    every-over others so h = ap (λ (l : List (List ℕ)). so && each (λ (c : List ℕ). among c others) l) (codes-none h) ∙ and_true so
+    every-over others so h = ap (λ (l : List (List ℕ)). so && each (λ (c : List ℕ). among c others) l) (codes-none h) ∙ and-true so
 
     pub codes-over : (mark : ℕ) → left ≤ 0 → marked 32 (code_words mark (codes_from left from)) ≡ []
     unfolding marked

@@ -1,5 +1,5 @@
 -- Laws of spots, which name place and kind of each rule: noted, counted, and found again by their number. Assumes nothing.
-use mathlib.Core.Path.{◌≡◌, sym, ap, ap2, ◌∙◌}
+use mathlib.Core.Path.{◌≡◌, sym, ap, ap₂, ◌∙◌}
 use mathlib.Core.Bool.{Bool, true, false, cond, ◌&&◌}
 use mathlib.Core.List.{List, [], ◌∷◌, ◌++◌}
 use Prim.Native.Nat.{ℕ, suc, ◌+◌, ◌-◌, ◌≤◌, ◌<◌}
@@ -24,7 +24,7 @@ module _ (rules : List Rule) (i : ℕ) (noted : List ℕ) where
       let inside : i < length (spots rules) = omega (arith, length-map rules rule_spot) in
       ap (λ (n : ℕ). take n (set noted i spot)) (add-one i)
       ∙ take-suc-set noted i spot k
-      ∙ ap2 (λ (l : List ℕ) (x : ℕ). l ++ (x ∷ [])) e here
+      ∙ ap₂ (λ (l : List ℕ) (x : ℕ). l ++ (x ∷ [])) e here
       ∙ sym (take-suc (spots rules) i (rule_spot no_rule) inside)
       ∙ ap (λ (n : ℕ). take n (spots rules)) (sym (add-one i))
 

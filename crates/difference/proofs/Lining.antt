@@ -1,5 +1,5 @@
 -- Laws of writing the lines of a rule. Assumes nothing.
-use mathlib.Core.Path.{◌≡◌, refl, sym, ap, ap2, ◌∙◌}
+use mathlib.Core.Path.{◌≡◌, refl, sym, ap, ap₂, ◌∙◌}
 use mathlib.Core.Bool.{Bool, true, false, ◌&&◌}
 use mathlib.Core.List.{List, [], ◌∷◌, ◌++◌, append-nil, append_assoc}
 use Prim.Native.Char.{code}
@@ -26,7 +26,7 @@ marked_both [] vs = refl
 marked_both (w ∷ ws) vs = ap (λ (l : List ℕ). 32 ∷ (w ++ l)) (marked_both ws vs) ∙ ap (λ (l : List ℕ). 32 ∷ l) (sym (append_assoc w (marked 32 ws) (marked 32 vs)))
 
 pub numbers-same : (k l : Kind) {a b c d : ℕ} → a ≡ low_of k → b ≡ low_of l → c ≡ high_of k → d ≡ high_of l → (eqb a b && eqb c d) ≡ same_numbers k l
-numbers-same k l e f g h = ap2 ◌&&◌ (ap2 eqb e f) (ap2 eqb g h)
+numbers-same k l e f g h = ap₂ ◌&&◌ (ap₂ eqb e f) (ap₂ eqb g h)
 
 -- ---- a line
 module _ (key : List ℕ) (mark n : ℕ) (rule : Rule) where
@@ -99,7 +99,7 @@ module _ (key : List ℕ) (n : ℕ) (r s : Rule) where
 module _ (key : List ℕ) (n : ℕ) (r : Rule) where
   module _ (codes others : List (List ℕ)) {kept known : Bool} (e : kept ≡ all_among codes others) (f : known ≡ all_among others codes) where
     pub codes_same : (kept && known) ≡ true → [] ≡ printed (code_lines key n r codes others)
-    codes_same t = unless-skipped _ (sym (ap2 ◌&&◌ e f) ∙ t)
+    codes_same t = unless-skipped _ (sym (ap₂ ◌&&◌ e f) ∙ t)
 
     pub codes_other : (kept && known) ≡ false → {o p q s u : List ℕ} {at c d g h : ℕ}
         → Wrote o at (head_bytes key (code "~") n r) p c → Wrote p c (marked 32 (code_words (code "-") (gone codes others))) q d → Wrote q d (marked 32 (code_words (code "+") (gone others codes))) s g → Wrote s g (line_feed ∷ []) u h
@@ -107,7 +107,7 @@ module _ (key : List ℕ) (n : ℕ) (r : Rule) where
     codes_other t u v w x =
         let less = code_words (code "-") (gone codes others) in
         let more = code_words (code "+") (gone others codes) in
-        unless-written _ (sym (ap2 ◌&&◌ e f) ∙ t)
+        unless-written _ (sym (ap₂ ◌&&◌ e f) ∙ t)
         (line-written key (code "~") n r (less ++ more) (sym (append_assoc (marked 32 less) (marked 32 more) (line_feed ∷ [])) ∙ ap (λ (l : List ℕ). l ++ (line_feed ∷ [])) (sym (marked_both less more))) u (v then w then x))
 
   module _ (m : ℕ) where

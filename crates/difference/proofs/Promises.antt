@@ -1,5 +1,5 @@
 -- What the difference of two books promises: where it is silent, both grade every message alike. Assumes nothing.
-use mathlib.Core.Path.{◌≡◌, refl, sym, ap, ap2, ◌∙◌}
+use mathlib.Core.Path.{◌≡◌, refl, sym, ap, ap₂, ◌∙◌}
 use mathlib.Core.Bool.{Bool, true, false, cond, not}
 use mathlib.Core.List.{List, [], ◌∷◌, ◌++◌, flat_map}
 use Prim.Native.Nat.{ℕ}
@@ -86,8 +86,8 @@ module _ (old new : List ℕ) (is : Bytes old) (are : Bytes new) (f : Usable old
       let same = sections-same (key_in m) (decoded old) (decoded new) (book-formed old is f).fit (book-formed new are g).fit silent (under (key_in m) (decoded old)) (under (key_in m) (decoded new)) refl refl in
       let there = among (key_in m) (keys (decoded old)) in
       let rows : rows_by m (malformed old) (other_version old) there ≡ rows_by m (malformed new) (other_version new) (among (key_in m) (keys (decoded new))) =
-      ap2 (λ (x y : Bool). rows_by m x y there) (f.0 ∙ sym g.0) (f.1 ∙ sym g.1) ∙ ap (rows_by m (malformed new) (other_version new)) same.0 in
-      ap2 (λ (rows : List Row) (listed : List Finding). record { told = first_row rows; findings = cond (passes rows) listed [] }) rows (same.1 m)
+      ap₂ (λ (x y : Bool). rows_by m x y there) (f.0 ∙ sym g.0) (f.1 ∙ sym g.1) ∙ ap (rows_by m (malformed new) (other_version new)) same.0 in
+      ap₂ (λ (rows : List Row) (listed : List Finding). record { told = first_row rows; findings = cond (passes rows) listed [] }) rows (same.1 m)
 
   -- books without a difference grade every message alike
   pub no_difference : differences (decoded old) (decoded new) ≡ [] → (m : List ℕ) → grade_of m old ≡ grade_of m new

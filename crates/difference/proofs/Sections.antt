@@ -1,5 +1,5 @@
 -- Laws of writing what became of sections: of their rules, one after the other, and of the sections of two books. Assumes nothing.
-use mathlib.Core.Path.{◌≡◌, refl, sym, ap, ap2, ◌∙◌}
+use mathlib.Core.Path.{◌≡◌, refl, sym, ap, ap₂, ◌∙◌}
 use mathlib.Core.Bool.{Bool, true, false, cond, not, ◌||◌}
 use mathlib.Core.List.{List, [], ◌∷◌, ◌++◌, map, flat_map, append-nil}
 use Prim.Native.Char.{code}
@@ -67,7 +67,7 @@ module _ (key old : List ℕ) (a : Section) (new : List ℕ) (b : Section) (i : 
   module _ {own others : List ℕ} (mine : own ≡ spots (rules_in old a)) (theirs : others ≡ spots (rules_in new b)) {m : ℕ} (e : m ≡ counterpart own others i) where
     by_number : old_by c d i m ≡ old_lines c d i
     unfolding old_lines
-    by_number = ap (old_by c d i) (e ∙ ap2 (λ (x y : List ℕ). counterpart x y i) mine theirs)
+    by_number = ap (old_by c d i) (e ∙ ap₂ (λ (x y : List ℕ). counterpart x y i) mine theirs)
 
     module _ {r : Ruled} (is : Rules old (rules_in old a) (sets_in old a) i r) where
       pub old_gone : m ≡ 0 → {o p : List ℕ} {at to : ℕ} → Wrote o at (line_bytes (whole_line key (code "-") (i + 1) r.rule (codes_in old r))) p to → Wrote o at (printed (old_lines c d i)) p to
@@ -107,8 +107,8 @@ both_written key old a new b h k {own} mine u v =
     let c = held_by key old a in
     let d = held_by key new b in
     let olds = ap (λ (n : ℕ). flat_map (old_lines c d) (count_from 0 n)) (sym (rules-length old a h)) in
-    let news = ap2 (λ (x : List ℕ) (n : ℕ). flat_map (new_lines key x d) (count_from 0 n)) mine (sym (rules-length new b k)) in
-    wrote_as (u then v) (ap2 (λ (x y : Lines). printed x ++ printed y) olds news ∙ sym (printed_both _ _))
+    let news = ap₂ (λ (x : List ℕ) (n : ℕ). flat_map (new_lines key x d) (count_from 0 n)) mine (sym (rules-length new b k)) in
+    wrote_as (u then v) (ap₂ (λ (x y : Lines). printed x ++ printed y) olds news ∙ sym (printed_both _ _))
 
 -- ---- a key among those of sections
 module _ (f : ℕ → List ℕ) (l : List ℕ) (i : ℕ) (key : List ℕ) where
@@ -204,7 +204,7 @@ module _ (old : List ℕ) (start : ℕ) (stands : stands_at old start ≡ true) 
       let here : under key others ≡ contents_at new at ∷ first.0 = first.1 ∙ ap (λ (n : ℕ). contents_at new (get_or news n 0) ∷ first.0) (sym e) in
       let alike : key ≡ text_at new at = first.2 ∙ ap (λ (n : ℕ). text_at new (get_or news n 0)) (sym e) in
       wrote_as w
-      (ap2 (λ (x y : Contents). printed (section_lines x y)) (section-held old start stands is named) (section-held new at there was alike)
+      (ap₂ (λ (x y : Contents). printed (section_lines x y)) (section-held old start stands is named) (section-held new at there was alike)
       ∙ sym (ap (λ (k : List ℕ). printed (against_first olden (under k others))) (sym key-is) ∙ ap (λ (l : List Contents). printed (against_first olden l)) here))
 
   pub section_lone : length news ≤ i → {o p : List ℕ} {at to : ℕ} → Wrote o at (line_bytes ((code "-" ∷ []) ∷ bytes "section" ∷ key ∷ [])) p to → Wrote o at (printed (old_section others olden)) p to
@@ -224,7 +224,7 @@ module _ (old olds : List ℕ) (all-stand : all (stands_at old) olds ≡ true) (
   before = map (contents_at old) olds
 
   among-is : {t : Bool} → among key (map (text_at old) olds) ≡ t → among newer.key (keys before) ≡ t
-  among-is f = ap2 among ((stands-key new start stands).1 ∙ sym named) (keys_texts old olds all-stand) ∙ f
+  among-is f = ap₂ among ((stands-key new start stands).1 ∙ sym named) (keys_texts old olds all-stand) ∙ f
 
   texts_many : length (map (text_at old) olds) ≡ length olds
   texts_many = length-map olds (text_at old)

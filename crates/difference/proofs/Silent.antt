@@ -1,5 +1,5 @@
 -- Where no line speaks of a key, the sections with that key are alike. Assumes nothing.
-use mathlib.Core.Path.{◌≡◌, refl, sym, ap, ap2, ◌∙◌}
+use mathlib.Core.Path.{◌≡◌, refl, sym, ap, ap₂, ◌∙◌}
 use mathlib.Core.Bool.{Bool, true, false, cond, ◌&&◌, ◌||◌, true≢false}
 use mathlib.Core.List.{List, [], ◌∷◌, ◌++◌, flat_map}
 use mathlib.Core.Logic.{◌⊎◌, inl, inr, ⊎_elim}
@@ -145,7 +145,7 @@ kind_once k l e f =
     let numbers = and_both (eqb (low_of k) (low_of l)) (eqb (high_of k) (high_of l)) f in
     let low = eqb-true (low_of k) (low_of l) numbers.0 in
     let high = eqb-true (high_of k) (high_of l) numbers.1 in
-    let both : KindRead.Is (blank k) ≡ KindRead.Is (blank l) = sym (back k) ∙ ap2 (λ (n low : ℕ). kind_of n 0 low (high_of k)) e low ∙ ap (kind_of (kind_byte l) 0 (low_of l)) high ∙ back l in
+    let both : KindRead.Is (blank k) ≡ KindRead.Is (blank l) = sym (back k) ∙ ap₂ (λ (n low : ℕ). kind_of n 0 low (high_of k)) e low ∙ ap (kind_of (kind_byte l) 0 (low_of l)) high ∙ back l in
     cc
   where
     back : (k : Kind) → kind_of (kind_byte k) 0 (low_of k) (high_of k) ≡ KindRead.Is (blank k)

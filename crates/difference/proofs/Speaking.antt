@@ -1,5 +1,5 @@
 -- Lines that speak of a key: those of its section do, so that where none does nothing became of it. Assumes nothing.
-use mathlib.Core.Path.{◌≡◌, refl, sym, ap, ap2, ◌∙◌}
+use mathlib.Core.Path.{◌≡◌, refl, sym, ap, ap₂, ◌∙◌}
 use mathlib.Core.Bool.{Bool, true, false, cond, not, ◌&&◌, ◌||◌, true≢false}
 use mathlib.Core.List.{List, [], ◌∷◌, ◌++◌, flat_map}
 use Prim.Native.Char.{code}
@@ -30,11 +30,11 @@ each_both test [] ys e = (refl, e)
 each_both test (x ∷ xs) ys e =
     let here = and_both (test x) (each test (xs ++ ys)) e in
     let more = each_both test xs ys here.1 in
-    (ap2 ◌&&◌ here.0 more.0, more.1)
+    (ap₂ ◌&&◌ here.0 more.0, more.1)
 
 each_join : (test : List (List ℕ) → Bool) (xs ys : Lines) → each test xs ≡ true → each test ys ≡ true → each test (xs ++ ys) ≡ true
 each_join test [] ys e f = f
-each_join test (x ∷ xs) ys e f = let here = and_both (test x) (each test xs) e in ap2 ◌&&◌ here.0 (each_join test xs ys here.1 f)
+each_join test (x ∷ xs) ys e f = let here = and_both (test x) (each test xs) e in ap₂ ◌&&◌ here.0 (each_join test xs ys here.1 f)
 
 pub silent_both : (key : List ℕ) (xs ys : Lines) → silent_on key (xs ++ ys) ≡ true → (silent_on key xs ≡ true) × (silent_on key ys ≡ true)
 silent_both key xs ys = each_both (λ (line : List (List ℕ)). not (speaks_of key line)) xs ys

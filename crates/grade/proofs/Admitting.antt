@@ -2,7 +2,7 @@
 -- holds, and what is known of a message that was admitted. Assumes nothing.
 use Prim.Native.Nat.{ℕ, ◌+◌, ◌≤◌, ◌<◌}
 use native.Mathlib.Omega.{arith}
-use mathlib.Core.Path.{◌≡◌, refl, sym, ap, subst2, subst⁻¹, ◌∙◌}
+use mathlib.Core.Path.{◌≡◌, refl, sym, ap, subst₂, subst⁻¹, ◌∙◌}
 use mathlib.Core.Bool.{Bool, true, false, cond, not}
 use mathlib.Core.Logic.{◌↔◌}
 use mathlib.Core.List.{List, [], ◌∷◌}
@@ -56,7 +56,7 @@ module _ (m b : List ℕ) where
 
   pub admit_sound : {d : Delims} {msh : List ℕ} {r : Admitted} → is_sound m ≡ true → d ≡ delims_of m → msh ≡ msh_of m → AdmitsBy (msh_rows d msh b) d msh b r → Admits m b r
   admit_sound {d} {msh} {r} e own first is =
-      let w = subst2 (λ (x : Delims) (y : List ℕ). AdmitsBy (msh_rows x y b) x y b r) own first is in
+      let w = subst₂ (λ (x : Delims) (y : List ℕ). AdmitsBy (msh_rows x y b) x y b r) own first is in
       let rows : first_row (admit_rows m b) ≡ first_row (msh_rows (delims_of m) (msh_of m) b) = admit_rows_lem ∙ rw e in
       record { told_is = w.told_is ∙ sym rows; by = λ none. w.by (ap number_of (sym rows) ∙ none) }
 

@@ -1,6 +1,6 @@
 -- The walk over the segments, which carries counts and the last name along, gives the findings by place. Assumes nothing.
 use Prim.Native.Nat.{ℕ, zero, suc, ◌+◌, ◌<◌}
-use mathlib.Core.Path.{◌≡◌, refl, sym, ap, ap2, ◌∙◌}
+use mathlib.Core.Path.{◌≡◌, refl, sym, ap, ap₂, ◌∙◌}
 use mathlib.Core.Bool.{Bool, true, false, cond, ◌&&◌}
 use mathlib.Core.List.{List, [], ◌∷◌, ◌++◌, map, append_assoc, append-nil}
 use native.Mathlib.Decide.{ℕ_discrete}
@@ -118,7 +118,7 @@ module _ (o : ℕ → ℕ → Bool) (c : List Rule) (t : List (List (List ℕ)))
     rules-found [] i h = refl
     rules-found (rule ∷ rules) i h =
         found_pairs here test (suc i) (length rules) values
-        ∙ ap2 {C = List Finding} ◌++◌ one (rules-found rules (suc i) (agrees_tail no_rule (rule_numbered o c t m) rule rules i h))
+        ∙ ap₂ {C = List Finding} ◌++◌ one (rules-found rules (suc i) (agrees_tail no_rule (rule_numbered o c t m) rule rules i h))
       where
         one : found (λ (r : ℕ). finding_at o c t m n (suc i) r) (λ (r : ℕ). breaks_at o c t m n (suc i) r) (values (suc i)) ≡ of_rule (delims_of m) t (named o c t m n) (ordinal_at o c t m n) (segment_at o c t m n) (suc i) rule
         one =
@@ -136,7 +136,7 @@ module _ (o : ℕ → ℕ → Bool) (c : List Rule) (t : List (List (List ℕ)))
     unfolding keep count_from
     all_found =
         found_pairs here test 0 (length c) values
-        ∙ ap2 {C = List Finding} ◌++◌ (order (order_broken o c t m n)) (rules-found c 0 (agrees_all no_rule (rule_numbered o c t m) c (λ k. refl)))
+        ∙ ap₂ {C = List Finding} ◌++◌ (order (order_broken o c t m n)) (rules-found c 0 (agrees_all no_rule (rule_numbered o c t m) c (λ k. refl)))
       where
         order : (b : Bool) → map (λ (r : ℕ). finding_at o c t m n 0 r) (cond b (0 ∷ []) []) ≡ cond b (order_finding (named o c t m n) (ordinal_at o c t m n) ∷ []) []
         order true = refl
@@ -201,7 +201,7 @@ module _ (o : ℕ → ℕ → Bool) (c : List Rule) (t : List (List (List ℕ)))
 
   -- a segment that does not count gives nothing
   quiet : (last : ℕ) (segment : List ℕ) → of_place last other_number 0 segment ≡ []
-  quiet last segment = ap2 {C = List Finding} ◌++◌ (by (counted last)) (rules-none 0 other_number 0 segment c 0 refl)
+  quiet last segment = ap₂ {C = List Finding} ◌++◌ (by (counted last)) (rules-none 0 other_number 0 segment c 0 refl)
     where
       by : (b : Bool) → cond (b && false) (order_finding other_number 0 ∷ []) [] ≡ []
       by true = refl

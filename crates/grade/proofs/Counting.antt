@@ -6,7 +6,7 @@ use Prim.Native.Nat.{ℕ, ◌+◌, ◌≤◌, ◌<◌}
 use native.Mathlib.Omega.{arith}
 use lib.Dec.{leb, ltb, eqb}
 use lib.ListN.{length, get_or, drop, length-drop, drop_of_length-le}
-use borrow.Author.Tests.{leb_true, leb_false, lt-ltb, le-ltb, eqb-true, eqb-false, eq-eqb, ne_eqb}
+use borrow.Author.Tests.{leb-true, leb-false, lt-ltb, le-ltb, eqb-true, eqb-false, eq-eqb, ne_eqb}
 use Rattle.hl7.specs.Bytes.{within, is_digit}
 use Rattle.hl7.proofs.Comparing.{rest_at, and_both}
 use Rattle.grade.specs.Digits.{count_within, digits_in, points_in, digit_run}
@@ -43,8 +43,8 @@ point_is b = go (eqb b 46) (within 46 46 b) refl refl
     go false false e h = h ∙ sym e
     go false true e h =
         let both = and_both (leb 46 b) (leb b 46) h in
-        let low = leb_true 46 b both.0 in
-        let high = leb_true b 46 both.1 in
+        let low = leb-true 46 b both.0 in
+        let high = leb-true b 46 both.1 in
         absurd (eqb-false b 46 e (omega arith))
 
 -- no byte counts as both
@@ -103,5 +103,5 @@ module _ (v : List ℕ) (points i : ℕ) (passed : Passed v points i) where
       rw (whole, all) (ap (λ (t : Bool). leb points 1 && t) (go (leb 1 (digits_in v)) refl (omega (arith, digits, none))))
     where
       go : (t : Bool) → leb 1 (digits_in v) ≡ t → digits_in v + points ≡ length v → ltb points (length v) ≡ leb 1 (digits_in v)
-      go true e sum = let some = leb_true 1 (digits_in v) e in lt-ltb points (length v) (omega arith) ∙ sym e
-      go false e sum = let none = leb_false 1 (digits_in v) e in le-ltb points (length v) (omega arith) ∙ sym e
+      go true e sum = let some = leb-true 1 (digits_in v) e in lt-ltb points (length v) (omega arith) ∙ sym e
+      go false e sum = let none = leb-false 1 (digits_in v) e in le-ltb points (length v) (omega arith) ∙ sym e

@@ -6,7 +6,7 @@ use mathlib.Core.Path.{◌≡◌, refl, sym, ap, ◌∙◌}
 use mathlib.Core.Bool.{Bool, true, false, ◌&&◌}
 use mathlib.Core.List.{List, [], ◌∷◌, ◌++◌, append_assoc, append-nil}
 use lib.Dec.{eqb, leb, lit≤}
-use borrow.Author.Tests.{le-leb, eq-eqb, leb_true}
+use borrow.Author.Tests.{le-leb, eq-eqb, leb-true}
 use lib.ListN.{length, get_or, drop, length-drop, length-append}
 use lib.Seq.{slice, drop-drop, take-append_seam, drop-append_seam}
 use Rattle.hl7.specs.Bytes.{within, all, same, begins}
@@ -76,7 +76,7 @@ module _ (b : List ℕ) where
   unfolding text
   read_text limit at letters rest h e =
       let t = and_both (within 1 limit (length letters)) (all plain letters) h in
-      let k = leb_true 1 (length letters) (and_both (leb 1 (length letters)) (leb (length letters) limit) t.0).0 in
+      let k = leb-true 1 (length letters) (and_both (leb 1 (length letters)) (leb (length letters) limit) t.0).0 in
       let f = past at (length letters ∷ []) (letters ++ rest) e in
       let l : at + 1 + length letters ≡ at + suc (length letters) = omega arith in
       rw (read_byte at (length letters) (letters ++ rest) e, t.0, read_run (at + 1) (length letters) letters rest f refl k, t.1, l)

@@ -1,11 +1,11 @@
 -- Bytes that decode are the encoding of what they decode to: each reader takes the bytes of what it found, and leaves the rest. Assumes nothing.
 use Prim.Native.Nat.{ℕ, zero, suc, ◌+◌, ◌-◌, ◌*◌, ◌/◌, ◌%◌, ◌<◌, ◌≤◌}
 use native.Mathlib.Omega.{arith}
-use mathlib.Core.Path.{◌≡◌, refl, sym, ap, ap2, ◌∙◌}
+use mathlib.Core.Path.{◌≡◌, refl, sym, ap, ap₂, ◌∙◌}
 use mathlib.Core.Bool.{Bool, true, false, cond, not, ◌&&◌, ◌||◌, false≢true}
 use mathlib.Core.List.{List, [], ◌∷◌, ◌++◌, append_assoc, append-nil}
 use lib.Dec.{eqb, leb}
-use borrow.Author.Tests.{eqb-true, leb_true, not-false}
+use borrow.Author.Tests.{eqb-true, leb-true, not-false}
 use lib.ListN.{length, get_or, drop, take-append-drop}
 use lib.Seq.{slice, length-slice, drop-drop, drop-length}
 use Rattle.hl7.specs.Text.{bytes}
@@ -62,7 +62,7 @@ spells_row {A} b p spell f (suc n) at xs end q =
 part_left : (b : List ℕ) (at n : ℕ) → drop at b ≡ slice at (at + n) b ++ drop (at + n) b
 part_left b at n =
     let e : at + n - at ≡ n = omega arith in
-    sym (take-append-drop n (drop at b)) ∙ ap2 ◌++◌ (rw e at (part_slice b at (at + n) (omega arith))) (drop-drop n at b)
+    sym (take-append-drop n (drop at b)) ∙ ap₂ ◌++◌ (rw e at (part_slice b at (at + n) (omega arith))) (drop-drop n at b)
 
 -- the length byte of a text that was read
 text_size : (limit : ℕ) (b : List ℕ) (at : ℕ) (letters : List ℕ) (end : ℕ) → TextRead limit b at letters end → get_or b at 0 ≡ length letters
@@ -77,8 +77,8 @@ spells_text limit b at letters end q =
     record {
       left =
           rest_at b at t.fits.starts
-          ∙ ap2 ◌∷◌ (text_size limit b at letters end t)
-          (part_left b (at + 1) (get_or b at 0) ∙ ap2 ◌++◌ (sym t.is) (ap (λ (k : ℕ). drop k b) (sym t.ends)));
+          ∙ ap₂ ◌∷◌ (text_size limit b at letters end t)
+          (part_left b (at + 1) (get_or b at 0) ∙ ap₂ ◌++◌ (sym t.is) (ap (λ (k : ℕ). drop k b) (sym t.ends)));
     }
 
 -- every number is a byte
@@ -91,7 +91,7 @@ module _ (b : List ℕ) (small : Bytes b) where
       let high : get_or b at 0 ≡ (get_or b at 0 * 256 + get_or b (at + 1) 0) / 256 = omega (arith, small (at + 1)) in
       let low : get_or b (at + 1) 0 ≡ (get_or b at 0 * 256 + get_or b (at + 1) 0) % 256 = omega (arith, small (at + 1)) in
       let e : at + 1 + 1 ≡ at + 2 = omega arith in
-      record { left = rest_at b at (omega arith) ∙ ap2 ◌∷◌ high (rest_at b (at + 1) (omega arith) ∙ ap2 ◌∷◌ low (ap (λ (k : ℕ). drop k b) e)) }
+      record { left = rest_at b at (omega arith) ∙ ap₂ ◌∷◌ high (rest_at b (at + 1) (omega arith) ∙ ap₂ ◌∷◌ low (ap (λ (k : ℕ). drop k b) e)) }
 
   spells_set : Spells b code_set set_bytes
   spells_set at codes end q =
@@ -166,17 +166,17 @@ rule_bytes_lem sets ten r l h =
     let s = name_letters (get_or ten 0 0) (get_or ten 1 0) (get_or ten 2 0) r.place.segment p.segment (ap (λ (x : Place). x.segment) m.place) in
     let k = kind_spelt (get_or ten 5 0) (get_or ten 7 0) (get_or ten 8 0) (get_or ten 9 0) r.kind m.zero m.kind in
     tab_self ten rule_size l
-    ∙ ap2 ◌++◌ s
-    (ap2 ◌∷◌ (ap (λ (x : Place). x.field) m.place)
-    (ap2 ◌∷◌ (ap (λ (x : Place). x.component) m.place)
-    (ap2 ◌∷◌ k.0 (ap2 ◌∷◌ (severity_spelt (get_or ten 6 0) r.severity m.severity) k.1))))
+    ∙ ap₂ ◌++◌ s
+    (ap₂ ◌∷◌ (ap (λ (x : Place). x.field) m.place)
+    (ap₂ ◌∷◌ (ap (λ (x : Place). x.component) m.place)
+    (ap₂ ◌∷◌ k.0 (ap₂ ◌∷◌ (severity_spelt (get_or ten 6 0) r.severity m.severity) k.1))))
 
 spells_rule : (sets : ℕ) (b : List ℕ) → Spells b (rule_in sets) rule_bytes
 spells_rule sets b at r end q =
     let w = rule_found sets b at r end q in
     let e : at + rule_size - at ≡ rule_size = omega arith in
     let t = rule_bytes_lem sets (slice at (at + rule_size) b) r (length-slice at (at + rule_size) b w.0 ∙ e) w.1 in
-    record { left = part_left b at rule_size ∙ ap2 ◌++◌ t (ap (λ (k : ℕ). drop k b) (sym w.2)) }
+    record { left = part_left b at rule_size ∙ ap₂ ◌++◌ t (ap (λ (k : ℕ). drop k b) (sym w.2)) }
 
 -- ---- a section, and the book
 
@@ -191,7 +191,7 @@ module _ (b : List ℕ) (small : Bytes b) where
       let e : k + 2 + 1 ≡ s.rules_at = omega arith in
       let two : Spelt b k (two_bytes_of (length c.rules)) (k + 2) = rw rl (two_spelt b small k (omega (arith, p.inside))) in
       let one : Spelt b (k + 2) (length c.sets ∷ []) s.rules_at =
-      record { left = rest_at b (k + 2) (omega (arith, p.inside)) ∙ ap2 ◌∷◌ (sym sl) (ap (λ (x : ℕ). drop x b) e) } in
+      record { left = rest_at b (k + 2) (omega (arith, p.inside)) ∙ ap₂ ◌∷◌ (sym sl) (ap (λ (x : ℕ). drop x b) e) } in
       let rules = spells_row b (rule_in s.set_count) rule_bytes (spells_rule s.set_count b) s.rule_count s.rules_at c.rules s.sets_at p.rules_read in
       let sets = spells_row b code_set set_bytes (spells_set b small) s.set_count s.sets_at c.sets end p.sets_read in
       spelt_join (spells_text key_limit b at c.key k p.key_read) (spelt_join two (spelt_join one (spelt_join rules sets)))
@@ -203,14 +203,14 @@ sections-spelt : (b : List ℕ) → Bytes b → (all : List Contents) → BookPa
 sections-spelt b small all p =
     let x = spells_row b section section_bytes (spells_section b small) (get_or b head_size 0) (head_size + 1) all (length b) p.read in
     rest_at b head_size p.room
-    ∙ ap2 ◌∷◌ (sym (all-length b all p)) (x.left ∙ ap (λ (xs : List ℕ). spell_all section_bytes all ++ xs) (drop-length b) ∙ append-nil (spell_all section_bytes all))
+    ∙ ap₂ ◌∷◌ (sym (all-length b all p)) (x.left ∙ ap (λ (xs : List ℕ). spell_all section_bytes all ++ xs) (drop-length b) ∙ append-nil (spell_all section_bytes all))
 
 -- mark and version
 head-spelt : (b : List ℕ) → head_right b ≡ true → eqb (version b) book_version ≡ true → b ≡ bytes "VXB" ++ (two_bytes_of book_version ++ drop head_size b)
 unfolding head_right begins
 head-spelt b h v =
     let w = and_both (within head_size book_limit (length b)) (begins (bytes "VXB") b) h in
-    go b (leb_true head_size (length b) (and_both (leb head_size (length b)) (leb (length b) book_limit) w.0).0) w.1 (eqb-true (version b) book_version v)
+    go b (leb-true head_size (length b) (and_both (leb head_size (length b)) (leb (length b) book_limit) w.0).0) w.1 (eqb-true (version b) book_version v)
   where
     go : (b : List ℕ) → head_size ≤ length b → begins (bytes "VXB") b ≡ true → version b ≡ book_version → b ≡ bytes "VXB" ++ (two_bytes_of book_version ++ drop head_size b)
     go [] l m v = absurd (omega arith)

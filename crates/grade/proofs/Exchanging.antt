@@ -1,6 +1,6 @@
 -- Which five delimiters a message is cut by does not matter to grading: where its bytes that may delimit are exchanged among each other, and the book's keys and
 -- codes stay as they are, number, detail and findings are the same. Assumes nothing.
-use mathlib.Core.Path.{◌≡◌, refl, sym, ap, ap2, ◌∙◌}
+use mathlib.Core.Path.{◌≡◌, refl, sym, ap, ap₂, ◌∙◌}
 use mathlib.Core.Bool.{Bool, true, false, cond, not, ◌&&◌}
 use mathlib.Core.List.Memᴰ
 use mathlib.Core.List.{List, [], ◌∷◌, map, Memᴰ}
@@ -9,7 +9,7 @@ use Prim.Native.Nat.{ℕ, zero, suc, ◌-◌}
 use native.Mathlib.Omega.{arith}
 use lib.Dec.{leb}
 use lib.ListN.{length, get_or, drop, length-map, get_or-map}
-use borrow.Author.Tests.{leb_true}
+use borrow.Author.Tests.{leb-true}
 use Rattle.hl7.specs.Text.{bytes}
 use Rattle.hl7.specs.Bytes.{within, is_in, all, same}
 use Rattle.hl7.specs.Cut.{Piece}
@@ -44,7 +44,7 @@ point_plain : (x : ℕ) → within 46 46 x ≡ true → is_plain x ≡ true
 unfolding may_delimit is_in
 point_plain x e =
     let both = and_both (leb 46 x) (leb x 46) e in
-    let point : x ≡ 46 = omega (arith, leb_true 46 x both.0, leb_true x 46 both.1) in
+    let point : x ≡ 46 = omega (arith, leb-true 46 x both.0, leb-true x 46 both.1) in
     rw point
 
 date_plain : (v : List ℕ) → is_date v ≡ true → all is_plain v ≡ true
@@ -174,7 +174,7 @@ module _ {σ : ℕ → ℕ} (ex : Exchange σ) where
 
       each : (reps : List (List ℕ)) → map (value_in (exchanged σ d) whole rule) (map (map σ) reps) ≡ map (map σ) (map (value_in d whole rule) reps)
       each [] = refl
-      each (rep ∷ reps) = ap2 ◌∷◌ (ap (λ (p : Piece). p.bytes) (component-moved ex d whole rep rule.place.component)) (each reps)
+      each (rep ∷ reps) = ap₂ ◌∷◌ (ap (λ (p : Piece). p.bytes) (component-moved ex d whole rep rule.place.component)) (each reps)
 
   module _ (follows : ℕ → ℕ → Bool) (rules : List Rule) (sets : List (List (List ℕ))) (m : List ℕ) (still : map (map (map σ)) sets ≡ sets) where
     values_at_lem : (n i : ℕ) → values_at follows rules sets (map σ m) n i ≡ map (map σ) (values_at follows rules sets m n i)
@@ -193,7 +193,7 @@ module _ {σ : ℕ → ℕ} (ex : Exchange σ) where
 
     breaks-kept : (n j r : ℕ) → breaks_at follows rules sets (map σ m) n j r ≡ breaks_at follows rules sets m n j r
     breaks-kept n zero r = rw (segments-exchanged ex m, before-kept (segments_of m) n, at-kept (segments_of m) n)
-    breaks-kept n (suc i) r = ap2 (λ (name : ℕ) (b : Bool). is_about (rule_numbered follows rules sets m i) name && b) (named-kept n) (rule-kept n i r)
+    breaks-kept n (suc i) r = ap₂ (λ (name : ℕ) (b : Bool). is_about (rule_numbered follows rules sets m i) name && b) (named-kept n) (rule-kept n i r)
 
     finding_kept : (n j r : ℕ) → finding_at follows rules sets (map σ m) n j r ≡ finding_at follows rules sets m n j r
     finding_kept n zero r = rw (segments-exchanged ex m, at-kept (segments_of m) n, earlier-kept (segments_of m))

@@ -4,7 +4,7 @@ use mathlib.Core.Path.{◌≡◌, refl, ap, ◌∙◌}
 use mathlib.Core.Bool.{Bool, true, false, not, ◌&&◌}
 use mathlib.Core.List.{List, [], map}
 use native.Mathlib.Omega.{arith}
-use borrow.Author.Tests.{leb_true}
+use borrow.Author.Tests.{leb-true}
 use lib.ListN.{get_or}
 use lib.Dec.{leb}
 use Rattle.grade.specs.Strict.{count_from}
@@ -36,7 +36,7 @@ by-table table follows right =
     at : (before name : ℕ) (p : Bool) → counted before ≡ p → (q : Bool) → leb name segment_count ≡ q → out_of_order (table_says (table_of follows)) before name ≡ out_of_order follows before name
     at before name true p true q =
         let w = counted_bounds before p in
-        ap (λ (t : Bool). counted before && (leb name segment_count && not t)) (says_so follows before name w.0 w.1 (leb_true name segment_count q))
+        ap (λ (t : Bool). counted before && (leb name segment_count && not t)) (says_so follows before name w.0 w.1 (leb-true name segment_count q))
     at before name true p false q = rw (p, q)
     at before name false p q d = rw p
 

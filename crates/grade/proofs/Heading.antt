@@ -1,6 +1,6 @@
 -- The header's findings, one after the other: what the functions of `header` leave of their list. Assumes nothing.
 use Prim.Native.Nat.{◌≤◌}
-use mathlib.Core.Path.{◌≡◌, refl, sym, ap, ap2}
+use mathlib.Core.Path.{◌≡◌, refl, sym, ap, ap₂}
 use mathlib.Core.Bool.{Bool, true, false, ◌&&◌, ◌||◌, true≢false}
 use mathlib.Core.List.{List, [], ◌∷◌, ◌++◌}
 use native.Mathlib.Omega.{arith}
@@ -13,7 +13,7 @@ use Rattle.grade.specs.declared.finding.Finding.{Finding}
 -- a list whose first element and others are known
 pub first-others : {A : Type 0} (l : List A) {x : A} {others : List A} → take 1 l ≡ x ∷ [] → others ≡ drop 1 l → l ≡ x ∷ others
 first-others [] e f = absurd (omega (arith, ap length e))
-first-others (y ∷ l) e f = ap2 ◌∷◌ (ap (λ l. get_or l 0 y) e) (sym f)
+first-others (y ∷ l) e f = ap₂ ◌∷◌ (ap (λ l. get_or l 0 y) e) (sym f)
 
 -- which of the four checks fail
 abbrev pub checks : (a b c e : Bool) → Header

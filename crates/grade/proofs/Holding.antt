@@ -5,7 +5,7 @@ use mathlib.Core.Bool.{true, ◌&&◌}
 use mathlib.Core.List.{List, [], ◌∷◌, map}
 use native.Mathlib.Decide.{dec_lt}
 use native.Mathlib.Omega.{arith}
-use borrow.Author.Tests.{leb_true}
+use borrow.Author.Tests.{leb-true}
 use lib.Dec.{leb}
 use lib.ListN.{length, get_or, take}
 use lib.Seq.{slice, get_or-take, length-take-le, ext_get_or}
@@ -118,9 +118,9 @@ place_limits sets r h =
     let f = and_both (leb (first_field p.segment) p.field) (leb p.field field_limit) v.1 in
     record {
       segment = v.0;
-      first = leb_true (first_field p.segment) p.field f.0;
-      last = leb_true p.field field_limit f.1;
-      component = leb_true p.component component_limit u.1;
+      first = leb-true (first_field p.segment) p.field f.0;
+      last = leb-true p.field field_limit f.1;
+      component = leb-true p.component component_limit u.1;
     }
 
 -- and of a kind
@@ -130,4 +130,4 @@ kind_limits sets r h = (and_both (place_fits r.place) (kind_fits sets r.kind) h)
 pub code_limits : (sets set : ℕ) → kind_fits sets (Kind.Code set) ≡ true → (1 ≤ set) × (set ≤ sets)
 code_limits sets set h =
     let w = and_both (leb 1 set) (leb set sets) h in
-    (leb_true 1 set w.0, leb_true set sets w.1)
+    (leb-true 1 set w.0, leb-true set sets w.1)

@@ -1,6 +1,6 @@
 -- Lists in strict order: what they are made of, and that their members determine them. Knows nothing of findings. Assumes nothing.
 use Prim.Native.Nat.{ℕ, zero, suc, ◌+◌, ◌≤◌, ◌<◌}
-use mathlib.Core.Path.{◌≡◌, refl, sym, ap, ap2, subst, ◌∙◌}
+use mathlib.Core.Path.{◌≡◌, refl, sym, ap, ap₂, subst, ◌∙◌}
 use mathlib.Core.Bool.{Bool, true, false, cond}
 use mathlib.Core.Logic.{inl, inr, ⊎_elim, ◌↔◌}
 use mathlib.Core.List.Memᴰ
@@ -32,7 +32,7 @@ module _ {A : Type 0} (R : A → A → Type 0) (asym : (x y : A) → R x y → R
   by_members (x ∷ l) [] hl hk same = absurd (Memᴰ.not-nil ((same x).0 (Memᴰ.head refl)))
   by_members (x ∷ l) (y ∷ k) hl hk same =
       let e : x ≡ y = heads x y l k hl hk same in
-      ap2 ◌∷◌ e (by_members l k hl.1 hk.1 (λ z. (in_tail x y l k e hl (λ w. (same w).0) z, in_tail y x k l (sym e) hk (λ w. (same w).1) z)))
+      ap₂ ◌∷◌ e (by_members l k hl.1 hk.1 (λ z. (in_tail x y l k e hl (λ w. (same w).0) z, in_tail y x k l (sym e) hk (λ w. (same w).1) z)))
 
 -- ---- lexicographic order
 pub lex_asym : {A : Type 0} (R : A → A → Type 0) → ((x y : A) → R x y → R y x → ⊥) → (x y : ℕ × A) → Lex R x y → Lex R y x → ⊥

@@ -4,7 +4,7 @@ use native.Mathlib.Omega.{arith}
 use mathlib.Core.Path.{◌≡◌, refl, sym, ap, subst, ◌∙◌}
 use mathlib.Core.Bool.{Bool, true, false, cond, not, ◌&&◌, ◌||◌, true≢false}
 use mathlib.Core.List.{List, [], ◌∷◌, map}
-use borrow.Author.Tests.{le-leb, lt-leb, leb_true, eq-eqb, ne_eqb}
+use borrow.Author.Tests.{le-leb, lt-leb, leb-true, eq-eqb, ne_eqb}
 use lib.Dec.{eqb, leb}
 use lib.ListN.{length, get_or, take}
 use lib.Seq.{length-take-le}
@@ -62,7 +62,7 @@ module _ (b : List ℕ) where
 
     module _ (l : (leb 1 (get_or b 5 0) && leb (get_or b 5 0) section_limit) ≡ true) where
       pub few-sections : get_or b 5 0 ≤ section_limit
-      few-sections = leb_true (get_or b 5 0) section_limit (and_both (leb 1 (get_or b 5 0)) (leb (get_or b 5 0) section_limit) l).1
+      few-sections = leb-true (get_or b 5 0) section_limit (and_both (leb 1 (get_or b 5 0)) (leb (get_or b 5 0) section_limit) l).1
 
       module _ (starts : List ℕ) (r : Next) (w : times (get_or b 5 0) (starting section) b 6 ≡ up_to (take (get_or b 5 0) starts) r) where
         pub wrong_section : r ≡ Next.Fault → Tells starts Indexed.Malformed
@@ -99,7 +99,7 @@ pub head-long : (b : List ℕ) → head_right b ≡ true → head_size ≤ lengt
 unfolding head_right
 head-long b h =
     let w = and_both (within head_size book_limit (length b)) (begins (bytes "VXB") b) h in
-    leb_true head_size (length b) (and_both (leb head_size (length b)) (leb (length b) book_limit) w.0).0
+    leb-true head_size (length b) (and_both (leb head_size (length b)) (leb (length b) book_limit) w.0).0
 
 module _ (b starts : List ℕ) where
   pub head_wrong : head_right b ≡ false → Indexes b starts Indexed.Malformed

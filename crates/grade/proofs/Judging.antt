@@ -1,6 +1,6 @@
 -- Judging one segment: the codes of a rule, its values, and what a rule and the rules give. Assumes nothing.
 use Prim.Native.Nat.{ℕ, ◌+◌, ◌-◌, ◌≤◌, ◌<◌}
-use mathlib.Core.Path.{◌≡◌, refl, sym, ap, ap2, subst, subst⁻¹, ◌∙◌}
+use mathlib.Core.Path.{◌≡◌, refl, sym, ap, ap₂, subst, subst⁻¹, ◌∙◌}
 use mathlib.Core.Bool.{Bool, true, false, ◌&&◌, and-false}
 use mathlib.Core.List.{List, [], ◌++◌, map}
 use native.Mathlib.Numerals.{add-one}
@@ -96,7 +96,7 @@ module _ (d : Delims) (b : List ℕ) (s : Section) (name ordinal : ℕ) (seg : L
   pub left_as : (fld : List ℕ) → field_here ≡ fld → (codes : ℕ) → CodesAre b (sets_in b s) rule.kind codes → (spot : Spot)
       → left_here spot ≡ map (value_finding name ordinal rule (spot.rule + 1)) (broken_from d fld b rule codes spot.at spot.passed)
   left_as fld is_field codes are spot =
-      ap2 (λ (test : ℕ → List ℕ → Bool) (f : List ℕ). map (value_finding name ordinal rule (spot.rule + 1)) (broken_values test spot.passed (map (value_in d false rule) (parts_from d.tilde f spot.at))))
+      ap₂ (λ (test : ℕ → List ℕ → Bool) (f : List ℕ). map (value_finding name ordinal rule (spot.rule + 1)) (broken_values test spot.passed (map (value_in d false rule) (parts_from d.tilde f spot.at))))
       (sym (breaks-same b (sets_in b s) codes rule are)) is_field
 
 -- ---- the rules at a segment's bytes

@@ -7,7 +7,7 @@ use mathlib.Core.Bool.{Bool, true, false, cond, ◌&&◌, and-false, false≢tru
 use mathlib.Core.List.{List, [], ◌∷◌}
 use lib.Dec.{eqb, leb, ltb, lit≤}
 use lib.ListN.{length, get_or, get_or-eq_default}
-use borrow.Author.Tests.{eqb-true, leb_true, le-leb, lt-leb, ltb-true}
+use borrow.Author.Tests.{eqb-true, leb-true, le-leb, lt-leb, ltb-true}
 use Rattle.hl7.specs.Bytes.{same}
 use Rattle.hl7.proofs.Comparing.{and_both, same_equal, upto, upto-at}
 use Rattle.grade.specs.Limits.{segment_count}
@@ -24,7 +24,7 @@ not-counted n h = rw (lt-leb n segment_count h, and-false (leb 1 n))
 pub counted_bounds : (n : ℕ) → counted n ≡ true → (1 ≤ n) × (n ≤ segment_count)
 counted_bounds n e =
     let w = and_both (leb 1 n) (leb n segment_count) e in
-    (leb_true 1 n w.0, leb_true n segment_count w.1)
+    (leb-true 1 n w.0, leb-true n segment_count w.1)
 
 -- a test that passes at each of them
 pub at-counted : (test : ℕ → Bool) → upto (λ (k : ℕ). test (suc k)) segment_count ≡ true → (n : ℕ) → counted n ≡ true → test n ≡ true

@@ -6,7 +6,7 @@ use mathlib.Core.Bool.{Bool, true, false, cond, ◌||◌, false≢true}
 use mathlib.Core.List.{List, [], ◌∷◌, map}
 use lib.Dec.{leb}
 use lib.ListN.{length, get_or}
-use borrow.Author.Tests.{leb_true, not-true, not-false}
+use borrow.Author.Tests.{leb-true, not-true, not-false}
 use Rattle.hl7.specs.Bytes.{all, same, among}
 use Rattle.hl7.specs.Refusals.{Told, told, Row, first_row}
 use Rattle.hl7.proofs.Comparing.{and_both, same_equal}
@@ -92,8 +92,8 @@ held b at s c end p =
       sym (ap items_of p.rules_read),
       sym (ap items_of p.sets_read),
       record {
-        few_rules = leb_true s.rule_count rule_limit f.0;
-        few_sets = leb_true s.set_count set_limit f.1;
+        few_rules = leb-true s.rule_count rule_limit f.0;
+        few_sets = leb-true s.set_count set_limit f.1;
         rules_end = ap end_of p.rules_read;
         sets_after = end;
         sets_end = ap end_of p.sets_read;

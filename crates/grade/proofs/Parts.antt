@@ -2,7 +2,7 @@
 use Prim.Native.Nat.{ℕ, ◌+◌, ◌-◌, ◌*◌, ◌<◌, ◌≤◌}
 use native.Mathlib.Nat.{add-zero}
 use native.Mathlib.Omega.{arith}
-use mathlib.Core.Path.{◌≡◌, refl, sym, ap, ap2, subst, subst2, ◌∙◌}
+use mathlib.Core.Path.{◌≡◌, refl, sym, ap, ap₂, subst, subst₂, ◌∙◌}
 use mathlib.Core.Bool.{Bool, true, false, cond, ◌&&◌}
 use mathlib.Core.List.{List, [], ◌∷◌, map}
 use borrow.Author.Tests.{eqb-true}
@@ -239,7 +239,7 @@ section-joined b at end counts rule_count m set_count m' rules_at sets_at key ru
     let behind : m ≡ text_end b at + 2 = omega (arith, t.ends, h.2) in
     let held : set_count ≡ get_or b (text_end b at + 2) 0 = i.1 ∙ ap (λ (x : ℕ). get_or b x 0) behind in
     let past : sets_at ≡ text_end b at + 3 + rule_size * pair b (text_end b at) =
-    row_end (rule_in set_count) b rule_size (λ at r e q. (rule_found set_count b at r e q).2) no_rule rule_count rules_at rules sets_at r ∙ ap2 (λ (x y : ℕ). x + rule_size * y) from many in
+    row_end (rule_in set_count) b rule_size (λ at r e q. (rule_found set_count b at r e q).2) no_rule rule_count rules_at rules sets_at r ∙ ap₂ (λ (x y : ℕ). x + rule_size * y) from many in
     let site : record { rules_at = rules_at; rule_count = rule_count; sets_at = sets_at; set_count = set_count } ≡ site_at b at = rw (past, from, many, held) in
     subst (λ (x : Section). SectionParts b at x (record { key = key; rules = rules; sets = sets }) end) site
     (record {
@@ -263,7 +263,7 @@ section_parts b at c end h =
     let rs = then_found (times r.0 (rule_in s.0) b l.1) _ c end l.3 in
     let ss = then_found (times s.0 code_set b rs.1) _ c end rs.3 in
     let w = found-same (record { key = k.0; rules = rs.0; sets = ss.0 }) c ss.1 end ss.3 in
-    subst2 (λ (x : Contents) (y : ℕ). SectionParts b at (site_at b at) x y) w.0 w.1
+    subst₂ (λ (x : Contents) (y : ℕ). SectionParts b at (site_at b at) x y) w.0 w.1
     (section-joined b at ss.1 k.1 r.0 r.1 s.0 s.1 l.1 rs.1 k.0 rs.0 ss.0 k.2
     (two_found b k.1 r.0 r.1 r.2) (byte-found b r.1 s.0 s.1 s.2)
     (check-found (leb r.0 rule_limit && leb s.0 set_limit) b s.1 l.0 l.1 l.2) rs.2 ss.2)
@@ -322,7 +322,7 @@ book_parts b all end h =
         record {
           room = h.0;
           few = rw h.1 at k.0;
-          read = rw (← h.1, ← a) (q ∙ ap2 found l e);
+          read = rw (← h.1, ← a) (q ∙ ap₂ found l e);
           differ = subst (λ (xs : List Contents). distinct (keys xs) ≡ true) l d;
         }
 
@@ -348,4 +348,4 @@ module _ (b : List ℕ) (left from : ℕ) (h : 0 < left) (f : is_found (times le
   codes-next next e =
       let c = first_code in
       let n : next ≡ c.2 = e ∙ sym c.4.ends in
-      rw n (ap is_found c.5, ap end_of c.6 ∙ sym (ap end_of c.5), ap items_of c.6 ∙ ap2 ◌∷◌ c.4.is (sym (ap items_of c.5)))
+      rw n (ap is_found c.5, ap end_of c.6 ∙ sym (ap end_of c.5), ap items_of c.6 ∙ ap₂ ◌∷◌ c.4.is (sym (ap items_of c.5)))

@@ -2,11 +2,11 @@
 use Prim.Native.Nat.{ℕ, zero, suc, ◌+◌, ◌-◌, ◌≤◌, ◌<◌}
 use Prim.Native.Char.{code}
 use mathlib.Core.Path.{◌≡◌, refl, sym, ap, subst, subst⁻¹, ◌∙◌}
-use mathlib.Core.Bool.{Bool, true, false, cond, ◌&&◌, ◌||◌, and_true}
+use mathlib.Core.Bool.{Bool, true, false, cond, ◌&&◌, ◌||◌, and-true}
 use mathlib.Core.List.{List, [], ◌∷◌, ◌++◌, map, Memᴰ}
 use native.Mathlib.Decide.{dec_lt}
 use native.Mathlib.Omega.{arith}
-use borrow.Author.Tests.{eqb-true, leb_false, le-leb}
+use borrow.Author.Tests.{eqb-true, leb-false, le-leb}
 use lib.Dec.{T, eqb, leb}
 use lib.ListN.{length, get_or, drop, length-take}
 use Rattle.hl7.specs.Bytes.{within}
@@ -130,7 +130,7 @@ value_in_range_lem name ordinal rule i k here fits numbered repeated =
 -- a number up to the last name's that is none of the ten is the end's
 end_named : (n : ℕ) → leb n segment_count ≡ true → counted n ≡ false → n ≡ the_end
 end_named n e f =
-    let none = leb_false 1 n (sym (and_true (leb 1 n)) ∙ rw e at f) in
+    let none = leb-false 1 n (sym (and-true (leb 1 n)) ∙ rw e at f) in
     omega arith
 
 -- ---- the segments of a short message

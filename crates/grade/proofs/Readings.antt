@@ -6,7 +6,7 @@ use native.Mathlib.Numerals.{add-one}
 use mathlib.Core.Path.{◌≡◌, refl, sym, ap, ◌∙◌}
 use mathlib.Core.List.{List, [], ◌∷◌, ◌++◌, map, append_assoc, append-nil}
 use mathlib.Core.Bool.{Bool, true, false, cond, false≢true}
-use borrow.Author.Tests.{leb_true}
+use borrow.Author.Tests.{leb-true}
 use lib.Dec.{leb}
 use lib.ListN.{length, get_or, take, set}
 use lib.Seq.{slice, take-suc-set}
@@ -105,18 +105,18 @@ check-found false b at u e h = let z : ◌≡◌ {A = ℕ} 0 1 = cc in absurd (o
 pub byte-found : (b : List ℕ) (at v e : ℕ) → byte b at ≡ found v e → (at + 1 ≤ length b) × (v ≡ get_or b at 0) × (e ≡ at + 1)
 byte-found b at v e h =
     let w = cond-found (leb (at + 1) (length b)) (found (get_or b at 0) (at + 1)) v e h in
-    (leb_true (at + 1) (length b) w.0, cc, cc)
+    (leb-true (at + 1) (length b) w.0, cc, cc)
 
 pub two_found : (b : List ℕ) (at v e : ℕ) → two_bytes b at ≡ found v e → (at + 2 ≤ length b) × (v ≡ pair b at) × (e ≡ at + 2)
 two_found b at v e h =
     let w = cond-found (leb (at + 2) (length b)) (found (pair b at) (at + 2)) v e h in
-    (leb_true (at + 2) (length b) w.0, cc, cc)
+    (leb-true (at + 2) (length b) w.0, cc, cc)
 
 pub run-found : (n : ℕ) (b : List ℕ) (at : ℕ) (v : List ℕ) (e : ℕ) → run n b at ≡ found v e →
     (at + n ≤ length b) × (v ≡ slice at (at + n) b) × (e ≡ at + n)
 run-found n b at v e h =
     let w = cond-found (leb (at + n) (length b)) (found (slice at (at + n) b) (at + n)) v e h in
-    (leb_true (at + n) (length b) w.0, cc, cc)
+    (leb-true (at + n) (length b) w.0, cc, cc)
 
 -- ---- a row of readings, with those that were read before it
 

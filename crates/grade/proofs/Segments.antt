@@ -1,6 +1,6 @@
 -- Walking the segments: what each function of `step` adds to the list of what is still to come. Assumes nothing.
 use Prim.Native.Nat.{ℕ, zero, suc, ◌+◌, ◌≤◌, ◌<◌}
-use mathlib.Core.Path.{◌≡◌, refl, sym, ap, ap2, subst, subst⁻¹, ◌∙◌}
+use mathlib.Core.Path.{◌≡◌, refl, sym, ap, ap₂, subst, subst⁻¹, ◌∙◌}
 use mathlib.Core.Bool.{Bool, true, false, cond}
 use mathlib.Core.List.{List, [], ◌∷◌, ◌++◌, append_assoc}
 use native.Mathlib.Numerals.{add-one}
@@ -76,7 +76,7 @@ pub entered : {d : Delims} {m starts : List ℕ} {rules first at stop name ordin
 entered {at = at} {stop} {name} {ordinal} {count} {single} e f parted = record {
   count = count;
   single = single;
-  is = ap2 (λ (header : Header) (x : Spot). record { header = header; here = record { start = at; end = stop; name = name; ordinal = ordinal; count = count; single = single }; spot = x; next = stop + 1; last = name }) e f;
+  is = ap₂ (λ (header : Header) (x : Spot). record { header = header; here = record { start = at; end = stop; name = name; ordinal = ordinal; count = count; single = single }; spot = x; next = stop + 1; last = name }) e f;
   parted = parted;
 }
 
@@ -258,4 +258,4 @@ start_list follows m b s = walk_all follows (rules_in b s) (sets_in b s) m
 -- ---- another order that says the same, other delimiters that are the same
 pub list_as : (m b : List ℕ) (s : Section) {out : ℕ → ℕ → Bool} {d : Delims} (follows : ℕ → ℕ → Bool) → out ≡ out_of_order follows → d ≡ delims_of m
     → grade_from out d m b s 0 other_number (replicate name_places 0) ≡ findings follows (rules_in b s) (sets_in b s) m
-list_as m b s follows e f = ap2 (λ (o : ℕ → ℕ → Bool) (x : Delims). grade_from o x m b s 0 other_number (replicate name_places 0)) e f ∙ start_list follows m b s
+list_as m b s follows e f = ap₂ (λ (o : ℕ → ℕ → Bool) (x : Delims). grade_from o x m b s 0 other_number (replicate name_places 0)) e f ∙ start_list follows m b s

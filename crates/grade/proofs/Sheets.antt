@@ -1,6 +1,6 @@
 -- Findings on the lines of a sheet, and what is known after one more of them. Assumes nothing.
 use Prim.Native.Nat.{ℕ, zero, suc, ◌+◌, ◌*◌, ◌≤◌, ◌<◌}
-use mathlib.Core.Path.{◌≡◌, refl, sym, ap, ap2, subst, ◌∙◌}
+use mathlib.Core.Path.{◌≡◌, refl, sym, ap, ap₂, subst, ◌∙◌}
 use mathlib.Core.Bool.{Bool, true, false, cond, ◌&&◌, ◌||◌, or_assoc, true≢false}
 use mathlib.Core.List.{List, [], ◌∷◌, ◌++◌, append-nil, append_assoc}
 use native.Mathlib.Omega.{arith}
@@ -54,7 +54,7 @@ module _ (lines : List ℕ) (n x y : ℕ) where
   unfolding records_from
   records_kept i zero h = refl
   records_kept i (suc k) h =
-      ap2 (λ (f : Finding) (l : List Finding). f ∷ l) (ap2 record_of (other (2 * i) (omega arith)) (other (2 * i + 1) (omega arith))) (records_kept (suc i) k (omega arith))
+      ap₂ (λ (f : Finding) (l : List Finding). f ∷ l) (ap₂ record_of (other (2 * i) (omega arith)) (other (2 * i + 1) (omega arith))) (records_kept (suc i) k (omega arith))
 
   -- a record noted on the line behind those that are used
   pub records_noted : 2 * n + 1 < length lines → records_from noted 0 (suc n) ≡ records_from lines 0 n ++ (record_of x y ∷ [])
@@ -62,7 +62,7 @@ module _ (lines : List ℕ) (n x y : ℕ) where
       let front : get_or noted (2 * n) 0 ≡ x = get_or-set_other (set lines (2 * n) x) (2 * n + 1) (2 * n) y 0 (λ e. absurd (omega (arith, e))) ∙ get_or-set_same lines (2 * n) x 0 (omega arith) in
       let back : get_or noted (2 * n + 1) 0 ≡ y = get_or-set_same (set lines (2 * n) x) (2 * n + 1) y 0 (omega (arith, length-set lines (2 * n) x)) in
       let line : 0 + n ≡ n = omega arith in
-      records_last noted 0 n ∙ ap (λ (i : ℕ). records_from noted 0 n ++ (record_at noted i ∷ [])) line ∙ ap2 (λ (l : List Finding) (f : Finding). l ++ (f ∷ [])) (records_kept 0 n (omega arith)) (ap2 record_of front back)
+      records_last noted 0 n ∙ ap (λ (i : ℕ). records_from noted 0 n ++ (record_at noted i ∷ [])) line ∙ ap₂ (λ (l : List Finding) (f : Finding). l ++ (f ∷ [])) (records_kept 0 n (omega arith)) (ap₂ record_of front back)
 
 -- ---- what the findings have
 pub has-append : (test : Finding → Bool) (l k : List Finding) → has test (l ++ k) ≡ (has test l || has test k)

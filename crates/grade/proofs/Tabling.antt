@@ -8,7 +8,7 @@ use native.Mathlib.Omega.{arith}
 use lib.Dec.{leb}
 use lib.ListN.{length, get_or, take, drop, length-append, length-drop}
 use lib.Seq.{take-append_seam, drop-append_seam}
-use borrow.Author.Tests.{eq-eqb, eqb-true, eqb-false, leb_true, leb_false}
+use borrow.Author.Tests.{eq-eqb, eqb-true, eqb-false, leb-true, leb-false}
 use Rattle.hl7.specs.Bytes.{is_in, distinct}
 use Rattle.hl7.specs.Refusals.{Told, told, first_row, passes, numbers_of, apart, holds_at, First, message_rows, form_rows}
 use Rattle.hl7.proofs.Refusing.{row-exactly, none-exactly}
@@ -45,11 +45,11 @@ module _ (m b : List ℕ) (table : List Finding) where
       by false fits e f = let some = eqb-false _ 0 e in subst⁻¹ P (into_refused m b table some) (refused some)
       by true false e f =
           let none = eqb-true _ 0 e in
-          let less = leb_false (length found) (length table) f in
+          let less = leb-false (length found) (length table) f in
           subst⁻¹ P (into_short m b table none less) (short none less)
       by true true e f =
           let none = eqb-true _ 0 e in
-          let fit = leb_true (length found) (length table) f in
+          let fit = leb-true (length found) (length table) f in
           subst⁻¹ P (into_room m b table none fit) (room none fit)
 
   -- ---- exactly when

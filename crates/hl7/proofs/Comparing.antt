@@ -1,6 +1,6 @@
 -- Laws of `specs/Bytes.antt`, each in the words of a loop that goes along the bytes by index. Assumes nothing.
-use mathlib.Core.Path.{◌≡◌, refl, sym, ap, ap2, ◌∙◌}
-use mathlib.Core.Bool.{Bool, true, false, cond, not, ◌&&◌, ◌||◌, and_true, and-false, and_assoc, true≢false}
+use mathlib.Core.Path.{◌≡◌, refl, sym, ap, ap₂, ◌∙◌}
+use mathlib.Core.Bool.{Bool, true, false, cond, not, ◌&&◌, ◌||◌, and-true, and-false, and_assoc, true≢false}
 use mathlib.Core.List.{List, [], ◌∷◌, ◌++◌, map}
 use Prim.Native.Nat.{ℕ, zero, suc, ◌+◌, ◌-◌, ◌≤◌, ◌<◌}
 use native.Mathlib.Numerals.{add-one}
@@ -113,12 +113,12 @@ all-gathered test v i b h = ap (λ (l : List ℕ). b && all test l) (rest_at v i
 
 pub all-over : (test : ℕ → Bool) (v : List ℕ) (i : ℕ) (b : Bool) → length v ≤ i → (b && all test (drop i v)) ≡ b
 unfolding all
-all-over test v i b h = ap (λ (l : List ℕ). b && all test l) (drop_of_length-le v h) ∙ and_true b
+all-over test v i b h = ap (λ (l : List ℕ). b && all test l) (drop_of_length-le v h) ∙ and-true b
 
 -- with one more at the end
 pub all_last : (test : ℕ → Bool) (v : List ℕ) (x : ℕ) → all test (v ++ (x ∷ [])) ≡ (all test v && test x)
 unfolding all
-all_last test [] x = and_true (test x)
+all_last test [] x = and-true (test x)
 all_last test (y ∷ v) x = ap (λ (b : Bool). test y && b) (all_last test v x) ∙ sym (and_assoc (test y) (all test v) (test x))
 
 -- ---- how many bytes are d
@@ -157,7 +157,7 @@ same_lengths (x ∷ v) (y ∷ w) h = ap (λ (t : Bool). eqb x y && t) (same_leng
 module _ (v w : List ℕ) (i : ℕ) where
   same_step : i < length v → i < length w → same (drop i v) (drop i w) ≡ (eqb (get_or v i 0) (get_or w i 0) && same (drop (i + 1) v) (drop (i + 1) w))
   unfolding same
-  same_step h k = ap2 same (rest_at v i h) (rest_at w i k)
+  same_step h k = ap₂ same (rest_at v i h) (rest_at w i k)
 
   pub same_more : i < length v → i < length w → get_or v i 0 ≡ get_or w i 0 → same (drop i v) (drop i w) ≡ same (drop (i + 1) v) (drop (i + 1) w)
   same_more h k e = rw (same_step h k, eq-eqb (get_or v i 0) (get_or w i 0) e)
@@ -167,7 +167,7 @@ module _ (v w : List ℕ) (i : ℕ) where
 
   pub same_none : length v ≤ i → length w ≤ i → same (drop i v) (drop i w) ≡ true
   unfolding same
-  same_none h k = ap2 same (drop_of_length-le v h) (drop_of_length-le w k)
+  same_none h k = ap₂ same (drop_of_length-le v h) (drop_of_length-le w k)
 
 -- equal bytes are the same, and the same bytes are equal
 pub same_self : (v : List ℕ) → same v v ≡ true
@@ -182,7 +182,7 @@ same_equal [] (y ∷ w) h = absurd (true≢false (sym h))
 same_equal (x ∷ v) [] h = absurd (true≢false (sym h))
 same_equal (x ∷ v) (y ∷ w) h =
     let t = and_both (eqb x y) (same v w) h in
-    ap2 ◌∷◌ (eqb-true x y t.0) (same_equal v w t.1)
+    ap₂ ◌∷◌ (eqb-true x y t.0) (same_equal v w t.1)
 
 -- ---- texts
 -- what stands at the positions of a list, from number i on

@@ -1,6 +1,6 @@
 -- Laws of `specs/Cut.antt`: what one more byte does to a cut, where its first part ends, and what is left after it.
 -- Assumes nothing.
-use mathlib.Core.Path.{◌≡◌, refl, sym, ap, ap2, subst⁻¹, ◌∙◌}
+use mathlib.Core.Path.{◌≡◌, refl, sym, ap, ap₂, subst⁻¹, ◌∙◌}
 use mathlib.Core.Bool.{Bool, true, false, cond, true≢false}
 use mathlib.Core.List.{List, [], ◌∷◌}
 use Prim.Native.Nat.{ℕ, zero, suc, ◌+◌, ◌-◌, ◌≤◌, ◌<◌}
@@ -217,7 +217,7 @@ piece_past d s zero i k c h e few =
     let size : i + 0 - i ≡ 0 = omega arith in
     let none : c ≡ 0 = e ∙ ap (λ (m : ℕ). occurrences d (take m (drop i s))) size in
     let same : k ≡ k - c = omega arith in
-    ap2 (piece_from d s) (sym (add-zero i)) same
+    ap₂ (piece_from d s) (sym (add-zero i)) same
 piece_past d s (suc n) i k c h e few = by (ℕ_discrete (get_or s i 0) d) (piece_past d s n (i + 1))
   where
     rest : ℕ
@@ -233,7 +233,7 @@ piece_past d s (suc n) i k c h e few = by (ℕ_discrete (get_or s i 0) d) (piece
     by (yes here) ih =
         let one : c ≡ 1 + rest = counted ∙ rw (eq-eqb (get_or s i 0) d here) in
         let left : k - 1 - rest ≡ k - c = omega arith in
-        piece_next d s i (sym (end_here d s i (omega arith) here)) (omega arith) (omega arith) ∙ ih (k - 1) rest (omega arith) refl (omega arith) ∙ ap2 (piece_from d s) past left
+        piece_next d s i (sym (end_here d s i (omega arith) here)) (omega arith) (omega arith) ∙ ih (k - 1) rest (omega arith) refl (omega arith) ∙ ap₂ (piece_from d s) past left
     by (no other) ih =
         let none : c ≡ rest = counted ∙ rw (ne_eqb (get_or s i 0) d other) (omega arith) in
         piece_later d s i k (omega arith) other (omega arith) ∙ ih k c (omega arith) none few ∙ ap (λ (at : ℕ). piece_from d s at (k - c)) past
@@ -311,7 +311,7 @@ pub spans_inside : {s : List ℕ} {outer inner : Span} {p : Piece} (f : List ℕ
 spans_inside {s} {outer} {inner} {p} f o i =
     let fits : outer.start + inner.end ≤ outer.end = omega (arith, spans_length o, i.inside, o.forward) in
     record {
-      start = ap2 ◌+◌ o.start (i.start ∙ ap (λ (l : List ℕ). (f l).start) o.bytes);
+      start = ap₂ ◌+◌ o.start (i.start ∙ ap (λ (l : List ℕ). (f l).start) o.bytes);
       bytes = sym (between-inside s outer.start outer.end inner.start inner.end fits) ∙ i.bytes ∙ ap (λ (l : List ℕ). (f l).bytes) o.bytes;
       forward = omega (arith, i.forward);
       inside = omega (arith, o.inside);

@@ -1,6 +1,6 @@
 -- Laws of `specs/Delimiters.antt`: what is known of the delimiters of every message that passes row 4. Assumes nothing.
 use mathlib.Core.Path.{◌≡◌, refl, sym, ap, ◌∙◌}
-use mathlib.Core.Bool.{Bool, true, false, not, ◌&&◌, ◌||◌, and_true, and_assoc, or-false, or_assoc, true≢false}
+use mathlib.Core.Bool.{Bool, true, not, ◌&&◌, ◌||◌, and-true, and_assoc, or-false, or_assoc, true≢false}
 use mathlib.Core.List.{List}
 use Prim.Native.Nat.{ℕ, ◌≤◌, ◌<◌}
 use Prim.Native.Char.{code}
@@ -87,7 +87,7 @@ standard-cut d e = sym (ap may_cut (standard-is d e))
 -- ---- in the code's words, which asks one after the other
 pub asked_standard : (d : Delims) → (eqb d.bar (code "|") && eqb d.caret (code "^") && eqb d.tilde (code "~") && eqb d.backslash (code "\\") && eqb d.ampersand (code "&")) ≡ same (five_of d) (bytes "|^~\\&")
 unfolding same
-asked_standard d = simp (and_true, and_assoc)
+asked_standard d = simp (and-true, and_assoc)
 
 pub asked_byte : (x : ℕ) {upper lower digit printable : Bool} → upper ≡ within 65 90 x → lower ≡ within 97 122 x → digit ≡ within 48 57 x → printable ≡ within 32 126 x
     → (printable && not (upper || lower || digit || (eqb x 32 || eqb x 34 || eqb x 46 || eqb x 43 || eqb x 45 || eqb x 95))) ≡ may_delimit x
@@ -99,13 +99,13 @@ pub asked_distinct : (d : Delims)
     && not (eqb d.caret d.tilde || eqb d.caret d.backslash || eqb d.caret d.ampersand)
     && not (eqb d.tilde d.backslash || eqb d.tilde d.ampersand) && not (eqb d.backslash d.ampersand)) ≡ distinct (five_of d)
 unfolding distinct is_in
-asked_distinct d = simp (and_true, and_assoc, or-false, or_assoc)
+asked_distinct d = simp (and-true, and_assoc, or-false, or_assoc)
 
 pub asked_each : (d : Delims) {a b c e f g : Bool}
     → a ≡ may_delimit d.bar → b ≡ may_delimit d.caret → c ≡ may_delimit d.tilde → e ≡ may_delimit d.backslash → f ≡ may_delimit d.ampersand → g ≡ distinct (five_of d)
     → (a && b && c && e && f && g) ≡ may_cut d
 unfolding may_cut all
-asked_each d p q r s t u = rw (p, q, r, s, t, u) (simp (and_true, and_assoc))
+asked_each d p q r s t u = rw (p, q, r, s, t, u) (simp (and-true, and_assoc))
 
 pub asked_opens : (name m : List ℕ) {d : Delims} {named cuts : Bool} {again : ℕ} → d ≡ delims_of m → named ≡ begins name m → cuts ≡ may_cut d → again ≡ get_or m 8 0 → (named && cuts && eqb again d.bar) ≡ opens name m
 unfolding opens

@@ -1,7 +1,7 @@
 -- Which five delimiters a message is cut by does not matter: where its bytes that may delimit are exchanged among each other, refusals 1 to 5 and the places
 -- stay as they are, and what a place holds is exchanged alike. Assumes nothing.
-use mathlib.Core.Path.{◌≡◌, refl, sym, ap, ap2, ◌∙◌}
-use mathlib.Core.Bool.{Bool, true, false, cond, not, ◌&&◌, ◌||◌, and-false, or_true, not-not}
+use mathlib.Core.Path.{◌≡◌, refl, sym, ap, ap₂, ◌∙◌}
+use mathlib.Core.Bool.{Bool, true, false, cond, not, ◌&&◌, ◌||◌, and-false, or-true, not-not}
 use mathlib.Core.List.{List, [], ◌∷◌, map, map-map}
 use Prim.Native.Nat.{ℕ, zero, suc, ◌+◌}
 use native.Mathlib.Omega.{arith}
@@ -48,7 +48,7 @@ upper_plain x e = simp (e, and-false)
 
 pub digit-plain : (x : ℕ) → is_digit x ≡ true → is_plain x ≡ true
 unfolding may_delimit
-digit-plain x e = simp (e, or_true, and-false)
+digit-plain x e = simp (e, or-true, and-false)
 
 -- ---- what stays
 pub text-still : {σ : ℕ → ℕ} (test : ℕ → Bool) → ((x : ℕ) → test x ≡ true → σ x ≡ x) → (s : List ℕ) → all test s ≡ true → map σ s ≡ s
@@ -355,7 +355,7 @@ module _ (x y : ℕ) (xs ys : List ℕ) (may-x : may_delimit x ≡ true) (may-y 
       record {
         by = λ z. swap a y (t.by z);
         exchange = swap-after a y (delimits_kept t.exchange x ∙ may-x) may-y t.exchange;
-        takes = ap2 ◌∷◌ (swap-first a y) (sym (map-map (swap a y) t.by xs) ∙ ap (map (swap a y)) t.takes ∙ swap-without a y ys apart new-y);
+        takes = ap₂ ◌∷◌ (swap-first a y) (sym (map-map (swap a y) t.by xs) ∙ ap (map (swap a y)) t.takes ∙ swap-without a y ys apart new-y);
         leaves = left;
       }
     where

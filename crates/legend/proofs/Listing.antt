@@ -1,5 +1,5 @@
 -- Laws of the legend's lines: how they are written, one after the other. Assumes nothing.
-use mathlib.Core.Path.{◌≡◌, refl, sym, ap, ap2, ◌∙◌}
+use mathlib.Core.Path.{◌≡◌, refl, sym, ap, ap₂, ◌∙◌}
 use mathlib.Core.Bool.{Bool, true, false, cond, not, ◌&&◌, ◌||◌}
 use mathlib.Core.List.{List, [], ◌∷◌, ◌++◌, map, append_assoc, append-nil}
 use Prim.Native.Nat.{ℕ, suc, ◌+◌, ◌-◌, ◌/◌, ◌%◌, ◌≤◌, ◌<◌}
@@ -7,7 +7,7 @@ use native.Mathlib.Omega.{arith}
 use native.Mathlib.Numerals.{add-one}
 use lib.Dec.{eqb, leb}
 use lib.ListN.{length, get_or, take, drop}
-use borrow.Author.Tests.{ne_eqb, leb_true, leb_false}
+use borrow.Author.Tests.{ne_eqb, leb-true, leb-false}
 use Rattle.hl7.specs.Text.{bytes}
 use Rattle.hl7.specs.declared.cut.Span.{Span}
 use Rattle.hl7.proofs.Comparing.{and_both, from_step, from_done, tail-whole}
@@ -85,7 +85,7 @@ parts_listed t key n spot rule s later l wr wo wl we =
 module _ (t : List ℕ) (spot cell : ℕ) {mark : ℕ} (m : mark ≡ mark_of (noted t cell)) {b c : Bool}
     (e : b ≡ (eqb (mark % 16) a_severity && eqb (mark / 16) spot)) (f : c ≡ (eqb (mark % 16) a_bound && eqb (mark / 16) spot)) where
   changes-is : {d : Bool} → (b || c) ≡ d → changes spot (noted t cell) ≡ d
-  changes-is h = ap2 ◌||◌ (sym (mark_says (noted t cell) m a_severity spot e)) (sym (mark_says (noted t cell) m a_bound spot f)) ∙ h
+  changes-is h = ap₂ ◌||◌ (sym (mark_says (noted t cell) m a_severity spot e)) (sym (mark_says (noted t cell) m a_bound spot f)) ∙ h
 
   pub change_put : (b || c) ≡ true → {o p : List ℕ} {at r : ℕ} → Wrote o at (remark_of t (noted t cell)) p r → Wrote o at (later_remarks t spot (noted t cell ∷ [])) p r
   unfolding later_remarks
@@ -144,7 +144,7 @@ module _ (t cells marks : List ℕ) (i : ℕ) (m : Marks (map (noted t) cells) m
       → Wrote o a (line_of_rule t key n s after_it) p b
   line-listed key n k w =
       wrote_as w
-      (ap2 (λ (spot : ℕ) (ss : List Statement). rule_legend t key n (amended spot s ss) (remark_of t s ++ later_remarks t spot ss)) (k ∙ mark_spot s (marks_at t cells marks i m h)) (later_cells t cells marks i m))
+      (ap₂ (λ (spot : ℕ) (ss : List Statement). rule_legend t key n (amended spot s ss) (remark_of t s ++ later_remarks t spot ss)) (k ∙ mark_spot s (marks_at t cells marks i m h)) (later_cells t cells marks i m))
 
   -- if it stays
   pub made-listed : (key : List ℕ) (n : ℕ) {b : Bool} {o p : List ℕ} {a c : ℕ} → b ≡ stays s after_it → b ≡ true → Wrote o a (line_of_rule t key n s after_it) p c → Wrote o a (line_if_stays t key n s after_it) p c
@@ -197,8 +197,8 @@ pub all_noted : (t : List ℕ) (head : ℕ) {cells : List ℕ} {count next : ℕ
 all_noted t head {count = count} {next} e h room = by (leb count statement_limit) refl
   where
     by : (b : Bool) → leb count statement_limit ≡ b → count ≤ statement_limit
-    by true f = leb_true count statement_limit f
-    by false f = omega (arith, room, h.over (leb_false count statement_limit f), ap (λ (at : ℕ). length (expand (statements t) (body_from t at))) e)
+    by true f = leb-true count statement_limit f
+    by false f = omega (arith, room, h.over (leb-false count statement_limit f), ap (λ (at : ℕ). length (expand (statements t) (body_from t at))) e)
 
 pub section-listed : (t : List ℕ) (head : ℕ) {key words o p q r u z cells : List ℕ} {a b c d e f count next : ℕ}
     → key ≡ word (statement_at t head 0) 1
@@ -210,8 +210,8 @@ pub section-listed : (t : List ℕ) (head : ℕ) {key words o p q r u z cells : 
 unfolding section_legend joined marked
 section-listed t head {key} {words} {cells = cells} {count = count} ek en h few wk wz ew wo we wr =
     wrote_as (wk then wz then wo then we then wr)
-    (ap2 (λ (k rules : List ℕ). k ++ (bytes " 0" ++ (remark words ++ (line_feed ∷ rules)))) ek
-    (ap2 (λ (k : List ℕ) (ss : List Statement). rules_legend t k 1 ss) ek (h.exact few ∙ ap (λ (at : ℕ). expand (statements t) (body_from t at)) en))
+    (ap₂ (λ (k rules : List ℕ). k ++ (bytes " 0" ++ (remark words ++ (line_feed ∷ rules)))) ek
+    (ap₂ (λ (k : List ℕ) (ss : List Statement). rules_legend t k 1 ss) ek (h.exact few ∙ ap (λ (at : ℕ). expand (statements t) (body_from t at)) en))
     ∙ ap (λ (l : List ℕ). word (statement_at t head 0) 1 ++ (bytes " 0" ++ (remark l ++ (line_feed ∷ rules_legend t (word (statement_at t head 0) 1) 1 (expand (statements t) (body (left t (next_line t head)))))))) ew
     ∙ simp append_assoc)
 
@@ -233,7 +233,7 @@ module _ (t : List ℕ) (all : List Statement) (s : Statement) (ss : List Statem
   unfolding roomy
   roomy-here h e =
       let room = (and_both (not (says a_section s) || leb (length (expand all (body ss))) statement_limit) (roomy all ss) h).0 in
-      leb_true (length (expand all (body ss))) statement_limit (ap (λ (b : Bool). not b || leb (length (expand all (body ss))) statement_limit) (sym e) ∙ room)
+      leb-true (length (expand all (body ss))) statement_limit (ap (λ (b : Bool). not b || leb (length (expand all (body ss))) statement_limit) (sym e) ∙ room)
 
   pub section-here : says a_section s ≡ true → {o p : List ℕ} {a b : ℕ} → Wrote o a (section_legend t all s ss) p b → Wrote o a lines_of p b
   section-here e w = wrote_as w (sym (ap (λ (b : Bool). cond b (section_legend t all s ss) []) e))

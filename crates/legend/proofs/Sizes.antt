@@ -6,7 +6,7 @@ use Prim.Native.Nat.{ℕ, zero, suc, ◌+◌, ◌*◌, ◌≤◌}
 use native.Mathlib.Omega.{arith}
 use lib.Dec.{eqb, leb}
 use lib.ListN.{length, get_or, drop, length-append, length-drop}
-use borrow.Author.Tests.{le-leb, leb_true}
+use borrow.Author.Tests.{le-leb, leb-true}
 use Rattle.hl7.specs.Bytes.{all, within}
 use Rattle.hl7.specs.Cut.{ahead, cut}
 use Rattle.hl7.proofs.Comparing.{and_both}
@@ -176,7 +176,7 @@ record Short (s : Statement) : Type 0 where
 
 brief-short : (s : Statement) → brief s ≡ true → Short s
 brief-short s h =
-    let words = leb_true (length (marked 32 s.words)) 1048577 h in
+    let words = leb-true (length (marked 32 s.words)) 1048577 h in
     record { place = omega (arith, words, part_size 32 s.words 1); kind = omega (arith, words, part_size 32 s.words 2); bound = omega (arith, words, rest_size 32 4 s.words) }
 
 amend-short : (spot : ℕ) (s x : Statement) → Short s → brief x ≡ true → Short (amend spot s x)
@@ -184,7 +184,7 @@ amend-short spot s x f h = by (says_of a_severity spot x) (says_of a_bound spot 
   where
     by : (a b : Bool) → Short (cond a (give (get_or (word x 3) 0 0) s) (cond b (bind (drop 3 x.words) s) s))
     by true b = record { place = f.place; kind = f.kind; bound = f.bound }
-    by false true = record { place = f.place; kind = f.kind; bound = omega (arith, leb_true (length (marked 32 x.words)) 1048577 h, rest_size 32 3 x.words) }
+    by false true = record { place = f.place; kind = f.kind; bound = omega (arith, leb-true (length (marked 32 x.words)) 1048577 h, rest_size 32 3 x.words) }
     by false false = f
 
 amended-short : (spot : ℕ) (s : Statement) (ss : List Statement) → Short s → each brief ss ≡ true → Short (amended spot s ss)
@@ -266,8 +266,8 @@ module _ (t : List ℕ) (short : length t ≤ text_limit) where
           let counts = (and_both (text_fits key_limit c.key) (leb (length c.rules) rule_limit && leb (length c.sets) set_limit)
           (and_both (text_fits key_limit c.key && (leb (length c.rules) rule_limit && leb (length c.sets) set_limit)) (each (rule_fits (length c.sets)) c.rules)
           (and_both (text_fits key_limit c.key && (leb (length c.rules) rule_limit && leb (length c.sets) set_limit) && each (rule_fits (length c.sets)) c.rules) (each set_fits c.sets) both.0).0).0).1 in
-          let few = leb_true (length c.rules) rule_limit (and_both (leb (length c.rules) rule_limit) (leb (length c.sets) set_limit) counts).0 in
-          omega (arith, own (leb_true (length (expand all (body ss))) statement_limit room) few, ih both.1, length-append (section_legend t all s ss) (legend_in t all ss))
+          let few = leb-true (length c.rules) rule_limit (and_both (leb (length c.rules) rule_limit) (leb (length c.sets) set_limit) counts).0 in
+          omega (arith, own (leb-true (length (expand all (body ss))) statement_limit room) few, ih both.1, length-append (section_legend t all s ss) (legend_in t all ss))
       by false room g own ih = ih g
 
 -- a legend has at most so many bytes
@@ -278,6 +278,6 @@ legend-short t h =
     let a = (and_both (within 1 section_limit (length cs) && each section_fits cs && distinct (keys cs)) (leb (length (book_bytes cs)) book_limit) (never_7 t h)).0 in
     let b = (and_both (within 1 section_limit (length cs) && each section_fits cs) (distinct (keys cs)) a).0 in
     let c = and_both (within 1 section_limit (length cs)) (each section_fits cs) b in
-    let few = leb_true (length cs) section_limit (and_both (leb 1 (length cs)) (leb (length cs) section_limit) c.0).1 in
+    let few = leb-true (length cs) section_limit (and_both (leb 1 (length cs)) (leb (length cs) section_limit) c.0).1 in
     let words = text-brief t (text_fits_lem t h) in
     omega (arith, few, sections_size t (text_fits_lem t h) (statements t) (statements t) words words (text-roomy t h) c.1)

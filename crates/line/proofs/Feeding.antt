@@ -1,6 +1,6 @@
 -- Laws of `specs/Fed.antt`: what is kept of the input is kept right by each byte, and tells what the line says. Assumes nothing.
-use mathlib.Core.Path.{◌≡◌, refl, sym, ap, ap2, ◌∙◌}
-use mathlib.Core.Bool.{Bool, true, false, cond, not, ◌&&◌, and_true, and-false, and_assoc}
+use mathlib.Core.Path.{◌≡◌, refl, sym, ap, ap₂, ◌∙◌}
+use mathlib.Core.Bool.{Bool, true, false, cond, not, ◌&&◌, and-true, and-false, and_assoc}
 use mathlib.Core.List.{List, [], ◌∷◌, ◌++◌, append-nil, append_assoc}
 use Prim.Native.Nat.{ℕ, ◌+◌, ◌≤◌, ◌<◌, min}
 use native.Mathlib.Numerals.{add-one}
@@ -134,7 +134,7 @@ stamp-kept {line} {h} {i} a b =
 
 -- the flags are the definition's, where the value is small enough
 tests : (h a b : Bool) → (h && (a && b && true)) ≡ (h && a && b)
-tests h a b = ap (λ (t : Bool). h && t) (and_true (a && b)) ∙ sym (and_assoc h a b)
+tests h a b = ap (λ (t : Bool). h && t) (and-true (a && b)) ∙ sym (and_assoc h a b)
 
 module _ {input : List ℕ} {s : State} (f : Fed input s) where
   pub said_large : largest_control < s.item.value → bad_line ≡ shortened (said (line_of input))
@@ -158,7 +158,7 @@ module _ {input : List ℕ} {s : State} (f : Fed input s) where
   said_bad h e = sym (ap shortened (said-by h e))
 
   pub said_good : s.item.value ≤ largest_control → (s.item.spaced && s.item.filled && s.item.digits) ≡ true → good_line (take s.item.stamp s.head.bytes) s.item.value ≡ shortened (said (line_of input))
-  said_good h e = ap2 good_line (stamp-kept f.head f.item) (sym (small h e)) ∙ sym (ap shortened (said-by h e))
+  said_good h e = ap₂ good_line (stamp-kept f.head f.item) (sym (small h e)) ∙ sym (ap shortened (said-by h e))
 
 -- ---- a chunk of the input, byte by byte
 pub feeds_none : {s : State} (input : List ℕ) → Fed input s → Fed (input ++ []) s

@@ -1,5 +1,5 @@
 -- Laws of `specs/Shown.antt`: a line feed for each CR, in place; how long a text is, and which one is shown. Assumes nothing.
-use mathlib.Core.Path.{◌≡◌, refl, sym, ap, ap2, ◌∙◌}
+use mathlib.Core.Path.{◌≡◌, refl, sym, ap, ap₂, ◌∙◌}
 use mathlib.Core.Bool.{Bool, true, false, cond}
 use mathlib.Core.List.{List, ◌∷◌, [], ◌++◌, map, map-append}
 use Prim.Native.Nat.{ℕ, ◌+◌, ◌≤◌, ◌<◌, min}
@@ -68,7 +68,7 @@ module _ {before : List ℕ} {count end : ℕ} {after : List ℕ} {i : ℕ} (t :
       let all : i ≡ end = omega arith in
       let front : map line_feed (take i before) ≡ map line_feed (take count before) = ap (map line_feed) (ap (λ (k : ℕ). take k before) all ∙ t.front) in
       let back : drop i before ≡ drop count before = ap (λ (k : ℕ). drop k before) all ∙ t.back in
-      (sym (take-append-drop i after) ∙ ap2 ◌++◌ (t.turned ∙ front) (t.rest ∙ back), all ∙ t.least)
+      (sym (take-append-drop i after) ∙ ap₂ ◌++◌ (t.turned ∙ front) (t.rest ∙ back), all ∙ t.least)
 
 -- ---- texts
 pub refusal-short : (number detail : ℕ) → length (refusal number detail) ≤ refusal_room

@@ -1,5 +1,5 @@
 -- `ack::answer::answer_listed` meets its contract: the first run tells the length and the letter, the second writes the bytes. Assumes nothing.
-use mathlib.Core.Path.{refl, sym, ap2, ◌∙◌}
+use mathlib.Core.Path.{refl, sym, ap₂, ◌∙◌}
 use native.Mathlib.Omega.{arith}
 use borrow.Author.Rules.{rules}
 use Rattle.grade.specs.Rest.{findings_in}
@@ -69,7 +69,7 @@ returns-2 c =
     let few = begin.requires.4 in
     let g = at_first.first-sheet.ensures in
     let measured = at-errs.put-errs.ensures in
-    let second = at-letter.letter-of.ensures ∙ ap2 letter (at-wrong.any-wrong.ensures ∙ sym (listed-told a.book.now a.by.section a.by.header a.m.now)) (put_told _ _ a.by all g measured) in
+    let second = at-letter.letter-of.ensures ∙ ap₂ letter (at-wrong.any-wrong.ensures ∙ sym (listed-told a.book.now a.by.section a.by.header a.m.now)) (put_told _ _ a.by all g measured) in
     fits _ _ _ _ _ _ begin.requires.2 begin.requires.3 few at_length.heading-length.ensures (whole_is a.by.d all (put_all _ _ a.by all g measured) few) at-if.if1.false
     second at-heading.put-heading.ensures (put_all _ _ a.by all g at-put.put-errs2.ensures)
 

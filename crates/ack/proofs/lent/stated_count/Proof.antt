@@ -2,7 +2,7 @@
 use mathlib.Core.Path.{refl}
 use native.Mathlib.Omega.{arith}
 use borrow.Author.Rules.{rules}
-use borrow.Author.Tests.{leb_true}
+use borrow.Author.Tests.{leb-true}
 use lib.Dec.{eqb, leb}
 use Rattle.hl7.proofs.Comparing.{and_both}
 use Rattle.ack.specs.Records.{record_count}
@@ -12,7 +12,7 @@ use Rattle.ack.proofs.lent.stated_count.Tie as tie
 cast-result : tie.Need-overflow-cast-result
 cast-result c =
     let graded = c.before.before.before.before.args.graded in
-    record { fits = omega (arith, leb_true graded.detail record_count (and_both (eqb graded.number 0) (leb graded.detail record_count) c.before.if1.true).1) }
+    record { fits = omega (arith, leb-true graded.detail record_count (and_both (eqb graded.number 0) (leb graded.detail record_count) c.before.if1.true).1) }
 
 returns : tie.Need-returns
 returns c = rw c.before.if1.true refl

@@ -1,5 +1,5 @@
 -- `batchfile::message::message_end` meets its contract. The invariant of its loop: the segments passed so far join the message. Assumes nothing.
-use mathlib.Core.Path.{sym, ap2, ◌∙◌}
+use mathlib.Core.Path.{sym, ap₂, ◌∙◌}
 use mathlib.Core.Bool.{◌||◌}
 use Prim.Native.Nat.{◌-◌}
 use native.Mathlib.Omega.{arith}
@@ -31,7 +31,7 @@ returns c =
     let at-line = at-frame.before.before in
     let at-loop = at-line.before.before in
     ends_next _ _ _ _ at-loop.before.line-end.ensures at-loop.loop.invariant _ at-line.before.loop-test.true at-line.line-end2.ensures
-    (sym (ap2 ◌||◌ at-frame.is-frame.ensures at-msh.is-msh.ensures) ∙ c.if1.true)
+    (sym (ap₂ ◌||◌ at-frame.is-frame.ensures at-msh.is-msh.ensures) ∙ c.if1.true)
 
 loop-less : tie.Need-loop-smaller invariant-loop decreases-loop
 loop-less c =
@@ -44,7 +44,7 @@ loop-again c =
     let at-frame = at-msh.before in
     let at-line = at-frame.before.before in
     passing_more _ _ _ _ at-line.before.before.loop.invariant at-line.before.loop-test.true at-line.line-end2.ensures
-    (sym (ap2 ◌||◌ at-frame.is-frame.ensures at-msh.is-msh.ensures) ∙ c.if1.false)
+    (sym (ap₂ ◌||◌ at-frame.is-frame.ensures at-msh.is-msh.ensures) ∙ c.if1.false)
 
 returns-2 : tie.Need-returns-2 invariant-loop decreases-loop
 returns-2 c = ends-over _ _ _ _ c.before.before.line-end.ensures c.before.loop.invariant c.loop-test.false

@@ -1,5 +1,5 @@
 -- `booktext::cell::says_of` meets its contract. Assumes nothing.
-use mathlib.Core.Path.{ap2}
+use mathlib.Core.Path.{ap₂}
 use mathlib.Core.Bool.{◌&&◌}
 use Prim.Native.Nat.{ℕ}
 use lib.Dec.{eqb}
@@ -11,7 +11,7 @@ returns : tie.Need-returns
 returns c =
     let at-verb-in = c.before in
     let start = at-verb-in.before in
-    ap2 (λ (x y : ℕ). eqb x start.args.verb && eqb y start.args.spot) at-verb-in.verb-in.ensures c.spot_in.ensures
+    ap₂ (λ (x y : ℕ). eqb x start.args.verb && eqb y start.args.spot) at-verb-in.verb-in.ensures c.spot_in.ensures
 
 pub says-of-spec : {M : Type 1} → statement M
 says-of-spec =

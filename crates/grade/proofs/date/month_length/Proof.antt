@@ -4,7 +4,7 @@ use mathlib.Core.Bool.{true, false}
 use mathlib.Core.Path.{◌≡◌}
 use native.Mathlib.Omega.{arith}
 use lib.Dec.{leb}
-use borrow.Author.Tests.{leb_true, not-true, not-false}
+use borrow.Author.Tests.{leb-true, not-true, not-false}
 use borrow.Author.Rules.{rules}
 use Rattle.hl7.specs.Bytes.{within}
 use Rattle.hl7.proofs.Comparing.{and_both}
@@ -28,7 +28,7 @@ add-pick : tie.Need-overflow-add-pick
 add-pick c =
     let month = c.before.before.before.args.month in
     let is : within 1 12 month ≡ true = not-false _ c.before.before.if1.false in
-    omega (arith, leb_true month 12 (and_both (leb 1 month) _ is).1)
+    omega (arith, leb-true month 12 (and_both (leb 1 month) _ is).1)
 
 add-pick-2 : tie.Need-overflow-add-pick-2
 add-pick-2 c = search rules

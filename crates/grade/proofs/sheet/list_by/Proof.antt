@@ -5,7 +5,7 @@ use mathlib.Core.Bool.{Bool, true, false, not, ◌&&◌, ◌||◌, true≢false}
 use mathlib.Core.List.{List, ◌++◌}
 use native.Mathlib.Omega.{arith}
 use borrow.Author.Rules.{rules}
-use borrow.Author.Tests.{leb_false, not-true}
+use borrow.Author.Tests.{leb-false, not-true}
 use lib.Dec.{leb}
 use lib.ListN.{length}
 use Rattle.hl7.proofs.Comparing.{and_both, or_neither}
@@ -99,7 +99,7 @@ loop-less c =
 
 -- the sheet is not full yet
 not_full : (whole : Bool) (used : ℕ) → (not whole && leb line_count used) ≡ false → whole ≡ false → used < line_count
-not_full whole used left e = leb_false line_count used (rw e at left)
+not_full whole used left e = leb-false line_count used (rw e at left)
 
 loop-again : tie.Need-loop-preserved invariant-loop decreases-loop
 loop-again c =

@@ -1,0 +1,30 @@
+-- `hl7::cut::count_in` meets its contract. The invariant of its loop: those counted and those left are all; no more are counted than passed.
+-- Assumes nothing.
+use native.Mathlib.Omega.{arith}
+use Rattle.hl7.proofs.Comparing.{occurs_more, occurs-none}
+use Rattle.hl7.proofs.cut.count_in.Goals as goal
+
+pub loop-i-init : goal.loop-i-init
+loop-i-init c = (omega arith, omega arith, omega arith)
+
+pub bounds-v-i : goal.bounds-v-i
+bounds-v-i c = omega arith
+
+pub overflow_add-n : goal.overflow_add-n
+overflow_add-n c = omega arith
+
+pub overflow_add-i : goal.overflow_add-i
+overflow_add-i c = omega arith
+
+pub loop-i-smaller : goal.loop-i-smaller
+loop-i-smaller c = omega arith
+
+pub loop-i-preserved : goal.loop-i-preserved
+loop-i-preserved c =
+    let args = c.args in
+    (omega arith, omega arith, omega (arith, occurs_more args.d args.v.now c.loop-i.i (omega arith)))
+
+pub returns : goal.returns
+returns c =
+    let args = c.args in
+    omega (arith, occurs-none args.d args.v.now c.loop-i.i c.loop-i-test.false)
