@@ -1,9 +1,9 @@
 -- A table is filled sheet by sheet: what is left to store, stored from the next record on, gives the answer. Assumes nothing.
 use mathlib.Core.Path.{◌≡◌, refl, sym, ◌∙◌, ap}
 use mathlib.Core.Bool.{Bool, true, false}
-use Prim.Native.Nat.{ℕ, zero, suc, ◌+◌, ◌≤◌, zero-le}
+use Prim.Native.Nat.{ℕ, zero, suc, ◌+◌, ◌≤◌, ◌<◌, zero-le}
 use native.Mathlib.Omega.{arith}
-use mathlib.Core.List.{List}
+use mathlib.Core.List.{List, [], ◌∷◌}
 use lib.ListN.{length, take, length-append}
 use lib.Seq.{sets, length-sets, length-take-le, take_all}
 use Rattle.grade.specs.Sheet.{held, to_come, Sheeted, Gets}
@@ -68,3 +68,13 @@ module _ {m b : List ℕ} {first : Sheet} {count : ℕ} {ys : List Finding} wher
             ap (λ (k : ℕ). sets (sets ts at (held s)) (at + k) (to_come m b s)) (sym (held-length s)) ∙ sym (sets-append (held s) (to_come m b s) ts at)
             ∙ ap (λ (l : List Finding). sets ts at l) (sym here.all) ∙ h.answer;
       }
+
+  -- where nothing is left, the table is what was asked for
+  pub filled : {left : List Finding} {at : ℕ} {s : Sheet} {ts : List Finding} → Stage m b first count ys left at s ts → count ≤ at
+      → ts ≡ sets ys 0 (take count (all_from m b first))
+  filled {left = []} h over = h.answer
+  filled {left = f ∷ left} h over = absurd (omega (arith, h.upto))
+
+  -- where something is left, the sheet has its findings ahead
+  pub goes_on : {left : List Finding} {at : ℕ} {s : Sheet} {ts : List Finding} → Stage m b first count ys left at s ts → at < count → Ahead m b s left
+  goes_on h less = h.ahead (omega (arith, h.upto))

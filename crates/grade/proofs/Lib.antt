@@ -22,11 +22,6 @@ pub mod Segments
 pub mod Stepping
 pub mod Ranging
 pub mod Sheets
-pub mod Locals
-pub mod Again
-pub mod Called
-pub mod Owner
-pub mod Row
 pub mod Stored
 pub mod Filling
 pub mod Planning

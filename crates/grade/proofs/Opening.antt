@@ -77,7 +77,7 @@ chosen_in b key (at ∷ rest) s d m =
         }
     go here f false k l m ih =
         let w = ih m in
-        record { start = w.start; stands = w.stands; its_key = w.its-key; its_site = rw (← l, k) w.its-site; only = rw k w.only }
+        record { start = w.start; stands = w.stands; its_key = w.its_key; its_site = rw (← l, k) w.its_site; only = rw k w.only }
 
 -- the section found: the one section of the book with the key has its rules and its sets, and they can be read
 pub record Under (b key : List ℕ) (s : Section) : Type 0 where
@@ -105,9 +105,9 @@ chosen_under b key starts d c =
     let at = c.start in
     let p = stands_parts b at c.stands in
     let h = held b at (site_at b at) (contents_at b at) p.0 p.1 in
-    subst (λ (s : Section). Under b key s) c.its-site
+    subst (λ (s : Section). Under b key s) c.its_site
     (record {
-      only = ap (under key) d ∙ c.only ∙ ap (λ (x : Contents). x ∷ []) (same_contents (contents_at b at) key (rules_in b (site_at b at)) (sets_in b (site_at b at)) c.its-key h.0 h.1);
+      only = ap (under key) d ∙ c.only ∙ ap (λ (x : Contents). x ∷ []) (same_contents (contents_at b at) key (rules_in b (site_at b at)) (sets_in b (site_at b at)) c.its_key h.0 h.1);
       holds = h.2;
     })
   where

@@ -5,18 +5,18 @@ use mathlib.Core.Bool.{Bool, true, false, cond}
 use mathlib.Core.List.{List, [], ◌∷◌, ◌++◌}
 use native.Mathlib.Omega.{arith}
 use lib.Dec.{ltb}
-use lib.ListN.{length, take, drop}
+use lib.ListN.{length, drop}
 use lib.Seq.{sets, sets-eq, take_all}
 use borrow.Author.Tests.{eq-eqb, ne_eqb, lt-ltb, le-ltb, ltb-true, ltb-false}
-use Rattle.hl7.specs.Refusals.{Told, told, Row, first_row, passes}
+use Rattle.hl7.specs.Refusals.{told, first_row, passes}
 use Rattle.hl7.proofs.Refusing.{rows_append}
-use Rattle.grade.specs.Admission.{admit_rows, paper}
+use Rattle.grade.specs.Admission.{admit_rows}
 use Rattle.grade.specs.Standing.{Admits}
 use Rattle.grade.specs.Grading.{findings_for}
 use Rattle.grade.specs.Rest.{findings_in}
 use Rattle.grade.specs.Table.{room_row, table_rows, Filled, grade_into}
 use Rattle.grade.specs.Sheet.{finding_limit, Gets}
-use Rattle.grade.specs.Filling.{all_from, Fills, plan_none, plan_for, Plans}
+use Rattle.grade.specs.Filling.{all_from, plan_none, plan_for, Plans}
 use Rattle.grade.specs.declared.admit.Admitted.TheVariants.{Refused, By}
 use Rattle.grade.specs.declared.finding.Finding.{Finding}
 use Rattle.grade.specs.declared.header.Header.{Header}

@@ -32,9 +32,7 @@ use Rattle.grade.specs.declared.within.Within.{Within}
 use Rattle.grade.specs.declared.within.Within.TheVariants.{Found, Nothing}
 use Rattle.grade.specs.declared.step.Cursor.{Cursor}
 use Rattle.grade.specs.declared.step.Entered.{Entered}
-use Rattle.grade.specs.declared.step.Entered.TheVariants as Entered
 use Rattle.grade.specs.declared.step.Step.{Step}
-use Rattle.grade.specs.declared.step.Step.TheVariants as Step
 use Rattle.grade.proofs.Naming.{is_counted_lem, not-counted, number_bounds, name_bounds}
 use Rattle.grade.proofs.Holding.{rules-length}
 use Rattle.grade.proofs.Linking.{about-next}

@@ -30,7 +30,6 @@ use Rattle.grade.specs.declared.within.Spot.{Spot}
 use Rattle.grade.specs.declared.within.Value.{Value}
 use Rattle.grade.specs.declared.within.Value.TheVariants.{Broken, Fine}
 use Rattle.grade.specs.declared.within.Judged.{Judged}
-use Rattle.grade.specs.declared.within.Judged.TheVariants as Judged
 use Rattle.grade.specs.declared.within.Within.TheVariants.{Found}
 use Rattle.grade.proofs.Holding.{rules-length, rule_fits_lem, place_limits, kind_limits}
 use Rattle.grade.proofs.Repetitions.{values-over}

@@ -28,14 +28,11 @@ use Rattle.grade.specs.declared.within.Spot.{Spot}
 use Rattle.grade.specs.declared.within.Value.{Value}
 use Rattle.grade.specs.declared.within.Value.TheVariants.{Broken, Fine}
 use Rattle.grade.specs.declared.within.Judged.{Judged}
-use Rattle.grade.specs.declared.within.Judged.TheVariants as Judged
 use Rattle.grade.specs.declared.within.Within.{Within}
 use Rattle.grade.specs.declared.within.Within.TheVariants.{Found, Nothing}
 use Rattle.grade.specs.declared.step.Cursor.{Cursor}
 use Rattle.grade.specs.declared.step.Entered.{Entered}
-use Rattle.grade.specs.declared.step.Entered.TheVariants as Entered
 use Rattle.grade.specs.declared.step.Step.{Step}
-use Rattle.grade.specs.declared.step.Step.TheVariants as Step
 
 -- ---- the codes of a kind's set
 -- where a kind has a set, its codes can be read at a position of the book
