@@ -5,8 +5,6 @@ pub mod Sizes
 pub mod Listing
 pub mod Answering
 pub mod Admitting
-pub mod Beside
-pub mod Machine
 pub mod Recording
 pub mod Recorded
 pub mod Settling

@@ -27,7 +27,7 @@ use Rattle.grade.specs.declared.step.Terms.{Terms}
 use Rattle.grade.proofs.Heading.{checks}
 use Rattle.grade.proofs.Sheets.{none-to_come}
 use Rattle.ack.specs.Splice.{Wrote, limit}
-use Rattle.ack.specs.Layout.{letter, verdict, err_line, ended}
+use Rattle.ack.specs.Layout.{verdict, err_line, ended}
 use Rattle.ack.specs.Pieces.{errs, Puts}
 use Rattle.ack.specs.declared.errs.Put.{Put}
 use Rattle.ack.proofs.Sizes.{errs-short}

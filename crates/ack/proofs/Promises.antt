@@ -13,7 +13,7 @@ use lib.ListN.{length, get_or, take, drop, length-append, length-drop}
 use lib.Seq.{take_at, drop_at}
 use borrow.Author.Tests.{ltb-false, not-false}
 use Rattle.hl7.specs.Text.{bytes}
-use Rattle.hl7.specs.Bytes.{is_in, distinct, all}
+use Rattle.hl7.specs.Bytes.{is_in, distinct}
 use Rattle.hl7.specs.Place.{carriage_return, delims_of, nth_of, cut_unless, segments_of, place}
 use Rattle.hl7.specs.Delimiters.{opens}
 use Rattle.hl7.specs.Refusals.{Told, told, first_row, passes, numbers_of, apart, holds_at, First, message_rows, form_rows}

@@ -1,5 +1,5 @@
 -- Laws of `specs/Records.antt`: what writing from records gives, exactly when, and how large an answer is at most. Assumes nothing.
-use Prim.Native.Nat.{ℕ, ◌+◌, ◌*◌, ◌^◌, ◌≤◌, ◌<◌}
+use Prim.Native.Nat.{ℕ, ◌^◌, ◌≤◌, ◌<◌}
 use mathlib.Core.Path.{◌≡◌, refl, sym, ap, subst, subst⁻¹, ◌∙◌}
 use mathlib.Core.Bool.{Bool, true, false, not, ◌||◌}
 use mathlib.Core.Logic.{◌↔◌}
@@ -8,7 +8,7 @@ use native.Mathlib.Omega.{arith}
 use native.Mathlib.Decide.{dec_le}
 use lib.Dec.{ltb}
 use lib.ListN.{length, get_or, take, drop, length-take}
-use borrow.Author.Tests.{eqb-true, eqb-false, lt-ltb}
+use borrow.Author.Tests.{eqb-true, eqb-false}
 use Rattle.hl7.specs.Bytes.{is_in, distinct}
 use Rattle.hl7.specs.Place.{delims_of}
 use Rattle.hl7.specs.Refusals.{Told, told, Row, first_row, passes, numbers_of, apart, holds_at, First, message_rows, form_rows, is_sound}

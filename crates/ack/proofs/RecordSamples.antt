@@ -32,8 +32,7 @@ use Rattle.grade.specs.declared.finding.Finding.{Finding}
 use Rattle.grade.proofs.BookSamples.{head, rule, sized, part, book}
 use Rattle.ack.specs.Decimal.{last_digits, decimal}
 use Rattle.ack.specs.Layout.{own_byte, marked, joined, copied, msh_line, msa_line, component_parts, value_parts, place_parts, code_text, err_line, ack_bytes}
-use Rattle.ack.specs.Answers.{Outcome}
-use Rattle.ack.specs.Records.{blank, write_from}
+use Rattle.ack.specs.Records.{write_from}
 
 record_of : (code name ordinal field repetition component rule severity : ℕ) → Finding
 record_of code name ordinal field repetition component rule severity =

@@ -8,7 +8,7 @@ use native.Mathlib.Decide.{dec_le}
 use lib.Dec.{eqb, ltb}
 use lib.ListN.{length, take, drop, replicate, length-append, length-replicate}
 use borrow.Author.Tests.{eq-eqb, ne_eqb, eqb-true, eqb-false, lt-ltb, le-ltb, le-leb}
-use Rattle.hl7.specs.Place.{delims_of, is_msh}
+use Rattle.hl7.specs.Place.{delims_of}
 use Rattle.hl7.specs.Refusals.{message_limit, Told, told, first_row, passes}
 use Rattle.hl7.specs.declared.place.Delims.{Delims}
 use Rattle.hl7.proofs.Placing.{segment-short}

@@ -2,7 +2,6 @@
 -- What is known of records before anything is written. Assumes nothing.
 use Rattle.std.specs.Prelude.{ℕ, ◌+◌, ◌≤◌, min, ◌≡◌, Bool, true, false, cond, ◌&&◌, ◌||◌, List, [], ◌∷◌, eqb, leb, length}
 use Rattle.hl7.specs.Place.{delims_of, is_msh}
-use Rattle.hl7.specs.declared.place.Delims.{Delims}
 use Rattle.grade.specs.Header.{msh_of}
 use Rattle.grade.specs.Admission.{paper}
 use Rattle.grade.specs.Deciding.{is_header, is_fault}

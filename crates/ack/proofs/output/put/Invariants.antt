@@ -1,0 +1,12 @@
+-- `ack::output::put` meets its contract: after i turns the first i bytes are stored. Assumes nothing.
+use mathlib.Core.Path.{◌≡◌}
+use Prim.Native.Nat.{◌≤◌, ◌-◌}
+use lib.ListN.{length, take}
+use Rattle.ack.specs.Splice.{splice}
+use Rattle.ack.proofs.output.put.Given as goal
+
+abbrev pub invariant-loop-i : goal.invariant-loop-i
+invariant-loop-i l = (l.i ≤ l.n) × (l.out ≡ splice l.initial.out l.at (take l.i l.bytes)) × (length l.out ≡ length l.initial.out)
+
+abbrev pub decreases-loop-i : goal.decreases-loop-i
+decreases-loop-i l = l.n - l.i

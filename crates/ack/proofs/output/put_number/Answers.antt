@@ -1,0 +1,11 @@
+-- `ack::output::put_number` meets its contract. Assumes nothing.
+use Rattle.ack.proofs.Writing.{◌then◌, wrote-length}
+use Rattle.ack.proofs.output.put_number.Goals as goal
+
+pub returns : goal.returns
+returns c =
+    c.put_byte-next.ensures
+    then c.put_decimal.ensures
+
+pub shape_of-out : goal.shape_of-out
+shape_of-out c = wrote-length (returns c)
