@@ -14,7 +14,7 @@ use Rattle.hl7.specs.Bytes.{all, differs, begins}
 use Rattle.hl7.specs.Cut.{ahead, cut, part_at}
 use Rattle.hl7.specs.Place.{carriage_return, delims_of, is_msh}
 use Rattle.hl7.specs.Delimiters.{opens}
-use Rattle.hl7.specs.Refusals.{passes, has_form, wrong_segments, is_sound}
+use Rattle.hl7.specs.Refusals.{has_form, wrong_segments, is_sound}
 use Rattle.hl7.specs.declared.place.Delims.{Delims}
 use Rattle.hl7.proofs.Comparing.{none_of, and_both, or_neither, begins-long}
 use Rattle.hl7.proofs.Cutting.{first, cut-some}

@@ -10,7 +10,7 @@ use borrow.Author.Tests.{leb-true, eq-eqb, ne_eqb, not-true, not-false}
 use Rattle.hl7.specs.Bytes.{same, among}
 use Rattle.hl7.specs.declared.cut.Span.{Span}
 use Rattle.hl7.proofs.Comparing.{and_both, from_step, from_done}
-use Rattle.grade.specs.Encoding.{each, spell_all, text_bytes}
+use Rattle.grade.specs.Encoding.{each, text_bytes}
 use Rattle.grade.proofs.Encoded.{spell_append}
 use Rattle.ack.specs.Splice.{Wrote}
 use Rattle.ack.proofs.Writing.{wrote_as, wrote-length, ◌then◌}

@@ -1,0 +1,10 @@
+-- `batchfile::batch::answer_at` meets its contract: what is written at the start of a part is written from there on. Assumes nothing.
+use native.Mathlib.Omega.{arith}
+use Rattle.batchfile.proofs.Joining.{answers_at}
+use Rattle.batchfile.proofs.batch.answer_at.Goals as goal
+
+pub answer_indexed-requires : goal.answer_indexed-requires
+answer_indexed-requires c = c.requires.1
+
+pub returns : goal.returns
+returns c = answers_at _ _ _ _ c.args.out.now c.args.at c.requires.0 (omega arith) c.answer_indexed.ensures

@@ -1,0 +1,5 @@
+-- `booktext::fault::change_right` meets its contract: it asks what the definition asks. Assumes nothing.
+use Rattle.booktext.proofs.fault.change_right.Goals as goal
+
+pub returns : goal.returns
+returns c = rw (c.either.ensures, c.either-bounded.ensures, c.either-dropped.ensures, c.either-codes.ensures, c.is_codes.ensures)

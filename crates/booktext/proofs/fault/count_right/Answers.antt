@@ -1,0 +1,5 @@
+-- `booktext::fault::count_right` meets its contract: it asks what the definition asks. Assumes nothing.
+use Rattle.booktext.proofs.fault.count_right.Goals as goal
+
+pub returns : goal.returns
+returns c = rw (c.either.ensures, c.is_rule.ensures, c.either-used.ensures, c.either-others.ensures, c.change_right.ensures)

@@ -1,0 +1,5 @@
+-- `booktext::fault::may_stand` meets its contract: it asks what the definition asks. Assumes nothing.
+use Rattle.booktext.proofs.fault.may_stand.Goals as goal
+
+pub returns : goal.returns
+returns c = rw (c.either-2.ensures, c.either.ensures, c.either-inner.ensures, c.either-others.ensures, c.is_codes.ensures, c.is_placed.ensures)

@@ -1,0 +1,19 @@
+-- `booktext::fault::wrong_at` meets its contract. The invariant of its loop: the first byte that is not allowed is the first from i on. Assumes nothing.
+use mathlib.Core.Path.{ap}
+use mathlib.Core.Bool.{not}
+use mathlib.Core.Path.{sym, ◌∙◌}
+use native.Mathlib.Omega.{arith}
+use Rattle.booktext.proofs.Faulting.{wrong_here, wrong_later, wrong_past}
+use Rattle.booktext.proofs.fault.wrong_at.Goals as goal
+
+pub loop-i-init : goal.loop-i-init
+loop-i-init c = omega arith
+
+pub returns-then-not-is_allowed : goal.returns-then-not-is_allowed
+returns-then-not-is_allowed c = sym (c.loop-i.invariant ∙ wrong_here _ _ c.loop-i-test.true c.is_allowed.ensures (ap not c.if-not-is_allowed.true))
+
+pub loop-i-preserved : goal.loop-i-preserved
+loop-i-preserved c = c.loop-i.invariant ∙ wrong_later _ _ c.loop-i-test.true c.is_allowed.ensures (ap not c.if-not-is_allowed.false)
+
+pub returns : goal.returns
+returns c = sym (c.loop-i.invariant ∙ wrong_past _ _ c.loop-i-test.false)

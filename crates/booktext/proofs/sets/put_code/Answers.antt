@@ -1,0 +1,24 @@
+-- `booktext::sets::put_code` meets its contract. Assumes nothing.
+use mathlib.Core.List.{map}
+use Rattle.booktext.specs.Standing.{noted}
+use Rattle.booktext.proofs.Spelling.{spelt_as, spelt-length, code_taken, code_put}
+use Rattle.booktext.proofs.sets.put_code.Goals as goal
+
+pub is_lessened-requires : goal.is_lessened-requires
+is_lessened-requires c = c.requires.0
+
+pub returns-then-is_lessened : goal.returns-then-is_lessened
+returns-then-is_lessened c =
+    let entry = c.args in
+    spelt_as c.put_none.ensures (code_taken entry.name.now (map (noted entry.t.now) entry.cells.now) entry.code.now c.is_lessened.ensures c.if-is_lessened.true)
+
+pub returns : goal.returns
+returns c =
+    let entry = c.args in
+    code_put entry.name.now (map (noted entry.t.now) entry.cells.now) entry.code.now c.is_lessened.ensures c.if-is_lessened.false c.put_text.ensures c.one_more.ensures
+
+pub shape_of-out-then-is_lessened : goal.shape_of-out-then-is_lessened
+shape_of-out-then-is_lessened c = spelt-length (returns-then-is_lessened c)
+
+pub shape_of-out : goal.shape_of-out
+shape_of-out c = spelt-length (returns c)

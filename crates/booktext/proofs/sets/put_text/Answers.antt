@@ -1,0 +1,6 @@
+-- `booktext::sets::put_text` meets its contract. Assumes nothing.
+use Rattle.ack.proofs.Writing.{◌then◌}
+use Rattle.booktext.proofs.sets.put_text.Goals as goal
+
+pub returns : goal.returns
+returns c = c.put_byte-next.ensures then c.put.ensures

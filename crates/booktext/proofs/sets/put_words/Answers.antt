@@ -1,0 +1,31 @@
+-- `booktext::sets::put_words` meets its contract. The invariant of its loop: whoever writes those of the words left has written all. Assumes nothing.
+use mathlib.Core.List.{map}
+use Rattle.booktext.specs.Standing.{noted}
+use Rattle.booktext.proofs.Words.{words_fewer}
+use Rattle.booktext.proofs.Spelling.{spells_over, spelt-length, words-short, word-short, words_more, words-over}
+use Rattle.booktext.proofs.sets.put_words.Goals as goal
+
+pub loop-w-init : goal.loop-w-init
+loop-w-init c = (c.requires.1, λ after r s. s)
+
+pub returns-then-w : goal.returns-then-w
+returns-then-w c =
+    let entry = c.args in
+    spells_over c.loop-w.invariant.1 (words-over c.next_word-w.ensures entry.name.now (map (noted entry.t.now) entry.cells.now) c.if-w.true) c.put_none.ensures
+
+pub put_code-to-requires : goal.put_code-to-requires
+put_code-to-requires c = (c.requires.0, word-short c.next_word-w.ensures c.if-w.false c.loop-w.invariant.0 c.part.ensures)
+
+pub loop-w-smaller : goal.loop-w-smaller
+loop-w-smaller c = words_fewer c.next_word-w.ensures c.if-w.false
+
+pub loop-w-preserved : goal.loop-w-preserved
+loop-w-preserved c =
+    let entry = c.args in
+    let inv = c.loop-w.invariant in
+    let word = c.next_word-w.ensures in
+    let some = c.if-w.false in
+    ((words-short word some inv.0).1, words_more word entry.name.now (map (noted entry.t.now) entry.cells.now) some c.part.ensures inv.1 c.put_code-to.ensures)
+
+pub shape_of-out-then-w : goal.shape_of-out-then-w
+shape_of-out-then-w c = spelt-length (returns-then-w c)
