@@ -1,0 +1,34 @@
+-- `canonical::show::put_sets` meets its contract. The loop's invariant: whoever writes the sets left has written all. Assumes nothing.
+use native.Mathlib.Omega.{arith}
+use Rattle.grade.specs.Standing.{sets_in}
+use Rattle.grade.proofs.Holding.{placed_at}
+use Rattle.ack.proofs.Writing.{wrote-length}
+use Rattle.booktext.proofs.Completing.{completes_more, completes_over}
+use Rattle.canonical.proofs.PutSets.{sets-at, sets_more, sets_over}
+use Rattle.canonical.proofs.show.put_sets.Goals as goal
+
+pub loop-i-init : goal.loop-i-init
+loop-i-init c = λ sets are after r w. w
+
+pub bounds-places-i : goal.bounds-places-i
+bounds-places-i c = omega (arith, c.requires.few_sets, c.loop-i-test.true)
+
+pub put_set-to-requires : goal.put_set-to-requires
+put_set-to-requires c = (placed_at c.args.book.now c.args.section c.sets_of-places.ensures c.requires c.loop-i.i c.loop-i-test.true).stands
+
+pub loop-i-preserved : goal.loop-i-preserved
+loop-i-preserved c =
+    λ sets are.
+    completes_more (c.loop-i.invariant sets are)
+    (sets_more c.args.key.now sets c.loop-i.i (omega (arith, are.0, c.loop-i-test.true)) (are.1 c.loop-i.i c.loop-i-test.true))
+    c.put_set-to.ensures
+
+pub returns : goal.returns
+returns c =
+    let are = sets-at c.args.book.now c.args.section c.sets_of-places.ensures c.requires in
+    completes_over (c.loop-i.invariant (sets_in c.args.book.now c.args.section) are)
+    (sets_over c.args.key.now _ c.loop-i.i (omega (arith, are.0, c.loop-i-test.false)))
+    c.put.ensures
+
+pub shape_of-out : goal.shape_of-out
+shape_of-out c = wrote-length (returns c)
