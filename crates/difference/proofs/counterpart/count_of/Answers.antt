@@ -1,0 +1,13 @@
+-- `difference::counterpart::count_of` meets its contract. The invariant of its loop: all are those counted and those among the rest. Assumes nothing.
+use native.Mathlib.Omega.{arith}
+use Rattle.difference.proofs.Counting.{count_more, count-over}
+use Rattle.difference.proofs.counterpart.count_of.Goals as goal
+
+pub loop-i-init : goal.loop-i-init
+loop-i-init c = (omega arith, omega arith)
+
+pub loop-i-preserved : goal.loop-i-preserved
+loop-i-preserved c = (omega (arith, c.loop-i.invariant.0, c.pick-n.ensures.1), count_more c.args.noted.now c.args.spot c.loop-i.i c.loop-i.n c.loop-i-test.true c.loop-i.invariant.1 c.pick-n.ensures.0)
+
+pub returns : goal.returns
+returns c = count-over c.args.noted.now c.args.spot c.loop-i.i c.loop-i.n c.loop-i-test.false c.loop-i.invariant.1

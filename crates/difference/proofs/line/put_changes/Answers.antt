@@ -1,0 +1,11 @@
+-- `difference::line::put_changes` meets its contract. Assumes nothing.
+use Rattle.difference.specs.Ruled.{codes_in}
+use Rattle.difference.proofs.Lining.{changes-written}
+use Rattle.difference.proofs.line.put_changes.Goals as goal
+
+pub returns : goal.returns
+returns c =
+    let codes = codes_in c.args.old.now c.args.ruled in
+    let others = codes_in c.args.new.now c.args.second in
+    changes-written c.args.key.now c.args.n c.args.ruled.rule c.args.m c.args.second.rule codes others
+    c.put_severities-to.ensures c.put_bounds-third.ensures c.put_sets-fourth.ensures c.put_moved.ensures
