@@ -1,3 +1,4 @@
 pub mod Line
 pub mod Fed
+pub mod Room
 pub mod Reply
