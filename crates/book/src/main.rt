@@ -3,6 +3,8 @@
 
 #![tactic(auto)]
 
+ghost use Rattle.std.specs.Prelude.{◌≤◌, length, IfOk};
+
 mod command;
 mod counts;
 mod reply;
@@ -16,78 +18,140 @@ use difference::difference::difference;
 use hl7::bytes::{front, same_bytes};
 use legend::legend::legend;
 use reply::{put_diff, put_file, put_legend, put_new_name, put_shown, put_told, put_usage};
+use std::env::{Env, FillError};
+use std::fs::{OpenFile, OpenOptions, Permissions};
+use std::io::{Error, ErrorKind, Read, Write};
+use std::os::unix::fs::{OpenOptionsExt, PermissionsExt};
+use std::rt::Files;
+use std::{fs, io};
 
-// What was read of a file: whether it could be, and how many bytes there are, up to the room.
+// How many names are tried for a new file: as many as its six digits can tell apart.
+const NAME_COUNT: usize = 1_000_000;
+
+// What came of a file that was to be read: its length, up to the room; or the length of the line which tells that it cannot be.
 #[derive(Clone, Copy)]
-struct Read {
-    good: bool,
-    length: usize,
+enum Named {
+    Read(usize),
+    Refused(usize),
 }
 
-// Reads a file, as much of it as there is room for. Nothing may be left, so that a read which fails is not taken for the end.
-fn read_whole(path: &[u8], into: &mut [u8]) -> Read {
-    let fd = os::open_read(path);
-    if fd < 0 {
-        return Read {
-            good: false,
-            length: 0,
-        };
+// Puts a word of the command line at the front of a room, and answers its length: 0 where there is no such word, or no room for all of it.
+fn put_word(rt: &impl Env, word: usize, room: &mut [u8]) -> usize {
+    rt.arg(word, room).unwrap_or(0)
+}
+
+// How many words the command line has, the program's own among them. No word has room here, and the first that there is not ends them.
+fn word_count(rt: &impl Env) -> usize {
+    for count in 0..usize::MAX {
+        if let Err(FillError::NotPresent) = rt.arg(count, &mut []) {
+            return count;
+        }
     }
-    let length = io::read_full(fd, into);
-    let left = libc::read(fd, &mut [0u8; 1]);
-    libc::close(fd);
-    Read {
-        good: (left == 0) | (length == into.len()),
-        length,
+    usize::MAX
+}
+
+// The text of a path. One that is no UTF-8 names no file that can be opened.
+fn path_text(path: &[u8]) -> io::Result<&str> {
+    match str::from_utf8(path) {
+        Ok(text) => Ok(text),
+        Err(_) => Err(Error::from(ErrorKind::InvalidFilename)),
     }
 }
 
-// Fills a new file, for all to read, and answers whether all of it is on the disk.
-fn fill(fd: i32, book: &[u8]) -> bool {
-    let wrote = io::write_all(fd, book);
-    let opened = libc::fchmod(fd, 0o644);
-    let kept = libc::fsync(fd);
-    let closed = libc::close(fd);
-    wrote & (opened == 0) & (kept == 0) & (closed == 0)
+// Reads until there is no more room, or the file ends, and answers how much there is. A read that fails is not taken for the end.
+fn read_full(file: &mut impl Read, into: &mut [u8]) -> io::Result<usize>
+    ensures { IfOk result (λ count. count ≤ length into.new) }
+{
+    let mut done = 0;
+    while done < into.len() {
+        let n = file.read(&mut into[done..])?;
+        if n == 0 {
+            break;
+        }
+        done += n;
+    }
+    Ok(done)
 }
 
-// Writes a book into a new file by this name, which is then given the book's own; or leaves nothing behind. Answers whether it is written.
-fn write_by(name: &mut [u8], path: &[u8], book: &[u8]) -> bool {
-    let fd = os::create_temp(name);
-    if fd < 0 {
-        return false;
-    }
-    if fill(fd, book) && os::rename(name, path) == 0 {
-        return true;
-    }
-    os::unlink(name);
-    false
+// Reads a file, as much of it as there is room for.
+fn read_whole(rt: &impl Files, path: &[u8], into: &mut [u8]) -> io::Result<usize>
+    ensures { IfOk result (λ count. count ≤ length into.new) }
+{
+    let mut file = fs::open(rt, path_text(path)?)?;
+    read_full(&mut file, into)
 }
 
-// Writes a book, whole or not at all: the new file stands beside it, its name with a suffix.
-fn write_whole(path: &[u8], book: &[u8]) -> bool {
+// Fills a new file, for all to read, and closes it: all of it is then on the disk.
+fn fill(mut file: impl Write + OpenFile + Drop, book: &[u8]) -> io::Result<()> {
+    file.write_all(book)?;
+    file.set_permissions(Permissions::from_mode(0o644))?;
+    file.sync_all()
+}
+
+// Fills a new file by this name, which is then given the book's own; or leaves nothing behind.
+fn finish<R: Files>(rt: &R, file: R::File, name: &str, path: &str, book: &[u8]) -> io::Result<()> {
+    let placed = match fill(file, book) {
+        Ok(()) => fs::rename(rt, name, path),
+        Err(e) => Err(e),
+    };
+    if placed.is_err() {
+        let _ = fs::remove_file(rt, name);
+    }
+    placed
+}
+
+// Makes a name's last six bytes the digits of a number.
+fn number_name(name: &mut [u8], number: usize) {
+    let mut left = number;
+    for digit in name.iter_mut().rev().take(6) {
+        *digit = b'0' + (left % 10) as u8;
+        left /= 10;
+    }
+}
+
+// Makes a new file by this name, for this user alone until it is filled. A file that there is already is left as it is.
+fn create_new<R: Files>(rt: &R, name: &str) -> io::Result<R::File> {
+    OpenOptions::new()
+        .write(true)
+        .create_new(true)
+        .mode(0o600)
+        .open(rt, name)
+}
+
+// Writes a book, whole or not at all: the new file stands beside it, its name with a suffix, the first that is free.
+fn write_whole(rt: &impl Files, path: &[u8], book: &[u8]) -> io::Result<()> {
+    let target = path_text(path)?;
     let mut name = [0u8; 4104];
     let length = put_new_name(&mut name, path);
     if name.len() < length {
-        return false;
+        return Err(Error::from(ErrorKind::InvalidFilename));
     }
-    write_by(&mut name[0..length], path, book)
+    for number in 0..NAME_COUNT {
+        number_name(&mut name[..length], number);
+        let beside = path_text(&name[..length])?;
+        match create_new(rt, beside) {
+            Ok(file) => return finish(rt, file, beside, target, book),
+            Err(e) if e.kind() == ErrorKind::AlreadyExists => {}
+            Err(e) => return Err(e),
+        }
+    }
+    Err(Error::from(ErrorKind::AlreadyExists))
 }
 
 // Whether a path is the one that the command line has for the source.
-fn is_source(path: &[u8]) -> bool {
+fn is_source(rt: &impl Env, path: &[u8]) -> bool {
     let mut source = [0u8; 4096];
-    let length = os::arg(2, &mut source);
+    let length = put_word(rt, 2, &mut source);
     same_bytes(front(&source, length), path)
 }
 
 // The book is written only where nothing is refused, and not over its source.
-fn keep(told: Told, output: &mut [u8]) -> usize {
+fn keep(rt: &(impl Env + Files), told: Told, output: &mut [u8]) -> usize {
     if told.number == 0 {
         let mut path = [0u8; 4096];
-        let length = os::arg(3, &mut path);
-        if is_source(front(&path, length))
-            || !write_whole(front(&path, length), front(output, told.detail))
+        let length = put_word(rt, 3, &mut path);
+        if is_source(rt, front(&path, length))
+            || write_whole(rt, front(&path, length), front(output, told.detail)).is_err()
         {
             return put_file(output, b"written", front(&path, length));
         }
@@ -95,90 +159,109 @@ fn keep(told: Told, output: &mut [u8]) -> usize {
     put_told(output, told)
 }
 
-// Reads the file that a word of the command line names; or puts the line which tells that it cannot be read, and answers the length of that. A path has
-// room for the longest that can be opened: a longer one is taken for an empty one, which cannot.
-fn read_named(word: usize, input: &mut [u8], output: &mut [u8]) -> Read {
+// Reads the file that a word of the command line names; or puts the line which tells that it cannot be read. A path has room for the longest that can
+// be opened: a longer one is taken for an empty one, which cannot.
+fn read_named(rt: &(impl Env + Files), word: usize, input: &mut [u8], output: &mut [u8]) -> Named {
     let mut path = [0u8; 4096];
-    let length = os::arg(word, &mut path);
-    let read = read_whole(front(&path, length), input);
-    if read.good {
-        return read;
-    }
-    Read {
-        good: false,
-        length: put_file(output, b"read", front(&path, length)),
+    let length = put_word(rt, word, &mut path);
+    match read_whole(rt, front(&path, length), input) {
+        Ok(count) => Named::Read(count),
+        Err(_) => Named::Refused(put_file(output, b"read", front(&path, length))),
     }
 }
 
 // Compiles the source, and puts what is to be printed; with `kept` the book is written.
-fn make(input: &mut [u8], output: &mut [u8], kept: bool) -> usize {
-    let read = read_named(2, input, output);
-    if !read.good {
-        return read.length;
+fn make(rt: &(impl Env + Files), input: &mut [u8], output: &mut [u8], kept: bool) -> usize {
+    match read_named(rt, 2, input, output) {
+        Named::Read(length) => {
+            let told = compile(front(input, length), output);
+            if kept {
+                return keep(rt, told, output);
+            }
+            put_told(output, told)
+        }
+        Named::Refused(end) => end,
     }
-    let told = compile(front(input, read.length), output);
-    if kept {
-        return keep(told, output);
-    }
-    put_told(output, told)
 }
 
 // The same for the book that is shown.
-fn show_first(input: &mut [u8], output: &mut [u8]) -> usize {
-    let read = read_named(2, input, output);
-    if !read.good {
-        return read.length;
+fn show_first(rt: &(impl Env + Files), input: &mut [u8], output: &mut [u8]) -> usize {
+    match read_named(rt, 2, input, output) {
+        Named::Read(length) => {
+            let told = show(front(input, length), output);
+            put_shown(output, told)
+        }
+        Named::Refused(end) => end,
     }
-    let told = show(front(input, read.length), output);
-    put_shown(output, told)
 }
 
 // The same for the source whose legend is asked for.
-fn explain_first(input: &mut [u8], output: &mut [u8]) -> usize {
-    let read = read_named(2, input, output);
-    if !read.good {
-        return read.length;
+fn explain_first(rt: &(impl Env + Files), input: &mut [u8], output: &mut [u8]) -> usize {
+    match read_named(rt, 2, input, output) {
+        Named::Read(length) => {
+            let told = legend(front(input, length), output);
+            put_legend(output, told)
+        }
+        Named::Refused(end) => end,
     }
-    let told = legend(front(input, read.length), output);
-    put_legend(output, told)
 }
 
 // The same for the two books that are compared.
-fn compare_both(input: &mut [u8], second: &mut [u8], output: &mut [u8]) -> usize {
-    let old = read_named(2, input, output);
-    if !old.good {
-        return old.length;
-    }
-    let new = read_named(3, second, output);
-    if !new.good {
-        return new.length;
-    }
-    let told = difference(front(input, old.length), front(second, new.length), output);
+fn compare_both(
+    rt: &(impl Env + Files),
+    input: &mut [u8],
+    second: &mut [u8],
+    output: &mut [u8],
+) -> usize {
+    let old = match read_named(rt, 2, input, output) {
+        Named::Read(length) => length,
+        Named::Refused(end) => return end,
+    };
+    let new = match read_named(rt, 3, second, output) {
+        Named::Read(length) => length,
+        Named::Refused(end) => return end,
+    };
+    let told = difference(front(input, old), front(second, new), output);
     put_diff(output, told)
 }
 
 // What the command line asks for: what is to be printed stands at the output's front. Further commands have their arms here, and their words in command.rt.
-fn answer(input: &mut [u8], second: &mut [u8], output: &mut [u8]) -> usize {
+fn answer(
+    rt: &(impl Env + Files),
+    input: &mut [u8],
+    second: &mut [u8],
+    output: &mut [u8],
+) -> usize {
     let mut verb = [0u8; 8];
-    let length = os::arg(1, &mut verb);
-    match command_of(os::arg_count(), front(&verb, length)) {
-        Command::Compile => make(input, output, true),
-        Command::Check => make(input, output, false),
-        Command::Show => show_first(input, output),
-        Command::Legend => explain_first(input, output),
-        Command::Diff => compare_both(input, second, output),
+    let length = put_word(rt, 1, &mut verb);
+    match command_of(word_count(rt), front(&verb, length)) {
+        Command::Compile => make(rt, input, output, true),
+        Command::Check => make(rt, input, output, false),
+        Command::Show => show_first(rt, input, output),
+        Command::Legend => explain_first(rt, input, output),
+        Command::Diff => compare_both(rt, input, second, output),
         Command::Unknown => put_usage(output),
     }
 }
 
 // The rooms come as arrays, whose lengths stand in their types: no proof has to count so many bytes.
-fn run(input: &mut [u8; 1048577], second: &mut [u8; 65537], output: &mut [u8; 4194304]) {
-    let length = answer(input, second, output);
-    io::write_all(libc::STDOUT_FILENO, front(output, length));
+fn run(
+    rt: &(impl Env + Files + Print),
+    input: &mut [u8; 1048577],
+    second: &mut [u8; 65537],
+    output: &mut [u8; 4194304],
+) -> io::Result<()> {
+    let length = answer(rt, input, second, output);
+    rt.write_all(front(output, length))
 }
 
 // A source has room for one byte more than it may have, so that a longer one is seen to be longer; so has a book, which may have fewer, and the second of
-// two has a room of its own. Of all that is printed only a legend or a difference may have no room.
-fn main() {
-    run(&mut [0u8; 1048577], &mut [0u8; 65537], &mut [0u8; 4194304]);
+// two has a room of its own. Of all that is printed only a legend or a difference may have no room. A text that cannot be printed is an error.
+fn main(rt: HostRuntime) -> io::Result<()> {
+    run(
+        &rt,
+        &mut [0u8; 1048577],
+        &mut [0u8; 65537],
+        &mut [0u8; 4194304],
+    )
 }
