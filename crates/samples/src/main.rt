@@ -9,7 +9,7 @@
 
 #![tactic(auto)]
 
-ghost use Rattle.std.specs.Prelude.{◌≡◌};
+ghost use Rattle.std.specs.Prelude.{◌≡◌, ◌≤◌, length};
 ghost use Rattle.samples.specs.Pack.{number_of};
 
 use ack::lamp::lamp;
@@ -20,11 +20,12 @@ use booktext::told::Told;
 use canonical::show::show;
 use difference::difference::difference;
 use grade::refusal::Answer;
-use hl7::bytes::{front, pick, wide};
+use hl7::bytes::{front, wide};
 use hl7::locate::locate;
 use legend::legend::legend;
-use libc::STDOUT_FILENO;
 use show::text::put_answer;
+use std::io::Read;
+use std::{fs, io};
 
 const MESSAGE: u32 = 1;
 
@@ -53,9 +54,24 @@ fn number_of(four: &[u8; 4]) -> u32
     (65536 * high + low) as u32
 }
 
-fn read_number(fd: i32) -> Number {
+// Reads until there is no more room, or nothing more is read: a read that fails ends the pack too.
+fn read_full(pack: &mut impl Read, into: &mut [u8]) -> usize
+    ensures { result ≤ length into.new }
+{
+    let mut done = 0;
+    while done < into.len() {
+        let n = pack.read(&mut into[done..]).unwrap_or(0);
+        if n == 0 {
+            break;
+        }
+        done += n;
+    }
+    done
+}
+
+fn read_number(pack: &mut impl Read) -> Number {
     let mut four = [0u8; 4];
-    let count = io::read_full(fd, &mut four);
+    let count = read_full(pack, &mut four);
     Number {
         count,
         value: number_of(&four),
@@ -69,8 +85,8 @@ struct Part {
     length: usize,
 }
 
-fn read_part(fd: i32, into: &mut [u8]) -> Part {
-    let number = read_number(fd);
+fn read_part(pack: &mut impl Read, into: &mut [u8]) -> Part {
+    let number = read_number(pack);
     let length = number.value as usize;
     if into.len() < length {
         return Part {
@@ -78,7 +94,7 @@ fn read_part(fd: i32, into: &mut [u8]) -> Part {
             length,
         };
     }
-    let count = io::read_full(fd, &mut into[0..length]);
+    let count = read_full(pack, &mut into[0..length]);
     Part {
         whole: (number.count == 4) & (count == length),
         length,
@@ -94,17 +110,17 @@ struct Asked {
     component: Number,
 }
 
-fn read_place(fd: i32) -> Asked {
+fn read_place(pack: &mut impl Read) -> Asked {
     Asked {
-        segment: read_number(fd),
-        field: read_number(fd),
-        repetition: read_number(fd),
-        component: read_number(fd),
+        segment: read_number(pack),
+        field: read_number(pack),
+        repetition: read_number(pack),
+        component: read_number(pack),
     }
 }
 
 // Prints the place, a part of the message, and a line feed.
-fn print_place(message: &[u8], asked: Asked) {
+fn print_place(rt: &impl Print, message: &[u8], asked: Asked) -> io::Result<()> {
     let part = locate(
         message,
         asked.segment.value as usize,
@@ -112,36 +128,35 @@ fn print_place(message: &[u8], asked: Asked) {
         asked.repetition.value as usize,
         asked.component.value as usize,
     );
-    io::write_all(STDOUT_FILENO, part);
-    io::write_all(STDOUT_FILENO, b"\n");
-}
-
-// Prints a number and a detail.
-fn print_numbers(number: usize, detail: usize) {
-    io::print_decimal(STDOUT_FILENO, number as u64);
-    io::write_all(STDOUT_FILENO, b" ");
-    io::print_decimal(STDOUT_FILENO, detail as u64);
+    rt.write_all(part)?;
+    rt.write_all(b"\n")
 }
 
 // Prints what the lamp tells on a line.
-fn print_lamp(message: &[u8], book: &[u8], stamp: &[u8]) {
+fn print_lamp(rt: &impl Print, message: &[u8], book: &[u8], stamp: &[u8]) -> io::Result<()> {
     let told = lamp(message, book, stamp);
-    print_numbers(told.number as usize, told.detail);
-    io::write_all(STDOUT_FILENO, b"\n");
+    println!(rt; "{} {}", told.number, told.detail)
 }
 
 // The place and the lamp of a message's case; a batch file's asks for neither. Answers whether the case is whole.
-fn run_asked(fd: i32, kind: u32, input: &[u8], book: &[u8], stamp: &[u8]) -> bool {
+fn run_asked(
+    rt: &impl Print,
+    pack: &mut impl Read,
+    kind: u32,
+    input: &[u8],
+    book: &[u8],
+    stamp: &[u8],
+) -> io::Result<bool> {
     if kind == MESSAGE {
-        let asked = read_place(fd);
+        let asked = read_place(pack);
         // the last number is there only where the ones before it are
         if asked.component.count < 4 {
-            return false;
+            return Ok(false);
         }
-        print_place(input, asked);
-        print_lamp(input, book, stamp);
+        print_place(rt, input, asked)?;
+        print_lamp(rt, input, book, stamp)?;
     }
-    true
+    Ok(true)
 }
 
 // The answer to a message, which is graded and then written, or to a batch file.
@@ -161,6 +176,7 @@ fn answer_to(
 
 // Answers a case with the first so many bytes of out lent, and prints the answer. Answers whether there are so many.
 fn print_answer(
+    rt: &impl Print,
     kind: u32,
     input: &[u8],
     book: &[u8],
@@ -168,22 +184,30 @@ fn print_answer(
     control: u32,
     out: &mut [u8],
     length: usize,
-) -> bool {
+) -> io::Result<bool> {
     if out.len() < length {
-        return false;
+        return Ok(false);
     }
     let answer = answer_to(kind, input, book, stamp, control, &mut out[0..length]);
     let end = put_answer(out, answer);
-    io::write_all(STDOUT_FILENO, front(out, end));
-    true
+    rt.write_all(front(out, end))?;
+    Ok(true)
 }
 
 // The rest of a case, after the stamp. Answers whether it is whole.
-fn run_rest(fd: i32, kind: u32, input: &[u8], book: &[u8], stamp: &[u8]) -> bool {
-    let control = read_number(fd);
-    let length = read_number(fd);
-    if (length.count == 4) && run_asked(fd, kind, input, book, stamp) {
+fn run_rest(
+    rt: &impl Print,
+    pack: &mut impl Read,
+    kind: u32,
+    input: &[u8],
+    book: &[u8],
+    stamp: &[u8],
+) -> io::Result<bool> {
+    let control = read_number(pack);
+    let length = read_number(pack);
+    if (length.count == 4) && run_asked(rt, pack, kind, input, book, stamp)? {
         return print_answer(
+            rt,
             kind,
             input,
             book,
@@ -193,35 +217,33 @@ fn run_rest(fd: i32, kind: u32, input: &[u8], book: &[u8], stamp: &[u8]) -> bool
             length.value as usize,
         );
     }
-    false
+    Ok(false)
 }
 
 // A case of this kind. Answers whether it is whole.
-fn run_case(fd: i32, kind: u32) -> bool {
+fn run_case(rt: &impl Print, pack: &mut impl Read, kind: u32) -> io::Result<bool> {
     let mut input = [0u8; 131072];
-    let input_part = read_part(fd, &mut input);
+    let input_part = read_part(pack, &mut input);
     let mut book = [0u8; 65537];
-    let book_part = read_part(fd, &mut book);
+    let book_part = read_part(pack, &mut book);
     let mut stamp = [0u8; 1024];
-    let stamp_part = read_part(fd, &mut stamp);
+    let stamp_part = read_part(pack, &mut stamp);
     if input_part.whole & book_part.whole & stamp_part.whole {
         return run_rest(
-            fd,
+            rt,
+            pack,
             kind,
             front(&input, input_part.length),
             front(&book, book_part.length),
             front(&stamp, stamp_part.length),
         );
     }
-    false
+    Ok(false)
 }
 
 // Prints number, detail and section on a line.
-fn print_told(told: Told) {
-    print_numbers(told.number, told.detail);
-    io::write_all(STDOUT_FILENO, b" ");
-    io::print_decimal(STDOUT_FILENO, told.section as u64);
-    io::write_all(STDOUT_FILENO, b"\n");
+fn print_told(rt: &impl Print, told: Told) -> io::Result<()> {
+    println!(rt; "{} {} {}", told.number, told.detail, told.section)
 }
 
 // What the call for a text or a book tells.
@@ -236,106 +258,124 @@ fn told_of(kind: u32, input: &[u8], out: &mut [u8]) -> Told {
 }
 
 // Prints what is told, and what was made if nothing was refused.
-fn print_result(told: Told, out: &[u8]) {
-    print_told(told);
+fn print_result(rt: &impl Print, told: Told, out: &[u8]) -> io::Result<()> {
+    print_told(rt, told)?;
     if told.number == 0 {
-        io::write_all(STDOUT_FILENO, front(out, told.detail));
-        io::write_all(STDOUT_FILENO, b"\n");
+        rt.write_all(front(out, told.detail))?;
+        rt.write_all(b"\n")?;
     }
+    Ok(())
 }
 
 // Makes what is asked for with the first so many bytes of out lent, and prints the answer and what was made. Answers whether there are so many.
-fn print_made(kind: u32, input: &[u8], out: &mut [u8], length: usize) -> bool {
+fn print_made(
+    rt: &impl Print,
+    kind: u32,
+    input: &[u8],
+    out: &mut [u8],
+    length: usize,
+) -> io::Result<bool> {
     if out.len() < length {
-        return false;
+        return Ok(false);
     }
     let told = told_of(kind, input, &mut out[0..length]);
-    print_result(told, out);
-    true
+    print_result(rt, told, out)?;
+    Ok(true)
 }
 
 // The same for what differs between two books.
-fn print_difference(old: &[u8], new: &[u8], out: &mut [u8], length: usize) -> bool {
+fn print_difference(
+    rt: &impl Print,
+    old: &[u8],
+    new: &[u8],
+    out: &mut [u8],
+    length: usize,
+) -> io::Result<bool> {
     if out.len() < length {
-        return false;
+        return Ok(false);
     }
     let told = difference(old, new, &mut out[0..length]);
-    print_result(told, out);
-    true
+    print_result(rt, told, out)?;
+    Ok(true)
 }
 
 // The case of a text, or of a book to be shown. Answers whether it is whole.
-fn run_text(fd: i32, kind: u32) -> bool {
+fn run_text(rt: &impl Print, pack: &mut impl Read, kind: u32) -> io::Result<bool> {
     let mut input = [0u8; 131072];
-    let part = read_part(fd, &mut input);
-    let length = read_number(fd);
+    let part = read_part(pack, &mut input);
+    let length = read_number(pack);
     if part.whole & (length.count == 4) {
         return print_made(
+            rt,
             kind,
             front(&input, part.length),
             &mut [0u8; 131072],
             length.value as usize,
         );
     }
-    false
+    Ok(false)
 }
 
 // The case of two books. Answers whether it is whole.
-fn run_books(fd: i32) -> bool {
+fn run_books(rt: &impl Print, pack: &mut impl Read) -> io::Result<bool> {
     let mut old = [0u8; 65537];
-    let old_part = read_part(fd, &mut old);
+    let old_part = read_part(pack, &mut old);
     let mut new = [0u8; 65537];
-    let new_part = read_part(fd, &mut new);
-    let length = read_number(fd);
+    let new_part = read_part(pack, &mut new);
+    let length = read_number(pack);
     if old_part.whole & new_part.whole & (length.count == 4) {
         return print_difference(
+            rt,
             front(&old, old_part.length),
             front(&new, new_part.length),
             &mut [0u8; 131072],
             length.value as usize,
         );
     }
-    false
+    Ok(false)
 }
 
 // A case of any kind. Answers whether it is whole, and of a kind that there is.
-fn run_kind(fd: i32, kind: u32) -> bool {
+fn run_kind(rt: &impl Print, pack: &mut impl Read, kind: u32) -> io::Result<bool> {
     if (kind == TEXT) | (kind == BOOK) | (kind == LEGEND) {
-        return run_text(fd, kind);
+        return run_text(rt, pack, kind);
     }
     if kind == DIFFERENCE {
-        return run_books(fd);
+        return run_books(rt, pack);
     }
-    ((kind == MESSAGE) | (kind == BATCH)) && run_case(fd, kind)
+    if (kind == MESSAGE) | (kind == BATCH) {
+        return run_case(rt, pack, kind);
+    }
+    Ok(false)
 }
 
 // The next case, if there is one. Answers whether to go on.
-fn run_next(fd: i32) -> bool {
-    let kind = read_number(fd);
+fn run_next(rt: &impl Print, pack: &mut impl Read) -> io::Result<bool> {
+    let kind = read_number(pack);
     if kind.count == 0 {
-        return false;
+        return Ok(false);
     }
-    let is_whole = run_kind(fd, kind.value);
+    let is_whole = run_kind(rt, pack, kind.value)?;
     if !is_whole {
-        io::write_all(STDOUT_FILENO, b"bad pack\n");
+        rt.write_all(b"bad pack\n")?;
     }
-    is_whole
+    Ok(is_whole)
 }
 
-// A proved loop has to end, so the cases are counted down from a number that no pack uses up.
-fn run_all(fd: i32) {
-    let mut left = usize::MAX;
-    while 0 < left {
-        left = pick(run_next(fd), left - 1, 0);
+// A proved loop has to end, so the cases have a bound, which no pack comes to.
+fn run_all(rt: &impl Print, pack: &mut impl Read) -> io::Result<()> {
+    for _ in 0..usize::MAX {
+        if !run_next(rt, pack)? {
+            break;
+        }
     }
+    Ok(())
 }
 
-fn main() {
-    let fd = os::open_read(b"cases.pack");
-    if fd < 0 {
-        io::write_all(STDOUT_FILENO, b"bad pack\n");
-        return;
+// A text that cannot be printed is an error.
+fn main(rt: HostRuntime) -> io::Result<()> {
+    match fs::open(&rt, "cases.pack") {
+        Ok(mut pack) => run_all(&rt, &mut pack),
+        Err(_) => rt.write_all(b"bad pack\n"),
     }
-    run_all(fd);
-    libc::close(fd);
 }
