@@ -30,5 +30,10 @@ fn run(
 
 // Each file has room for one byte more than it may have, so that a longer one is seen to be longer. An answer that cannot be written is an error.
 fn main(rt: HostRuntime) -> io::Result<()> {
-    run(&rt, &mut [0u8; 1048577], &mut [0u8; 65537], &mut [0u8; 4194304])
+    run(
+        &rt,
+        &mut [0u8; 1048577],
+        &mut [0u8; 65537],
+        &mut [0u8; 4194304],
+    )
 }

@@ -40,7 +40,7 @@ fn put_word(rt: &impl Env, word: usize, room: &mut [u8]) -> usize {
     rt.arg(word, room).unwrap_or(0)
 }
 
-// How many words the command line has, the program's own among them. No word has room here, and the first that there is not ends them.
+// How many words the command line has, the program's own among them. None is read: one that has no room is there all the same.
 fn word_count(rt: &impl Env) -> usize {
     for count in 0..usize::MAX {
         if let Err(FillError::NotPresent) = rt.arg(count, &mut []) {
