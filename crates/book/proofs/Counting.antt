@@ -10,7 +10,7 @@ use lib.ListN.{length, get_or, take, drop, length-map, drop_of_length-le}
 use lib.Seq.{length-take-le}
 use borrow.Author.Tests.{leb-true}
 use Rattle.hl7.specs.Bytes.{all}
-use Rattle.hl7.specs.Refusals.{Told, told, row, first_row}
+use Rattle.hl7.specs.Refusals.{Told, told, first_row}
 use Rattle.hl7.proofs.Comparing.{and_both, all-at, rest_at}
 use Rattle.grade.specs.declared.book.Indexed.{Indexed}
 use Rattle.grade.specs.declared.walk.Section.{Section}

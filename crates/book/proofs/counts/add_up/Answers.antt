@@ -1,0 +1,23 @@
+-- `book::counts::add_up` meets its contract: what was added up, with what the sections that are left have, is what all have. Assumes nothing.
+use mathlib.Core.Path.{refl}
+use native.Mathlib.Omega.{arith}
+use Rattle.book.proofs.Counting.{adding_start, adding_stands, adding_more, adding_few, adding_done}
+use Rattle.book.proofs.counts.add_up.Goals as goal
+
+pub site_at-site-requires : goal.site_at-site-requires
+site_at-site-requires c = adding_stands _ _ c.requires.0 _ c.loop-i-test.true
+
+pub overflow_add-rules : goal.overflow_add-rules
+overflow_add-rules c = omega (arith, (adding_few _ _ c.requires.0 c.loop-i.invariant c.loop-i-test.true c.site_at-site.ensures refl c.requires.1).0)
+
+pub overflow_add-sets : goal.overflow_add-sets
+overflow_add-sets c = omega (arith, (adding_few _ _ c.requires.0 c.loop-i.invariant c.loop-i-test.true c.site_at-site.ensures c.wide-sets.ensures.0 c.requires.1).1)
+
+pub loop-i-preserved : goal.loop-i-preserved
+loop-i-preserved c = adding_more _ _ c.requires.0 c.loop-i.invariant c.loop-i-test.true c.site_at-site.ensures c.wide-sets.ensures.0
+
+pub loop-i-init : goal.loop-i-init
+loop-i-init c = adding_start _ _
+
+pub returns : goal.returns
+returns c = adding_done _ _ c.loop-i.invariant c.loop-i-test.false
