@@ -1,6 +1,6 @@
 /* Jasminedo from C and every language that calls C: numbers, byte slices and tables of findings.
  *
- * Link with target/staticlib/libjasminedo.a (made by `rt staticlib jasminedo`). Nothing is kept between calls,
+ * Link with target/staticlib/libjasminedo.a (made by `./build jasminedo`). Nothing is kept between calls,
  * nothing is allocated, and every input has an answer. A slice is a pointer and a length; the pointer may be dangling
  * but not null where the length is 0. A table is a pointer and a number of records. Neither the output nor a table that is
  * graded into may overlap an input. */
