@@ -97,6 +97,10 @@ wrote_none out at h = record { room = h; holds = refl; ends = rw add-zero }
 pub wrote-past : {o xs : List ℕ} {at next : ℕ} → length o < limit → length o ≤ at → next ≡ min (at + length xs) limit → Wrote o at xs o next
 wrote-past {o} {xs} {at} room past e = record { room = room; holds = sym (splice-past o at xs past); ends = e }
 
+-- the same, in the words of the code
+pub wrote_over : (o xs : List ℕ) (at n next : ℕ) → length o < limit → length o ≤ at → n ≡ length xs → next ≡ min (at + n) limit → Wrote o at xs o next
+wrote_over o xs at n next room past e f = wrote-past room past (f ∙ ap (λ (k : ℕ). min (at + k) limit) e)
+
 -- the same bytes under another name
 pub wrote_as : {o p xs ys : List ℕ} {a b : ℕ} → Wrote o a xs p b → xs ≡ ys → Wrote o a ys p b
 wrote_as {o} {p} {a = a} {b} w e = subst (λ (l : List ℕ). Wrote o a l p b) e w

@@ -20,6 +20,7 @@ pub struct Put {
 }
 
 // The ERR of a finding; where nothing of it would fit, its length is all that is asked.
+#[tactic(auto, using(crate::proofs::Writing::wrote_over))]
 pub(crate) fn put_finding(out: &mut [u8], at: usize, d: Delims, finding: Finding) -> usize
     ensures { Wrote out.old at (ended (err_line d finding)) out.new result }
 {

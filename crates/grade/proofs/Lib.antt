@@ -22,6 +22,7 @@ pub mod Segments
 pub mod Stepping
 pub mod Ranging
 pub mod Sheets
+pub mod Row
 pub mod Stored
 pub mod Filling
 pub mod Planning

@@ -31,10 +31,10 @@ value_of_two (x ∷ (y ∷ [])) e = by (eqb x 34) (eqb y 34)
 value_of_two (x ∷ (y ∷ (z ∷ v))) e = absurd (omega (arith, e))
 
 -- of another number of bytes: there are some
-pub value_of-others : (v : List ℕ) → (length v ≡ 2 → ⊥) → ltb 0 (length v) ≡ is_value v
+pub value_of_others : (v : List ℕ) → (length v ≡ 2 → ⊥) → ltb 0 (length v) ≡ is_value v
 unfolding is_value among same
-value_of-others [] e = refl
-value_of-others (x ∷ v) e = lt-ltb 0 (length (x ∷ v)) (omega arith) ∙ sym (rw (same_lengths (x ∷ v) quotes e))
+value_of_others [] e = refl
+value_of_others (x ∷ v) e = lt-ltb 0 (length (x ∷ v)) (omega arith) ∙ sym (rw (same_lengths (x ∷ v) quotes e))
 
 -- ---- what two quotes break: REQUIRED, at the first repetition, and no other kind, whatever the codes
 pub two_quotes : (sets : List (List (List ℕ))) (rule : Rule) (r : ℕ) → breaks_rule sets rule r quotes ≡ (is_required rule.kind && eqb r 0)

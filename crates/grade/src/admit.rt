@@ -111,7 +111,8 @@ pub fn admit_stamped(
 {
     match admit(m, book, sections, indexed) {
         Admitted::By(section, header) => {
-            if is_stamp(stamp) {
+            let right = is_stamp(stamp);
+            if right {
                 Admitted::By(section, header)
             } else {
                 Admitted::Refused(refused(10))

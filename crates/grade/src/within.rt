@@ -238,7 +238,8 @@ fn at_rule(
     ) {
         Value::Broken { repetition, next } => {
             let finding = value_finding(here, rule, i + 1, repetition);
-            if end - start < next {
+            let past = end - start < next;
+            if past {
                 return Judged::Last(finding);
             }
             Judged::Found(

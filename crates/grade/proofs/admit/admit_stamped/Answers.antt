@@ -4,12 +4,12 @@ use Rattle.grade.specs.Standing.{Admits}
 use Rattle.grade.proofs.Admitting.{stamped_refused, stamped_right, stamped_wrong}
 use Rattle.grade.proofs.admit.admit_stamped.Goals as goal
 
-pub returns-then-is_stamp : goal.returns-then-is_stamp
-returns-then-is_stamp c = stamped_right _ _ _ (subst (Admits _ _) c.in-By.is c.admit.ensures) (sym c.is_stamp.ensures ∙ c.if-is_stamp.true)
+pub returns-then-right : goal.returns-then-right
+returns-then-right c = stamped_right _ _ _ (subst (Admits _ _) c.in-By.is c.admit.ensures) (sym c.is_stamp-right.ensures ∙ c.if-right.true)
 
-pub returns-else-is_stamp : goal.returns-else-is_stamp
-returns-else-is_stamp c =
-    stamped_wrong _ _ _ (subst (Admits _ _) c.in-By.is c.admit.ensures) (sym c.is_stamp.ensures ∙ c.if-is_stamp.false)
+pub returns-else-right : goal.returns-else-right
+returns-else-right c =
+    stamped_wrong _ _ _ (subst (Admits _ _) c.in-By.is c.admit.ensures) (sym c.is_stamp-right.ensures ∙ c.if-right.false)
     c.refused.ensures
 
 pub returns-in-Refused : goal.returns-in-Refused

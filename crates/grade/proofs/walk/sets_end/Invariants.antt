@@ -1,4 +1,4 @@
--- `grade::walk::sets_end_lem` meets its contract: the sets that are left end where all of them do. Assumes nothing.
+-- `grade::walk::sets_end` meets its contract: the sets that are left end where all of them do. Assumes nothing.
 use mathlib.Core.Path.{◌≡◌}
 use Rattle.grade.specs.Reader.{times}
 use Rattle.grade.specs.Standing.{end_of}

@@ -40,14 +40,14 @@ value_finding-finding-requires c =
     let p = c.requires in
     ((counted_bounds a.here.name p.3.counts).1, omega (arith, p.6, p.1.few_rules))
 
-pub returns-then-end-start : goal.returns-then-end-start
-returns-then-end-start c =
+pub returns-then-past : goal.returns-then-past
+returns-then-past c =
     let a = c.args in
     let p = c.requires in
-    rule_last a.d a.m.now a.book.now a.section a.here p.1 p.3 a.spot p.6 (p.4.about p.6) c.rule_named-rule.result c.rule_named-rule.ensures c.field_of-field.ensures c.next_value.ensures _ _ _ c.in-Broken.is c.value_finding-finding.ensures c.if-end-start.true
+    rule_last a.d a.m.now a.book.now a.section a.here p.1 p.3 a.spot p.6 (p.4.about p.6) c.rule_named-rule.result c.rule_named-rule.ensures c.field_of-field.ensures c.next_value.ensures _ _ _ c.in-Broken.is c.value_finding-finding.ensures (omega (arith, c.if-past.true))
 
-pub returns-else-end-start : goal.returns-else-end-start
-returns-else-end-start c =
+pub returns-else-past : goal.returns-else-past
+returns-else-past c =
     let a = c.args in
     let p = c.requires in
     rule_found a.d a.m.now a.book.now a.section a.here p.1 p.3 a.spot p.6 (p.4.about p.6) c.rule_named-rule.result c.rule_named-rule.ensures c.field_of-field.ensures c.next_value.ensures _ _ _ c.in-Broken.is c.value_finding-finding.ensures
