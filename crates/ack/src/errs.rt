@@ -20,6 +20,7 @@ pub struct Put {
 }
 
 // The ERR of a finding; where nothing of it would fit, its length is all that is asked.
+// A goal is named after its test: found by a lemma, and not by a file that cites the name, it can be proved of another test of the same meaning too.
 #[tactic(auto, using(crate::proofs::Writing::wrote_over))]
 pub(crate) fn put_finding(out: &mut [u8], at: usize, d: Delims, finding: Finding) -> usize
     ensures { Wrote out.old at (ended (err_line d finding)) out.new result }

@@ -5,7 +5,7 @@ use mathlib.Core.Path.{◌≡◌, refl, sym, ap, subst, ◌∙◌}
 use mathlib.Core.Bool.{Bool, true, false, cond, ◌||◌, false≢true}
 use mathlib.Core.List.{List, [], ◌∷◌, map}
 use lib.Dec.{leb}
-use lib.ListN.{length, get_or}
+use lib.ListN.{length, get_or, drop}
 use borrow.Author.Tests.{leb-true, not-true, not-false}
 use Rattle.hl7.specs.Bytes.{all, same, among}
 use Rattle.hl7.specs.Refusals.{Told, told, Row, first_row}
@@ -20,6 +20,11 @@ use Rattle.grade.specs.Admission.{opened_told}
 use Rattle.grade.specs.Standing.{end_of, text_at, stands_at, contents_at, site_at, starting, starts_in, site_of, site_in, OpensBook, rules_in, sets_in, Holds}
 use Rattle.grade.proofs.Readings.{is_found_lem, then_found, found-same, starts-stand}
 use Rattle.grade.proofs.Parts.{SectionParts, stands_parts, stands-key, sections-say, book_parts}
+
+-- ---- the search
+-- whether the key is among those of the sections from number i on, and where its section is then, is as among all
+abbrev pub Remains : (b key starts : List ℕ) → ℕ → Type 0
+Remains b key starts i = (among key (map (text_at b) (drop i starts)) ≡ among key (map (text_at b) starts)) × (site_of b key (drop i starts) ≡ site_of b key starts)
 
 -- ---- the ways out
 

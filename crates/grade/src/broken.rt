@@ -26,6 +26,7 @@ pub(crate) fn is_required(kind: Kind) -> bool
 }
 
 // Whether bytes count as a value: they are neither none nor exactly two quotes.
+// A goal is named after its test: found by a lemma, and not by a file that cites the name, it can be proved of another test of the same meaning too.
 #[tactic(auto, using(crate::proofs::Quotes::value_of_two, crate::proofs::Quotes::value_of_others))]
 fn is_value(v: &[u8]) -> bool
     ensures { result ≡ is_value v.now }

@@ -44,7 +44,7 @@ pub fn read_line(rt: &impl Input) -> State
 }
 
 // Reads until there is no more room, or nothing more is read: a read that fails ends the file too.
-fn read_full(file: &mut impl Read, into: &mut [u8]) -> usize
+pub fn read_full(file: &mut impl Read, into: &mut [u8]) -> usize
     ensures { IsPrefixLen result into.new }
 {
     let mut done = 0;

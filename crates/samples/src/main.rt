@@ -9,7 +9,7 @@
 
 #![tactic(auto)]
 
-ghost use Rattle.std.specs.Prelude.{◌≡◌, ◌≤◌, length};
+ghost use Rattle.std.specs.Prelude.{◌≡◌};
 ghost use Rattle.samples.specs.Pack.{number_of};
 
 use ack::lamp::lamp;
@@ -23,6 +23,7 @@ use grade::refusal::Answer;
 use hl7::bytes::{front, wide};
 use hl7::locate::locate;
 use legend::legend::legend;
+use line::input::read_full;
 use show::text::put_answer;
 use std::io::Read;
 use std::{fs, io};
@@ -52,21 +53,6 @@ fn number_of(four: &[u8; 4]) -> u32
     let high = 256 * wide(four[0]) + wide(four[1]);
     let low = 256 * wide(four[2]) + wide(four[3]);
     (65536 * high + low) as u32
-}
-
-// Reads until there is no more room, or nothing more is read: a read that fails ends the pack too.
-fn read_full(pack: &mut impl Read, into: &mut [u8]) -> usize
-    ensures { result ≤ length into.new }
-{
-    let mut done = 0;
-    while done < into.len() {
-        let n = pack.read(&mut into[done..]).unwrap_or(0);
-        if n == 0 {
-            break;
-        }
-        done += n;
-    }
-    done
 }
 
 fn read_number(pack: &mut impl Read) -> Number {

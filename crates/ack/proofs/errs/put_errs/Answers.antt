@@ -1,4 +1,4 @@
--- `ack::errs::put_errs` meets its contract: from sheet to sheet, what is left completes the whole. Assumes nothing.
+-- `ack::errs::put_errs` meets its contract, by the invariant that stands beside this. Assumes nothing.
 use mathlib.Core.Path.{refl, ap, ◌∙◌}
 use native.Mathlib.Omega.{arith}
 use Rattle.hl7.specs.declared.place.Delims.{Delims}

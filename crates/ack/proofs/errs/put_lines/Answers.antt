@@ -1,4 +1,4 @@
--- `ack::errs::put_lines` meets its contract: what is left completes the whole. Assumes nothing.
+-- `ack::errs::put_lines` meets its contract, by the invariant that stands beside this. Assumes nothing.
 use native.Mathlib.Omega.{arith}
 use Rattle.ack.proofs.Recording.{notes_start, notes_one, notes_done}
 use Rattle.ack.proofs.errs.put_lines.Goals as goal

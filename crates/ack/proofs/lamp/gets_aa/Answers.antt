@@ -1,4 +1,4 @@
--- `ack::lamp::gets_aa` meets its contract: by the header, or else by whether an E or W is among the findings. Assumes nothing.
+-- `ack::lamp::gets_aa` meets its contract, by the invariant that stands beside this. Assumes nothing.
 use mathlib.Core.Path.{refl, sym, ap, ◌∙◌}
 use mathlib.Core.Bool.{not}
 use borrow.Author.Tests.{not-true, not-false}

@@ -1,4 +1,4 @@
--- `ack::layout::put_translated` meets its contract: after i turns the first i bytes of the text are stored. Assumes nothing.
+-- `ack::layout::put_translated` meets its contract, by the invariant that stands beside this. Assumes nothing.
 use mathlib.Core.Path.{refl}
 use native.Mathlib.Omega.{arith}
 use lib.ListN.{length-set, length-map}

@@ -1,4 +1,4 @@
--- `ack::output::put` meets its contract: after i turns the first i bytes are stored. Assumes nothing.
+-- `ack::output::put` meets its contract, by the invariant that stands beside this. Assumes nothing.
 use mathlib.Core.Path.{refl}
 use native.Mathlib.Omega.{arith}
 use lib.ListN.{length-set}

@@ -1,4 +1,4 @@
--- `batchfile::batch::keep_front` meets its contract. The invariant of its loop: the room holds the ACKs of the messages before. Assumes nothing.
+-- `batchfile::batch::keep_front` meets its contract, by the invariant that stands beside this. Assumes nothing.
 use mathlib.Core.Path.{refl, ap, ◌∙◌}
 use native.Mathlib.Omega.{arith}
 use lib.ListN.{length}

@@ -1,4 +1,4 @@
--- `batchfile::batch::measure_all` meets its contract. The invariant of its loop: what is known of all messages by those that are left. Assumes nothing.
+-- `batchfile::batch::measure_all` meets its contract, by the invariant that stands beside this. Assumes nothing.
 use native.Mathlib.Omega.{arith}
 use Rattle.batchfile.proofs.Measuring.{measuring_none, measuring_more, measuring_stop, measuring_done, total-fits}
 use Rattle.batchfile.proofs.batch.measure_all.Goals as goal

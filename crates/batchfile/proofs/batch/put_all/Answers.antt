@@ -1,4 +1,4 @@
--- `batchfile::batch::put_all` meets its contract. The invariant of its loop: with the ACKs that are left written too, all are. Assumes nothing.
+-- `batchfile::batch::put_all` meets its contract, by the invariant that stands beside this. Assumes nothing.
 use native.Mathlib.Omega.{arith}
 use Rattle.batchfile.proofs.Joining.{writing_none, writing_more, writing_done, put_small}
 use Rattle.batchfile.proofs.batch.put_all.Goals as goal

@@ -1,4 +1,4 @@
--- `batchfile::frame::body_from` meets its contract. The invariant of its loop: so many messages were passed, and no frame name. Assumes nothing.
+-- `batchfile::frame::body_from` meets its contract, by the invariant that stands beside this. Assumes nothing.
 use mathlib.Core.Path.{sym, ◌∙◌}
 use native.Mathlib.Omega.{arith}
 use Rattle.batchfile.proofs.Gathering.{counting_none, counting_more, counting_stop, counting_over}

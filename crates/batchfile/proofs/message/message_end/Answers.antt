@@ -1,4 +1,4 @@
--- `batchfile::message::message_end` meets its contract. The invariant of its loop: the segments passed so far join the message. Assumes nothing.
+-- `batchfile::message::message_end` meets its contract, by the invariant that stands beside this. Assumes nothing.
 use mathlib.Core.Path.{sym, ap₂, ◌∙◌}
 use mathlib.Core.Bool.{◌||◌}
 use native.Mathlib.Omega.{arith}

@@ -1,4 +1,4 @@
--- `book::counts::add_up` meets its contract: what was added up, with what the sections that are left have, is what all have. Assumes nothing.
+-- `book::counts::add_up` meets its contract, by the invariant that stands beside this. Assumes nothing.
 use mathlib.Core.Path.{refl}
 use native.Mathlib.Omega.{arith}
 use Rattle.book.proofs.Counting.{adding_start, adding_stands, adding_more, adding_few, adding_done}

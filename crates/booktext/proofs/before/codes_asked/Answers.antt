@@ -1,4 +1,4 @@
--- `booktext::before::codes_asked` meets its contract. The invariant of its loop: all codes are as asked if all from i on are. Assumes nothing.
+-- `booktext::before::codes_asked` meets its contract, by the invariant that stands beside this. Assumes nothing.
 use mathlib.Core.Bool.{not}
 use mathlib.Core.Path.{sym, ap}
 use mathlib.Core.List.{map}

@@ -1,4 +1,4 @@
--- `booktext::before::first_rule_fault` meets its contract. The invariant of its loop: the first fault is that of the cells left, after those passed. Assumes nothing.
+-- `booktext::before::first_rule_fault` meets its contract, by the invariant that stands beside this. Assumes nothing.
 use mathlib.Core.Path.{refl, sym, ◌∙◌}
 use Rattle.booktext.proofs.Preceding.{fault-told, fault_more, fault-over}
 use Rattle.booktext.proofs.before.first_rule_fault.Goals as goal

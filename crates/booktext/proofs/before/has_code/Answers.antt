@@ -1,4 +1,4 @@
--- `booktext::before::has_code` meets its contract. The invariant of its loop: the set has the code after all if it has it after those that are left, where it had it or not after those passed. Assumes nothing.
+-- `booktext::before::has_code` meets its contract, by the invariant that stands beside this. Assumes nothing.
 use native.Mathlib.Omega.{arith}
 use Rattle.booktext.proofs.Marking.{marks_at, marks_length}
 use Rattle.booktext.proofs.Preceding.{has-none, has_more, has-over}

@@ -1,4 +1,4 @@
--- `booktext::before::has_word` meets its contract. The invariant of its loop: the code is among all words if it is among those from i on. Assumes nothing.
+-- `booktext::before::has_word` meets its contract, by the invariant that stands beside this. Assumes nothing.
 use mathlib.Core.Path.{refl}
 use Rattle.booktext.proofs.Words.{words_fewer}
 use Rattle.booktext.proofs.Preceding.{word_none, word-here, word-later}

@@ -1,4 +1,4 @@
--- `booktext::before::is_listed` meets its contract. The invariant of its loop: the code lines have the code if those that are left have it. Assumes nothing.
+-- `booktext::before::is_listed` meets its contract, by the invariant that stands beside this. Assumes nothing.
 use mathlib.Core.Path.{ap}
 use mathlib.Core.List.{List}
 use Rattle.hl7.specs.Bytes.{among}

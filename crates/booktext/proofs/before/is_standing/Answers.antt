@@ -1,4 +1,4 @@
--- `booktext::before::is_standing` meets its contract. The invariant of its loop: a rule stands after all if it stands after those that are left, where one stood or did not after those passed. Assumes nothing.
+-- `booktext::before::is_standing` meets its contract, by the invariant that stands beside this. Assumes nothing.
 use Rattle.booktext.proofs.Preceding.{stands-none, stands_more, stands-over}
 use Rattle.booktext.proofs.before.is_standing.Goals as goal
 

@@ -1,4 +1,4 @@
--- `booktext::cell::note_marks` meets its contract. The invariant of its loop: the marks noted, and then those of the cells left, are all. Assumes nothing.
+-- `booktext::cell::note_marks` meets its contract, by the invariant that stands beside this. Assumes nothing.
 use native.Mathlib.Omega.{arith}
 use Rattle.booktext.proofs.Marking.{marked-none, marked_more, marked-over}
 use Rattle.booktext.proofs.cell.note_marks.Goals as goal

@@ -1,4 +1,4 @@
--- `booktext::change::amended` meets its contract. The invariant of its loop: what those left make of the rule as it is now is what all make of it. Assumes nothing.
+-- `booktext::change::amended` meets its contract, by the invariant that stands beside this. Assumes nothing.
 use mathlib.Core.Path.{refl}
 use native.Mathlib.Omega.{arith}
 use Rattle.booktext.proofs.Marking.{marks_at, marks_length}

@@ -1,4 +1,4 @@
--- `booktext::change::is_dropped` meets its contract. The invariant of its loop: one that is passed drops it, or one that is left. Assumes nothing.
+-- `booktext::change::is_dropped` meets its contract, by the invariant that stands beside this. Assumes nothing.
 use mathlib.Core.Path.{refl}
 use Rattle.booktext.proofs.Changing.{drops_more, drops_over}
 use Rattle.booktext.proofs.change.is_dropped.Goals as goal

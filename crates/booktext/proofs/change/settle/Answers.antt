@@ -1,4 +1,4 @@
--- `booktext::change::settle` meets its contract. The invariant of its loop: whoever notes those left, settled, has noted all. Assumes nothing.
+-- `booktext::change::settle` meets its contract, by the invariant that stands beside this. Assumes nothing.
 use mathlib.Core.Path.{refl, ◌∙◌}
 use Rattle.hl7.proofs.Comparing.{from_step, from_done}
 use Rattle.booktext.specs.Standing.{noted}

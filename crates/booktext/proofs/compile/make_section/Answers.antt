@@ -1,6 +1,7 @@
 -- `booktext::compile::make_section` meets its contract. Assumes nothing.
-use mathlib.Core.Path.{sym}
+use mathlib.Core.Path.{◌≡◌, sym}
 use native.Mathlib.Omega.{arith}
+use lib.ListN.{length, take}
 use lib.Seq.{length-take-le}
 use Rattle.hl7.proofs.Comparing.{and_both}
 use Rattle.booktext.specs.Standing.{statement_at}
@@ -20,7 +21,7 @@ pub slice_bounds-note_marks-end-2 : goal.slice_bounds-note_marks-end-2
 slice_bounds-note_marks-end-2 c = sym (length-take-le c.note_section-count.result _ (omega (arith, c.if-count-gt-STATEMENT_LIMIT.false, c.note_section-count.auto.cells, c.requires.6)))
 
 pub note_marks-requires : goal.note_marks-requires
-note_marks-requires c = omega (arith, sym (length-take-le c.note_section-count.result c.note_section-count.new.cells (omega (arith, c.if-count-gt-STATEMENT_LIMIT.false, c.note_section-count.auto.cells, c.requires.6))), c.if-count-gt-STATEMENT_LIMIT.false, c.requires.7)
+note_marks-requires c = omega (arith, length-take-le c.note_section-count.result c.note_section-count.new.cells (omega (arith, c.if-count-gt-STATEMENT_LIMIT.false, c.note_section-count.auto.cells, c.requires.6)), c.if-count-gt-STATEMENT_LIMIT.false, c.requires.7)
 
 pub slice_bounds-check_section-end : goal.slice_bounds-check_section-end
 slice_bounds-check_section-end c = omega (arith, c.if-count-gt-STATEMENT_LIMIT.false, c.note_section-count.auto.cells, c.requires.6)
@@ -35,15 +36,18 @@ pub slice_bounds-check_section-end-4 : goal.slice_bounds-check_section-end-4
 slice_bounds-check_section-end-4 c = sym (length-take-le c.note_section-count.result _ (omega (arith, c.if-count-gt-STATEMENT_LIMIT.false, c.note_marks.auto.marks, c.requires.7)))
 
 pub check_section-requires : goal.check_section-requires
-check_section-requires c = (
-  c.requires.0,
-  c.requires.4,
-  cells_ready _ _ c.next_line-start.ensures c.note_section-count.ensures c.if-count-gt-STATEMENT_LIMIT.false c.requires.4 c.requires.5,
-  marks_noted _ (sym (length-take-le c.note_section-count.result c.note_section-count.new.cells (omega (arith, c.if-count-gt-STATEMENT_LIMIT.false, c.note_section-count.auto.cells, c.requires.6)))) c.note_marks.ensures,
-  omega (arith, sym (length-take-le c.note_section-count.result c.note_section-count.new.cells (omega (arith, c.if-count-gt-STATEMENT_LIMIT.false, c.note_section-count.auto.cells, c.requires.6))), c.if-count-gt-STATEMENT_LIMIT.false),
-  c.requires.8,
-  key-short (statement_at _ _ 0) c.requires.3 (and_both _ _ c.requires.5).0,
-)
+check_section-requires c =
+    let count = c.note_section-count.result in
+    let cells = c.note_section-count.new.cells in
+    let noted : length (take count cells) ≡ count = length-take-le count cells (omega (arith, c.if-count-gt-STATEMENT_LIMIT.false, c.note_section-count.auto.cells, c.requires.6)) in (
+      c.requires.0,
+      c.requires.4,
+      cells_ready _ _ c.next_line-start.ensures c.note_section-count.ensures c.if-count-gt-STATEMENT_LIMIT.false c.requires.4 c.requires.5,
+      marks_noted _ (sym noted) c.note_marks.ensures,
+      omega (arith, noted, c.if-count-gt-STATEMENT_LIMIT.false),
+      c.requires.8,
+      key-short (statement_at _ _ 0) c.requires.3 (and_both _ _ c.requires.5).0,
+    )
 
 pub returns : goal.returns
 returns c = section-made _ _ c.next_line-start.ensures c.used_twice-twice.ensures c.if-twice-ne0.false c.note_section-count.ensures c.if-count-gt-STATEMENT_LIMIT.false c.check_section.ensures

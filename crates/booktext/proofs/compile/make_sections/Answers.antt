@@ -1,5 +1,4 @@
--- `booktext::compile::make_sections` meets its contract. The invariant of its loop: what is told of all sections is what is told of those among the statements that
--- are left, and whoever puts these has put all. Assumes nothing.
+-- `booktext::compile::make_sections` meets its contract, by the invariant that stands beside this. Assumes nothing.
 use mathlib.Core.Path.{refl, ◌∙◌}
 use Rattle.booktext.specs.Standing.{left}
 use Rattle.booktext.proofs.Stating.{onward_fewer}

@@ -1,4 +1,4 @@
--- `booktext::fault::all_codes` meets its contract. The invariant of its loop: all words are codes if all from i on are. Assumes nothing.
+-- `booktext::fault::all_codes` meets its contract, by the invariant that stands beside this. Assumes nothing.
 use mathlib.Core.Bool.{not}
 use mathlib.Core.Path.{refl, ap, ◌∙◌}
 use Rattle.grade.specs.Encoding.{text_fits}

@@ -1,4 +1,4 @@
--- `booktext::fault::first_fault` meets its contract. The invariant of its loop: the first fault is the first of the statements from the one found on. Assumes nothing.
+-- `booktext::fault::first_fault` meets its contract, by the invariant that stands beside this. Assumes nothing.
 use mathlib.Core.Path.{sym, ◌∙◌}
 use Rattle.booktext.specs.Standing.{left}
 use Rattle.booktext.proofs.Stating.{onward_fewer}

@@ -1,4 +1,4 @@
--- `booktext::fault::wrong_at` meets its contract. The invariant of its loop: the first byte that is not allowed is the first from i on. Assumes nothing.
+-- `booktext::fault::wrong_at` meets its contract, by the invariant that stands beside this. Assumes nothing.
 use mathlib.Core.Path.{ap}
 use mathlib.Core.Bool.{not}
 use mathlib.Core.Path.{sym, ◌∙◌}

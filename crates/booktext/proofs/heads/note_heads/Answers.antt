@@ -1,5 +1,4 @@
--- `booktext::heads::note_heads` meets its contract. The invariant of its loop: whoever looks among the noted ones and then from `at` on has looked everywhere.
--- Assumes nothing.
+-- `booktext::heads::note_heads` meets its contract, by the invariant that stands beside this. Assumes nothing.
 use Rattle.booktext.specs.Standing.{left}
 use Rattle.booktext.proofs.Stating.{onward_fewer}
 use Rattle.booktext.proofs.Heading.{heading-start, heading_on}

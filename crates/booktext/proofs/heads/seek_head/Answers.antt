@@ -1,4 +1,4 @@
--- `booktext::heads::seek_head` meets its contract. The invariant of its loop: none of the noted ones passed has the verb and the name. Assumes nothing.
+-- `booktext::heads::seek_head` meets its contract, by the invariant that stands beside this. Assumes nothing.
 use Rattle.booktext.proofs.Heading.{head-here, head_on, head-over}
 use Rattle.booktext.proofs.heads.seek_head.Goals as goal
 

@@ -1,4 +1,4 @@
--- `booktext::line::count_words` meets its contract. The invariant of its loop: those counted and those from i on are all. Assumes nothing.
+-- `booktext::line::count_words` meets its contract, by the invariant that stands beside this. Assumes nothing.
 use native.Mathlib.Omega.{arith}
 use Rattle.booktext.proofs.Words.{count_more, count-over, words-few}
 use Rattle.booktext.proofs.line.count_words.Goals as goal

@@ -1,5 +1,4 @@
--- `booktext::line::line_of` meets its contract. The invariant of its loop: the line of i and the LFs from there on make the line asked for; no more LFs are
--- counted than bytes passed. Assumes nothing.
+-- `booktext::line::line_of` meets its contract, by the invariant that stands beside this. Assumes nothing.
 use native.Mathlib.Omega.{arith}
 use Rattle.hl7.proofs.Comparing.{occurs-none}
 use Rattle.booktext.specs.Lines.{line_feed}

@@ -1,4 +1,4 @@
--- `booktext::line::past_blanks` meets its contract. The invariant of its loop: the run that begins at `from` ends where one that began at i would. Assumes nothing.
+-- `booktext::line::past_blanks` meets its contract, by the invariant that stands beside this. Assumes nothing.
 use mathlib.Core.Path.{refl, sym, ◌∙◌}
 use Rattle.booktext.specs.Lines.{blank}
 use Rattle.booktext.proofs.Words.{run_stop, run_more, run_end}

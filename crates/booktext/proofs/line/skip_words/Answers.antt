@@ -1,4 +1,4 @@
--- `booktext::line::skip_words` meets its contract. The invariant of its loop: the words after so many from `at` on are those after `left` from i on. Assumes nothing.
+-- `booktext::line::skip_words` meets its contract, by the invariant that stands beside this. Assumes nothing.
 use mathlib.Core.Path.{refl, sym, ◌∙◌}
 use Rattle.booktext.specs.Standing.{words_from}
 use Rattle.booktext.proofs.Words.{skip_more, skip_over}

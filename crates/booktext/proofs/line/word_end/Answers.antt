@@ -1,4 +1,4 @@
--- `booktext::line::word_end` meets its contract. The invariant of its loop: the run that begins at `from` ends where one that began at i would. Assumes nothing.
+-- `booktext::line::word_end` meets its contract, by the invariant that stands beside this. Assumes nothing.
 use mathlib.Core.Path.{refl, sym, ◌∙◌}
 use Rattle.booktext.specs.Standing.{dark}
 use Rattle.booktext.proofs.Words.{run_stop, run_more, run_end}

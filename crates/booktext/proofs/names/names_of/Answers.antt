@@ -1,4 +1,4 @@
--- `booktext::names::names_of` meets its contract. The invariant of its loop: whoever notes the names in the cells left has noted all. Assumes nothing.
+-- `booktext::names::names_of` meets its contract, by the invariant that stands beside this. Assumes nothing.
 use Rattle.booktext.proofs.Naming.{leads_more, leads_over, named_start, named_step, named-over}
 use Rattle.booktext.proofs.names.names_of.Goals as goal
 

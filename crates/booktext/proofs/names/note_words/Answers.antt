@@ -1,4 +1,4 @@
--- `booktext::names::note_words` meets its contract. The invariant of its loop: whoever notes the words left has noted all. Assumes nothing.
+-- `booktext::names::note_words` meets its contract, by the invariant that stands beside this. Assumes nothing.
 use mathlib.Core.Path.{ap}
 use mathlib.Core.List.{[], ◌∷◌}
 use native.Mathlib.Omega.{arith}

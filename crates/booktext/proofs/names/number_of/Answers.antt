@@ -1,4 +1,4 @@
--- `booktext::names::number_of` meets its contract. The invariant of its loop: the name is none of those passed. Assumes nothing.
+-- `booktext::names::number_of` meets its contract, by the invariant that stands beside this. Assumes nothing.
 use mathlib.Core.Path.{sym, ◌∙◌}
 use native.Mathlib.Omega.{arith}
 use Rattle.booktext.proofs.Naming.{number-start, number-here, number-later, number-over}

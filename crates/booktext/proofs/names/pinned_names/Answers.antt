@@ -1,4 +1,4 @@
--- `booktext::names::pinned_names` meets its contract. The invariant of its loop: whoever notes the names in the cells left has noted all. Assumes nothing.
+-- `booktext::names::pinned_names` meets its contract, by the invariant that stands beside this. Assumes nothing.
 use Rattle.booktext.proofs.Naming.{leads_more, leads_over, pinned-start, pinned_step, pinned-over}
 use Rattle.booktext.proofs.names.pinned_names.Goals as goal
 

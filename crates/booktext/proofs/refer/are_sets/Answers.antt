@@ -1,4 +1,4 @@
--- `booktext::refer::are_sets` meets its contract. The invariant of its loop: the words passed are names of sets. Assumes nothing.
+-- `booktext::refer::are_sets` meets its contract, by the invariant that stands beside this. Assumes nothing.
 use mathlib.Core.Bool.{not}
 use mathlib.Core.Path.{refl, ap, ◌∙◌}
 use Rattle.booktext.specs.Lines.{statements}

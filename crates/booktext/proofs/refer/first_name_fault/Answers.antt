@@ -1,5 +1,4 @@
--- `booktext::refer::first_name_fault` meets its contract. The invariant of its loop: what is told of all is what is told of the statements left, with as many
--- sections before them as were counted. Assumes nothing.
+-- `booktext::refer::first_name_fault` meets its contract, by the invariant that stands beside this. Assumes nothing.
 use native.Mathlib.Omega.{arith}
 use Rattle.booktext.specs.Standing.{left}
 use Rattle.booktext.proofs.Stating.{onward_fewer}

@@ -1,4 +1,4 @@
--- `booktext::rules::count_rules` meets its contract. The invariant of its loop: the rules counted, and those of the cells left, are all. Assumes nothing.
+-- `booktext::rules::count_rules` meets its contract, by the invariant that stands beside this. Assumes nothing.
 use native.Mathlib.Omega.{arith}
 use Rattle.booktext.proofs.Ruling.{counts-none, counts_more, counts-over}
 use Rattle.booktext.proofs.rules.count_rules.Goals as goal

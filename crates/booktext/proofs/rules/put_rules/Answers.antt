@@ -1,4 +1,4 @@
--- `booktext::rules::put_rules` meets its contract. The invariant of its loop: whoever writes the rules of the cells left has written all. Assumes nothing.
+-- `booktext::rules::put_rules` meets its contract, by the invariant that stands beside this. Assumes nothing.
 use Rattle.ack.proofs.Writing.{wrote-length}
 use Rattle.booktext.proofs.Completing.{completes_more, completes_over}
 use Rattle.booktext.proofs.Ruling.{spelt_more, spelt-over, ready_more}

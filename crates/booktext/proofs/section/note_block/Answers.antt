@@ -1,4 +1,4 @@
--- `booktext::section::note_block` meets its contract. The invariant of its loop: with the statements that are left noted too, all are. Assumes nothing.
+-- `booktext::section::note_block` meets its contract, by the invariant that stands beside this. Assumes nothing.
 use mathlib.Core.Path.{ap, ◌∙◌}
 use mathlib.Core.List.{map}
 use Rattle.booktext.specs.Meaning.{give}

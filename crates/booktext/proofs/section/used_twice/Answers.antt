@@ -1,4 +1,4 @@
--- `booktext::section::used_twice` meets its contract. The invariant of its loop: the statements passed use no common again. Assumes nothing.
+-- `booktext::section::used_twice` meets its contract, by the invariant that stands beside this. Assumes nothing.
 use mathlib.Core.Path.{ap}
 use Rattle.booktext.specs.Lines.{line_of}
 use Rattle.booktext.specs.Refusals.{used_twice}

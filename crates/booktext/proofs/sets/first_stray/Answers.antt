@@ -1,4 +1,4 @@
--- `booktext::sets::first_stray` meets its contract. The invariant of its loop: the first one of all is the first one of those that are left. Assumes nothing.
+-- `booktext::sets::first_stray` meets its contract, by the invariant that stands beside this. Assumes nothing.
 use mathlib.Core.Path.{refl}
 use native.Mathlib.Omega.{arith}
 use Rattle.booktext.specs.Lines.{line_of}

@@ -1,4 +1,4 @@
--- `booktext::sets::is_lessened` meets its contract. The invariant of its loop: one of all takes the code just where one of those that are left does. Assumes nothing.
+-- `booktext::sets::is_lessened` meets its contract, by the invariant that stands beside this. Assumes nothing.
 use mathlib.Core.Path.{refl}
 use native.Mathlib.Omega.{arith}
 use Rattle.booktext.proofs.Marking.{marks_at, marks_length}

@@ -1,4 +1,4 @@
--- `booktext::sets::put_added` meets its contract. The invariant of its loop: whoever writes those that the statements left add has written all. Assumes nothing.
+-- `booktext::sets::put_added` meets its contract, by the invariant that stands beside this. Assumes nothing.
 use Rattle.booktext.proofs.Fitting.{added-short}
 use Rattle.booktext.proofs.Spelling.{spells_over, spelt-length, added_more, added-over}
 use Rattle.booktext.proofs.sets.put_added.Goals as goal

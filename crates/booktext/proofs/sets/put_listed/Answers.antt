@@ -1,4 +1,4 @@
--- `booktext::sets::put_listed` meets its contract. The invariant of its loop: whoever writes those of the lines still to come has written all. Assumes nothing.
+-- `booktext::sets::put_listed` meets its contract, by the invariant that stands beside this. Assumes nothing.
 use mathlib.Core.Path.{sym, ap, ◌∙◌}
 use mathlib.Core.List.{map}
 use Rattle.grade.specs.Encoding.{each}

@@ -1,5 +1,4 @@
--- `booktext::sets::put_sets` meets its contract. The invariant of its loop: the first bad set of all is the first bad one of those that are left, and whoever puts
--- these has put all. Assumes nothing.
+-- `booktext::sets::put_sets` meets its contract, by the invariant that stands beside this. Assumes nothing.
 use mathlib.Core.List.{map}
 use Rattle.booktext.specs.Standing.{names_in, noted}
 use Rattle.booktext.proofs.Setting.{sets-start, sets-refused, sets_again, sets_over, names_from, names_more, names-over}

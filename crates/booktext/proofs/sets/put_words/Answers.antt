@@ -1,4 +1,4 @@
--- `booktext::sets::put_words` meets its contract. The invariant of its loop: whoever writes those of the words left has written all. Assumes nothing.
+-- `booktext::sets::put_words` meets its contract, by the invariant that stands beside this. Assumes nothing.
 use mathlib.Core.List.{map}
 use Rattle.booktext.specs.Standing.{noted}
 use Rattle.booktext.proofs.Words.{words_fewer}

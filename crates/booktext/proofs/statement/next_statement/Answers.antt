@@ -1,4 +1,4 @@
--- `booktext::statement::next_statement` meets its contract. The invariant of its loop: the lines passed say nothing. Assumes nothing.
+-- `booktext::statement::next_statement` meets its contract, by the invariant that stands beside this. Assumes nothing.
 use mathlib.Core.Path.{refl}
 use native.Mathlib.Omega.{arith}
 use Rattle.booktext.proofs.Stating.{left_silent, left-found, left_over}

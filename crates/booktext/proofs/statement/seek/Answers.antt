@@ -1,4 +1,4 @@
--- `booktext::statement::seek` meets its contract. The invariant of its loop: none of the statements passed has the verb and the name. Assumes nothing.
+-- `booktext::statement::seek` meets its contract, by the invariant that stands beside this. Assumes nothing.
 use mathlib.Core.Path.{ap}
 use Rattle.booktext.specs.Meaning.{from}
 use Rattle.booktext.specs.Standing.{left}

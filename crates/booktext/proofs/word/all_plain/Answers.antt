@@ -1,4 +1,4 @@
--- `booktext::word::all_plain` meets its contract. The invariant of its loop: all bytes are plain if all passed were and all left are. Assumes nothing.
+-- `booktext::word::all_plain` meets its contract, by the invariant that stands beside this. Assumes nothing.
 use mathlib.Core.Path.{refl, sym, ◌∙◌}
 use Rattle.hl7.proofs.Comparing.{all-gathered, all-over}
 use Rattle.grade.specs.Book.{plain}

@@ -1,4 +1,4 @@
--- `canonical::show::is_in` meets its contract. The invariant of its loop: the number was passed, or is among those left. Assumes nothing.
+-- `canonical::show::is_in` meets its contract, by the invariant that stands beside this. Assumes nothing.
 use mathlib.Core.Path.{refl, sym, ◌∙◌}
 use Rattle.canonical.proofs.PutRules.{in_more, in_over}
 use Rattle.canonical.proofs.show.is_in.Goals as goal

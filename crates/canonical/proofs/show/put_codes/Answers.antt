@@ -1,4 +1,4 @@
--- `canonical::show::put_codes` meets its contract. The loop's invariant: whoever writes the lines of the codes left has written all. Assumes nothing.
+-- `canonical::show::put_codes` meets its contract, by the invariant that stands beside this. Assumes nothing.
 use Rattle.grade.proofs.Parts.{code_fits}
 use Rattle.ack.proofs.Writing.{wrote-length}
 use Rattle.booktext.proofs.Completing.{completes_more, completes_over}

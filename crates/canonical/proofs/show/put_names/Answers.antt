@@ -1,4 +1,4 @@
--- `canonical::show::put_names` meets its contract. The loop's invariant: whoever writes the names left has written all. Assumes nothing.
+-- `canonical::show::put_names` meets its contract, by the invariant that stands beside this. Assumes nothing.
 use Rattle.ack.proofs.Writing.{wrote-length, wrote_as}
 use Rattle.booktext.proofs.Completing.{completes_more, completes_over}
 use Rattle.canonical.proofs.PutSets.{names-all, names_more, names-over}

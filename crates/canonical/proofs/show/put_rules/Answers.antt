@@ -1,4 +1,4 @@
--- `canonical::show::put_rules` meets its contract. The loop's invariant: whoever writes the rules left, by what is noted of those before, has written all. Assumes nothing.
+-- `canonical::show::put_rules` meets its contract, by the invariant that stands beside this. Assumes nothing.
 use mathlib.Core.Path.{refl, ◌∙◌}
 use native.Mathlib.Omega.{arith}
 use Rattle.grade.specs.Standing.{rules_in}

@@ -1,4 +1,4 @@
--- `canonical::show::put_sections` meets its contract. The loop's invariant: whoever writes the sections left has written all. Assumes nothing.
+-- `canonical::show::put_sections` meets its contract, by the invariant that stands beside this. Assumes nothing.
 use mathlib.Core.Path.{refl, ◌∙◌}
 use native.Mathlib.Omega.{arith}
 use Rattle.hl7.proofs.Comparing.{all-at}

@@ -1,4 +1,4 @@
--- `canonical::show::put_sets` meets its contract. The loop's invariant: whoever writes the sets left has written all. Assumes nothing.
+-- `canonical::show::put_sets` meets its contract, by the invariant that stands beside this. Assumes nothing.
 use native.Mathlib.Omega.{arith}
 use Rattle.grade.specs.Standing.{sets_in}
 use Rattle.grade.proofs.Holding.{placed_at}

@@ -1,4 +1,4 @@
--- `difference::counterpart::count_of` meets its contract. The invariant of its loop: all are those counted and those among the rest. Assumes nothing.
+-- `difference::counterpart::count_of` meets its contract, by the invariant that stands beside this. Assumes nothing.
 use native.Mathlib.Omega.{arith}
 use Rattle.difference.proofs.Counting.{count_more, count-over}
 use Rattle.difference.proofs.counterpart.count_of.Goals as goal

@@ -1,4 +1,4 @@
--- `difference::counterpart::number_of` meets its contract. The invariant of its loop: the number among all is that among those left. Assumes nothing.
+-- `difference::counterpart::number_of` meets its contract, by the invariant that stands beside this. Assumes nothing.
 use mathlib.Core.Path.{refl, sym, ◌∙◌}
 use native.Mathlib.Omega.{arith}
 use Rattle.difference.proofs.Counting.{number_stop, number_more, number-over}

@@ -1,4 +1,4 @@
--- `difference::counterpart::spots_of` meets its contract. The invariant of its loop: those noted so far are the first ones. Assumes nothing.
+-- `difference::counterpart::spots_of` meets its contract, by the invariant that stands beside this. Assumes nothing.
 use mathlib.Core.Path.{refl, ◌∙◌}
 use native.Mathlib.Omega.{arith}
 use lib.ListN.{length-set}

@@ -1,4 +1,4 @@
--- `difference::difference::find_key` meets its contract. The loop's invariant: the place among all is so many after that among those left. Assumes nothing.
+-- `difference::difference::find_key` meets its contract, by the invariant that stands beside this. Assumes nothing.
 use mathlib.Core.Path.{sym, ap, ◌∙◌}
 use native.Mathlib.Omega.{arith}
 use lib.ListN.{get_or}

@@ -1,4 +1,4 @@
--- `difference::difference::put_new_sections` meets its contract. The loop's invariant: whoever writes those of the sections left that are new has written all. Assumes nothing.
+-- `difference::difference::put_new_sections` meets its contract, by the invariant that stands beside this. Assumes nothing.
 use mathlib.Core.List.{map}
 use Rattle.hl7.proofs.Comparing.{all-at}
 use Rattle.grade.specs.Standing.{stands_at, contents_at}

@@ -1,4 +1,4 @@
--- `difference::difference::put_old_sections` meets its contract. The loop's invariant: whoever writes what became of the sections left has written all. Assumes nothing.
+-- `difference::difference::put_old_sections` meets its contract, by the invariant that stands beside this. Assumes nothing.
 use mathlib.Core.List.{map}
 use Rattle.hl7.proofs.Comparing.{all-at}
 use Rattle.grade.specs.Standing.{stands_at, contents_at}

@@ -1,4 +1,4 @@
--- `difference::line::put_gone` meets its contract. The loop's invariant: whoever writes what is gone of the codes left has written all. Assumes nothing.
+-- `difference::line::put_gone` meets its contract, by the invariant that stands beside this. Assumes nothing.
 use Rattle.grade.proofs.Parts.{code_fits}
 use Rattle.ack.proofs.Writing.{wrote-length}
 use Rattle.booktext.proofs.Completing.{completes_more, completes_over}

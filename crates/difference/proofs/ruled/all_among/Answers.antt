@@ -1,4 +1,4 @@
--- `difference::ruled::all_among` meets its contract. The loop's invariant: so far each code was one, and all are if those left are. Assumes nothing.
+-- `difference::ruled::all_among` meets its contract, by the invariant that stands beside this. Assumes nothing.
 use mathlib.Core.Path.{refl, sym, ap, ◌∙◌}
 use mathlib.Core.Bool.{Bool, ◌&&◌}
 use Prim.Native.Nat.{◌-◌}

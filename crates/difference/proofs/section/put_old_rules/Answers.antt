@@ -1,4 +1,4 @@
--- `difference::section::put_old_rules` meets its contract. The loop's invariant: whoever writes the lines of the rules left has written all. Assumes nothing.
+-- `difference::section::put_old_rules` meets its contract, by the invariant that stands beside this. Assumes nothing.
 use Rattle.ack.proofs.Writing.{wrote_as, wrote-length}
 use Rattle.booktext.proofs.Completing.{completes_more, completes_over}
 use Rattle.difference.specs.Difference.{old_lines}

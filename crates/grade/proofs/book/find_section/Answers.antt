@@ -1,4 +1,4 @@
--- `grade::book::find_section` meets its contract: the section with the key is among those from i on, as it is among all. Assumes nothing.
+-- `grade::book::find_section` meets its contract, by the invariant that stands beside this. Assumes nothing.
 use Prim.Native.Nat.{ℕ, ◌+◌, ◌<◌, ◌≤◌}
 use mathlib.Core.Path.{◌≡◌, sym, ◌∙◌, ap}
 use mathlib.Core.Bool.{true, false, not}
@@ -12,12 +12,8 @@ use Rattle.hl7.specs.Refusals.{row, first_row}
 use Rattle.grade.specs.Standing.{text_at, stands_at, site_at, site_of, OpensBook}
 use Rattle.hl7.proofs.Comparing.{rest_at, among_done, among_stop, among_more, all-at}
 use Rattle.grade.proofs.Parts.{stands-key}
-use Rattle.grade.proofs.Opening.{opens-refused, opens_at}
+use Rattle.grade.proofs.Opening.{Remains, opens-refused, opens_at}
 use Rattle.grade.proofs.book.find_section.Goals as goal
-
--- what the loop keeps, over plain variables
-abbrev Remains : List ℕ → List ℕ → List ℕ → ℕ → Type 0
-Remains b key starts i = (among key (map (text_at b) (drop i starts)) ≡ among key (map (text_at b) starts)) × (site_of b key (drop i starts) ≡ site_of b key starts)
 
 -- over plain variables: the section at number i is the one, or is passed, or there is none left
 module _ (b key starts : List ℕ) (i : ℕ) (w : Remains b key starts i) where

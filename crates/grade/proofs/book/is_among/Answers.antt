@@ -1,4 +1,4 @@
--- `grade::book::is_among` meets its contract: the key is among the texts from i on as it is among all from `from` on. Assumes nothing.
+-- `grade::book::is_among` meets its contract, by the invariant that stands beside this. Assumes nothing.
 use mathlib.Core.Path.{sym, ◌∙◌}
 use native.Mathlib.Omega.{arith}
 use Rattle.grade.specs.Standing.{text_at}

@@ -1,4 +1,4 @@
--- `grade::book::keys_distinct` meets its contract: the texts from i on are distinct as all of them are. Assumes nothing.
+-- `grade::book::keys_distinct` meets its contract, by the invariant that stands beside this. Assumes nothing.
 use Prim.Native.Nat.{ℕ, ◌+◌, ◌<◌, ◌≤◌}
 use mathlib.Core.Path.{◌≡◌, sym, ◌∙◌}
 use mathlib.Core.Bool.{true, false}

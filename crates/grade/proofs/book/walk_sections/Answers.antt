@@ -1,4 +1,4 @@
--- `grade::book::walk_sections` meets its contract: the starts noted so far, put before those of the sections that are left, are all the starts. Assumes nothing.
+-- `grade::book::walk_sections` meets its contract, by the invariant that stands beside this. Assumes nothing.
 use borrow.Author.Rules.{rules}
 use mathlib.Core.Path.{refl, sym, ◌∙◌}
 use native.Mathlib.Nat.{sub-zero}

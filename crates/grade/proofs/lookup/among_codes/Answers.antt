@@ -1,4 +1,4 @@
--- `grade::lookup::among_codes` meets its contract: the value is among the codes that are left as it is among all. Assumes nothing.
+-- `grade::lookup::among_codes` meets its contract, by the invariant that stands beside this. Assumes nothing.
 use Prim.Native.Nat.{ℕ, ◌-◌, ◌<◌, ◌≤◌}
 use mathlib.Core.Path.{◌≡◌, refl, sym, ap, ◌∙◌}
 use mathlib.Core.Bool.{true, false}

@@ -1,4 +1,4 @@
--- `grade::lookup::codes_after` meets its contract: the codes that are left end where all do. Assumes nothing.
+-- `grade::lookup::codes_after` meets its contract, by the invariant that stands beside this. Assumes nothing.
 use mathlib.Core.Path.{refl, ◌∙◌}
 use native.Mathlib.Omega.{arith}
 use Rattle.grade.specs.Limits.{code_limit}

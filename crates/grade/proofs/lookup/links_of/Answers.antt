@@ -1,4 +1,4 @@
--- `grade::lookup::links_of` meets its contract: the rules from i on are linked. Assumes nothing.
+-- `grade::lookup::links_of` meets its contract, by the invariant that stands beside this. Assumes nothing.
 use Prim.Native.Nat.{◌+◌, ◌-◌}
 use mathlib.Core.Path.{refl, sym, ◌∙◌}
 use native.Mathlib.Omega.{arith}

@@ -1,5 +1,4 @@
--- `grade::lookup::note_sets` meets its contract: the places noted so far, put before those of the sets that are left, are all the places.
--- Assumes nothing.
+-- `grade::lookup::note_sets` meets its contract, by the invariant that stands beside this. Assumes nothing.
 use Prim.Native.Nat.{ℕ, zero, suc, ◌+◌, ◌-◌, ◌<◌, ◌≤◌}
 use mathlib.Core.Path.{◌≡◌, refl, sym, ◌∙◌, ap}
 use mathlib.Core.Bool.{true}

@@ -1,4 +1,4 @@
--- `grade::sheet::list_by` meets its contract: those on the lines and those still to come are all. Assumes nothing.
+-- `grade::sheet::list_by` meets its contract, by the invariant that stands beside this. Assumes nothing.
 use Prim.Native.Nat.{ℕ, ◌+◌, ◌≤◌, ◌<◌}
 use mathlib.Core.Path.{◌≡◌, refl, sym, ap, ◌∙◌}
 use mathlib.Core.Bool.{Bool, true, false, not, ◌&&◌, ◌||◌, true≢false}

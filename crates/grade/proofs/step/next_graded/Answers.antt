@@ -1,4 +1,4 @@
--- `grade::step::next_graded` meets its contract: the present segment first, then the segments after it. Assumes nothing.
+-- `grade::step::next_graded` meets its contract, by the invariant that stands beside this. Assumes nothing.
 use mathlib.Core.Path.{refl, ◌∙◌}
 use native.Mathlib.Omega.{arith}
 use Rattle.grade.specs.Order.{table_says}

@@ -1,4 +1,4 @@
--- `grade::step::open_segment` meets its contract: the segments passed over do not count. Assumes nothing.
+-- `grade::step::open_segment` meets its contract, by the invariant that stands beside this. Assumes nothing.
 use Prim.Native.Nat.{◌+◌}
 use mathlib.Core.Path.{refl, ◌∙◌}
 use native.Mathlib.Omega.{arith}

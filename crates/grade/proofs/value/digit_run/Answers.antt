@@ -1,4 +1,4 @@
--- `grade::value::digit_run` meets its contract: the invariant: the bytes passed are digits, so the run is what was passed and the run of what is left. Assumes nothing.
+-- `grade::value::digit_run` meets its contract, by the invariant that stands beside this. Assumes nothing.
 use mathlib.Core.Bool.{true, false}
 use mathlib.Core.Path.{◌≡◌}
 use native.Mathlib.Omega.{arith}

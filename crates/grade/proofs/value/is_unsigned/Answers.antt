@@ -1,4 +1,4 @@
--- `grade::value::is_unsigned` meets its contract: the invariant: all bytes passed are digits and points, and `points` counts the points. Assumes nothing.
+-- `grade::value::is_unsigned` meets its contract, by the invariant that stands beside this. Assumes nothing.
 use mathlib.Core.Bool.{true, false, ◌||◌}
 use mathlib.Core.Path.{◌≡◌}
 use native.Mathlib.Omega.{arith}

@@ -1,5 +1,4 @@
--- `grade::walk::all_plain` meets its contract. The invariant of its loop: all bytes are plain if those passed are and those left are.
--- Assumes nothing.
+-- `grade::walk::all_plain` meets its contract, by the invariant that stands beside this. Assumes nothing.
 use mathlib.Core.Path.{refl, sym, ap, ◌∙◌}
 use mathlib.Core.Bool.{Bool, ◌&&◌}
 use Prim.Native.Nat.{◌+◌}

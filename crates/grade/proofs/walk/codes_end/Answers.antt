@@ -1,4 +1,4 @@
--- `grade::walk::codes_end` meets its contract: the codes that are left end where all of them do. Assumes nothing.
+-- `grade::walk::codes_end` meets its contract, by the invariant that stands beside this. Assumes nothing.
 use mathlib.Core.Path.{sym, ◌∙◌}
 use native.Mathlib.Omega.{arith}
 use Rattle.grade.specs.Book.{text}

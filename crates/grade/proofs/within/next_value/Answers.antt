@@ -1,5 +1,4 @@
--- `grade::within::next_value` meets its contract: the repetitions passed are fine, so the numbers that are to come from here on are those that
--- were to come from `at` on. Assumes nothing.
+-- `grade::within::next_value` meets its contract, by the invariant that stands beside this. Assumes nothing.
 use Prim.Native.Nat.{ℕ, ◌≤◌}
 use mathlib.Core.Path.{◌≡◌, refl, sym, ◌∙◌}
 use mathlib.Core.List.{List}

@@ -1,4 +1,4 @@
--- `grade::within::next_within` meets its contract: the rules between two that are linked give nothing. Assumes nothing.
+-- `grade::within::next_within` meets its contract, by the invariant that stands beside this. Assumes nothing.
 use mathlib.Core.Path.{refl, ◌∙◌}
 use native.Mathlib.Omega.{arith}
 use Rattle.grade.proofs.Holding.{rules-length}

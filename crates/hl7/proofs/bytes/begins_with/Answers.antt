@@ -1,5 +1,4 @@
--- `hl7::bytes::begins_with` meets its contract. The invariant of its loop: s begins with p if what is left of s begins with what is left of p.
--- Assumes nothing.
+-- `hl7::bytes::begins_with` meets its contract, by the invariant that stands beside this. Assumes nothing.
 use mathlib.Core.Path.{refl, sym, ◌∙◌}
 use Rattle.hl7.proofs.Comparing.{begins-none, begins-short, begins_stop, begins_more}
 use Rattle.hl7.proofs.bytes.begins_with.Goals as goal

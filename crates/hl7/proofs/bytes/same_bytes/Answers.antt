@@ -1,4 +1,4 @@
--- `hl7::bytes::same_bytes` meets its contract: the invariant: the lists are the same where their rests are. Assumes nothing.
+-- `hl7::bytes::same_bytes` meets its contract, by the invariant that stands beside this. Assumes nothing.
 use mathlib.Core.Path.{refl, sym}
 use native.Mathlib.Omega.{arith}
 use Rattle.hl7.proofs.Comparing.{same_lengths, same_more, same_stop, same_none}

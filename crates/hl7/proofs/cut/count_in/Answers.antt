@@ -1,5 +1,4 @@
--- `hl7::cut::count_in` meets its contract. The invariant of its loop: those counted and those left are all; no more are counted than passed.
--- Assumes nothing.
+-- `hl7::cut::count_in` meets its contract, by the invariant that stands beside this. Assumes nothing.
 use native.Mathlib.Omega.{arith}
 use Rattle.hl7.proofs.Comparing.{occurs_more, occurs-none}
 use Rattle.hl7.proofs.cut.count_in.Goals as goal

@@ -1,5 +1,4 @@
--- `hl7::cut::none_is` meets its contract. The invariant of its loop: no byte is d if none passed was and none left is.
--- Assumes nothing.
+-- `hl7::cut::none_is` meets its contract, by the invariant that stands beside this. Assumes nothing.
 use mathlib.Core.Path.{refl, sym, ◌∙◌}
 use native.Mathlib.Omega.{arith}
 use Rattle.hl7.specs.Bytes.{differs}

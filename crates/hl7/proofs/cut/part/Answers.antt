@@ -1,5 +1,4 @@
--- `hl7::cut::part` meets its contract. The invariant of its loop: the piece asked for is piece `left` of what begins at `start`.
--- Assumes nothing.
+-- `hl7::cut::part` meets its contract, by the invariant that stands beside this. Assumes nothing.
 use mathlib.Core.Path.{◌∙◌}
 use native.Mathlib.Omega.{arith}
 use Rattle.hl7.proofs.Cutting.{piece_here, piece_next, piece_none, end_within, spans_as, spans_missing, spans_between}

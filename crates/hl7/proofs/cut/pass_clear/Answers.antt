@@ -1,5 +1,4 @@
--- `hl7::cut::pass_clear` meets its contract. The invariant of its loop: the part that begins at `from` ends where one that began at i would.
--- Assumes nothing.
+-- `hl7::cut::pass_clear` meets its contract, by the invariant that stands beside this. Assumes nothing.
 use mathlib.Core.Path.{refl, sym, ◌∙◌}
 use native.Mathlib.Omega.{arith}
 use Rattle.hl7.proofs.Cutting.{end_clear}

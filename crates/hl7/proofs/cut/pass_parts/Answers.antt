@@ -1,5 +1,4 @@
--- `hl7::cut::pass_parts` meets its contract. The invariant of its loop: the piece asked for is piece `left` of what begins at `at`.
--- Assumes nothing.
+-- `hl7::cut::pass_parts` meets its contract, by the invariant that stands beside this. Assumes nothing.
 use mathlib.Core.Path.{◌∙◌}
 use native.Mathlib.Omega.{arith}
 use lib.ListN.{length-take, length-drop}

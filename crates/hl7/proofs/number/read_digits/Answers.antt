@@ -1,4 +1,4 @@
--- `hl7::number::read_digits` meets its contract. The invariant of its loop: what was read so far, and its value, counted. Assumes nothing.
+-- `hl7::number::read_digits` meets its contract, by the invariant that stands beside this. Assumes nothing.
 use Rattle.hl7.proofs.Numbering.{read_none, read_more, read_all}
 use Rattle.hl7.proofs.number.read_digits.Goals as goal
 

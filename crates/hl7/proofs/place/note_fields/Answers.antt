@@ -1,5 +1,4 @@
--- `hl7::place::note_fields` meets its contract. The invariant of its loop: with `at` stored, the parts before k are noted and the next begins there.
--- Assumes nothing.
+-- `hl7::place::note_fields` meets its contract, by the invariant that stands beside this. Assumes nothing.
 use native.Mathlib.Omega.{arith}
 use lib.ListN.{length-set}
 use Rattle.hl7.proofs.Cutting.{end_within}

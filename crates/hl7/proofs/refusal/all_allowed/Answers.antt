@@ -1,5 +1,4 @@
--- `hl7::refusal::all_allowed` meets its contract. The invariant of its loop: all bytes pass if those passed did and those left do.
--- Assumes nothing.
+-- `hl7::refusal::all_allowed` meets its contract, by the invariant that stands beside this. Assumes nothing.
 use mathlib.Core.Path.{refl, sym, ◌∙◌}
 use native.Mathlib.Omega.{arith}
 use Rattle.hl7.specs.Refusals.{allowed}

@@ -1,5 +1,4 @@
--- `hl7::refusal::first_wrong_byte` meets its contract. The invariant of its loop: the wrong bytes are those from i on.
--- Assumes nothing.
+-- `hl7::refusal::first_wrong_byte` meets its contract, by the invariant that stands beside this. Assumes nothing.
 use mathlib.Core.Path.{refl, sym, ap, ◌∙◌}
 use native.Mathlib.Omega.{arith}
 use Rattle.hl7.specs.Refusals.{first_of}

@@ -1,5 +1,4 @@
--- `hl7::refusal::wrong_segment` meets its contract. The invariant of its loop: the wrong segments are those that start at `at` or later.
--- Assumes nothing.
+-- `hl7::refusal::wrong_segment` meets its contract, by the invariant that stands beside this. Assumes nothing.
 use mathlib.Core.Path.{refl, sym, ap, ◌∙◌}
 use Rattle.hl7.specs.Refusals.{first_of}
 use Rattle.hl7.proofs.Refusing.{segment-right, segment_wrong, segment_open, segments-over}

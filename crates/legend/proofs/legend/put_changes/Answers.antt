@@ -1,4 +1,4 @@
--- `legend::legend::put_changes` meets its contract. The invariant of its loop: whoever writes what the cells left remark has written all. Assumes nothing.
+-- `legend::legend::put_changes` meets its contract, by the invariant that stands beside this. Assumes nothing.
 use native.Mathlib.Omega.{arith}
 use Rattle.ack.proofs.Writing.{wrote-length}
 use Rattle.booktext.proofs.Completing.{completes_more, completes_over}

@@ -1,4 +1,4 @@
--- `legend::legend::put_rules` meets its contract. The invariant of its loop: whoever lists the rules of the cells left has listed all. Assumes nothing.
+-- `legend::legend::put_rules` meets its contract, by the invariant that stands beside this. Assumes nothing.
 use native.Mathlib.Omega.{arith}
 use Rattle.ack.proofs.Writing.{wrote-length}
 use Rattle.booktext.proofs.Marking.{marks_length}

@@ -1,6 +1,7 @@
 -- `legend::legend::put_section` meets its contract. Assumes nothing.
-use mathlib.Core.Path.{sym}
+use mathlib.Core.Path.{◌≡◌, sym}
 use native.Mathlib.Omega.{arith}
+use lib.ListN.{length, take}
 use lib.Seq.{length-take-le}
 use Rattle.ack.proofs.Writing.{wrote-length}
 use Rattle.booktext.proofs.Making.{marks_noted}
@@ -14,7 +15,9 @@ pub slice_bounds-note_marks-end-2 : goal.slice_bounds-note_marks-end-2
 slice_bounds-note_marks-end-2 c = sym (length-take-le _ _ (omega (arith, all_noted c.args.t.now c.args.head c.next_line.ensures c.note_section-count.ensures c.requires.5, c.cells-1.given, c.requires.3)))
 
 pub note_marks-requires : goal.note_marks-requires
-note_marks-requires c = omega (arith, sym (length-take-le c.note_section-count.result c.note_section-count.new.cells (omega (arith, all_noted c.args.t.now c.args.head c.next_line.ensures c.note_section-count.ensures c.requires.5, c.cells-1.given, c.requires.3))), all_noted c.args.t.now c.args.head c.next_line.ensures c.note_section-count.ensures c.requires.5, c.requires.4)
+note_marks-requires c =
+    let few = all_noted c.args.t.now c.args.head c.next_line.ensures c.note_section-count.ensures c.requires.5 in
+    omega (arith, length-take-le c.note_section-count.result c.note_section-count.new.cells (omega (arith, few, c.cells-1.given, c.requires.3)), few, c.requires.4)
 
 pub slice_bounds-put_rules-end : goal.slice_bounds-put_rules-end
 slice_bounds-put_rules-end c = omega (arith, all_noted c.args.t.now c.args.head c.next_line.ensures c.note_section-count.ensures c.requires.5, c.cells-1.given, c.requires.3)
@@ -23,7 +26,12 @@ pub slice_bounds-put_rules-end-3 : goal.slice_bounds-put_rules-end-3
 slice_bounds-put_rules-end-3 c = omega (arith, all_noted c.args.t.now c.args.head c.next_line.ensures c.note_section-count.ensures c.requires.5, c.marks-1.given, c.requires.4)
 
 pub put_rules-requires : goal.put_rules-requires
-put_rules-requires c = (marks_noted _ (sym (length-take-le c.note_section-count.result c.note_section-count.new.cells (omega (arith, all_noted c.args.t.now c.args.head c.next_line.ensures c.note_section-count.ensures c.requires.5, c.cells-1.given, c.requires.3)))) c.note_marks.ensures, omega (arith, sym (length-take-le c.note_section-count.result c.note_section-count.new.cells (omega (arith, all_noted c.args.t.now c.args.head c.next_line.ensures c.note_section-count.ensures c.requires.5, c.cells-1.given, c.requires.3))), all_noted c.args.t.now c.args.head c.next_line.ensures c.note_section-count.ensures c.requires.5))
+put_rules-requires c =
+    let count = c.note_section-count.result in
+    let cells = c.note_section-count.new.cells in
+    let few = all_noted c.args.t.now c.args.head c.next_line.ensures c.note_section-count.ensures c.requires.5 in
+    let noted : length (take count cells) ≡ count = length-take-le count cells (omega (arith, few, c.cells-1.given, c.requires.3)) in
+    (marks_noted _ (sym noted) c.note_marks.ensures, omega (arith, noted, few))
 
 pub shape_of-cells : goal.shape_of-cells
 shape_of-cells c = c.cells-1.given

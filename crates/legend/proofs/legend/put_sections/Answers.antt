@@ -1,4 +1,4 @@
--- `legend::legend::put_sections` meets its contract. The invariant of its loop: whoever lists the sections among the statements left has listed all. Assumes nothing.
+-- `legend::legend::put_sections` meets its contract, by the invariant that stands beside this. Assumes nothing.
 use mathlib.Core.Path.{refl, ◌∙◌}
 use Rattle.ack.proofs.Writing.{wrote-length}
 use Rattle.booktext.specs.Standing.{left}

@@ -1,4 +1,4 @@
--- `legend::legend::put_words` meets its contract. The invariant of its loop: whoever writes the words left has written all. Assumes nothing.
+-- `legend::legend::put_words` meets its contract, by the invariant that stands beside this. Assumes nothing.
 use Rattle.ack.proofs.Writing.{wrote-length}
 use Rattle.booktext.proofs.Completing.{completes_more, completes_over}
 use Rattle.booktext.proofs.Words.{words_fewer}

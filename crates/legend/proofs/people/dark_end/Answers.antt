@@ -1,4 +1,4 @@
--- `legend::people::dark_end` meets its contract. The invariant of its loop: all from the end on are blanks. Assumes nothing.
+-- `legend::people::dark_end` meets its contract, by the invariant that stands beside this. Assumes nothing.
 use mathlib.Core.Path.{ap}
 use mathlib.Core.Bool.{not}
 use mathlib.Core.Path.{refl}

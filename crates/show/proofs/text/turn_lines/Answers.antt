@@ -1,4 +1,4 @@
--- `show::text::turn_lines` meets its contract: what is passed is turned, the rest is as it was. Assumes nothing.
+-- `show::text::turn_lines` meets its contract, by the invariant that stands beside this. Assumes nothing.
 use native.Mathlib.Omega.{arith}
 use Rattle.show.proofs.Showing.{turning_start, turning_more, turning_done}
 use Rattle.show.proofs.text.turn_lines.Goals as goal
