@@ -34,7 +34,7 @@ pub set-in_range : {sets set : ℕ} {kind : Kind} → kind ≡ Code set → kind
 set-in_range {sets} {set} e h = code_limits sets set (sym (ap (kind_fits sets) e) ∙ h)
 
 module _ (b : List ℕ) (sets : List (List (List ℕ))) (at : ℕ) where
-  pub codes_as : {kind k : Kind} → kind ≡ k → CodesAre b sets k at → CodesAre b sets kind at
+  codes_as : {kind k : Kind} → kind ≡ k → CodesAre b sets k at → CodesAre b sets kind at
   codes_as e h = subst⁻¹ (λ (k : Kind). CodesAre b sets k at) e h
 
   pub codes_placed : {set w place : ℕ} {kind : Kind} → kind ≡ Code set → w ≡ set → at ≡ place → SetAt b sets (w - 1) place → CodesAre b sets kind at

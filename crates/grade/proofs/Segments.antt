@@ -3,6 +3,7 @@ use Prim.Native.Nat.{ℕ, zero, suc, ◌+◌, ◌≤◌, ◌<◌}
 use mathlib.Core.Path.{◌≡◌, refl, sym, ap, ap₂, subst, subst⁻¹, ◌∙◌}
 use mathlib.Core.Bool.{Bool, true, false, cond}
 use mathlib.Core.List.{List, [], ◌∷◌, ◌++◌, append_assoc}
+use Rattle.std.proofs.Common.{Option, Some, None}
 use native.Mathlib.Numerals.{add-one}
 use native.Mathlib.Omega.{arith}
 use borrow.Author.Tests.{ne_eqb}
@@ -28,11 +29,8 @@ use Rattle.grade.specs.declared.finding.Finding.{Finding}
 use Rattle.grade.specs.declared.header.Header.{Header}
 use Rattle.grade.specs.declared.within.Here.{Here}
 use Rattle.grade.specs.declared.within.Spot.{Spot}
-use Rattle.grade.specs.declared.within.Within.{Within}
-use Rattle.grade.specs.declared.within.Within.TheVariants.{Found, Nothing}
 use Rattle.grade.specs.declared.step.Cursor.{Cursor}
 use Rattle.grade.specs.declared.step.Entered.{Entered}
-use Rattle.grade.specs.declared.step.Step.{Step}
 use Rattle.grade.proofs.Naming.{is_counted_lem, not-counted, number_bounds, name_bounds}
 use Rattle.grade.proofs.Holding.{rules-length}
 use Rattle.grade.proofs.Linking.{about-next}
@@ -205,22 +203,22 @@ module _ (follows : ℕ → ℕ → Bool) (d : Delims) (m b : List ℕ) (s : Sec
 
   -- ---- the header's findings come first
   pub header-next : {starts counts : List ℕ} {c x : Cursor} {f : Finding} {left : Header} → Stands d m b s starts counts c → take 1 (header_findings c.header) ≡ f ∷ []
-      → header_findings left ≡ drop 1 (header_findings c.header) → x ≡ moved_to c left c.spot → Steps out d m b s starts counts (rest out d m b s counts c) (Step.Found f x)
+      → header_findings left ≡ drop 1 (header_findings c.header) → x ≡ moved_to c left c.spot → Steps out d m b s starts counts (rest out d m b s counts c) (Some (f, x))
   header-next {starts} {counts} {c} {f = f} stands first later is =
       subst⁻¹ (λ (x : Cursor). (rest out d m b s counts c ≡ f ∷ rest out d m b s counts x) × Stands d m b s starts counts x) is
       (ap (λ (l : List Finding). l ++ grade_rest out d m b s counts c) (first-others (header_findings c.header) first later), record { here = stands.here; spot = stands.spot; passed = stands.passed })
 
-  pub header-over : (starts counts before : List ℕ) (c : Cursor) → any_wrong c.header ≡ false → (r : Step) → Steps out d m b s starts counts (grade_rest out d m b s before c) r
+  pub header-over : (starts counts before : List ℕ) (c : Cursor) → any_wrong c.header ≡ false → (r : Option (Finding × Cursor)) → Steps out d m b s starts counts (grade_rest out d m b s before c) r
       → Steps out d m b s starts counts (rest out d m b s before c) r
   header-over starts counts before c fine r =
       subst (λ (l : List Finding). Steps out d m b s starts counts l r) (ap (λ (l : List Finding). l ++ grade_rest out d m b s before c) (sym (none_found c.header fine)))
 
   -- ---- from a cursor on
   module _ (starts counts : List ℕ) (c : Cursor) (stands : Stands d m b s starts counts c) (l : List Finding) (same : l ≡ grade_rest out d m b s counts c) where
-    abbrev of : Within → Type 0
+    abbrev of : Option (Finding × Spot) → Type 0
     of w = NextWithin d m b s starts c.here (segment_rest d m b s c.here c.spot) w
 
-    pub cursor-found : {r : Within} → of r → (f : Finding) (then : Spot) → r ≡ Found f then → {none : Header} → none ≡ none_wrong → {x : Cursor} → x ≡ moved_to c none then → Steps out d m b s starts counts l (Step.Found f x)
+    pub cursor-found : {r : Option (Finding × Spot)} → of r → (f : Finding) (then : Spot) → r ≡ Some (f, then) → {none : Header} → none ≡ none_wrong → {x : Cursor} → x ≡ moved_to c none then → Steps out d m b s starts counts l (Some (f, x))
     unfolding header_findings
     cursor-found h f then e fine is =
         let got = subst of e h in
@@ -229,7 +227,7 @@ module _ (follows : ℕ → ℕ → Bool) (d : Delims) (m b : List ℕ) (s : Sec
           record { here = stands.here; spot = got.1; passed = stands.passed },
         )
 
-    pub cursor-fine : {r : Within} → of r → r ≡ Nothing → l ≡ from c.next c.last counts
+    pub cursor-fine : {r : Option (Finding × Spot)} → of r → r ≡ None → l ≡ from c.next c.last counts
     cursor-fine h e = same ∙ ap (λ (k : List Finding). k ++ from c.next c.last counts) (subst of e h)
 
   -- ---- and from the next segment on
@@ -237,7 +235,7 @@ module _ (follows : ℕ → ℕ → Bool) (d : Delims) (m b : List ℕ) (s : Sec
     abbrev opens : Entered → Type 0
     opens = Opens out d m b s starts counts begin k
 
-    pub then_order : {f : Finding} {c : Cursor} → r ≡ Entered.Order f c → Steps out d m b s starts counts l (Step.Found f c)
+    pub then_order : {f : Finding} {c : Cursor} → r ≡ Entered.Order f c → Steps out d m b s starts counts l (Some (f, c))
     then_order e = let got = subst opens e h in (same ∙ got.0, got.1)
 
     pub then_rules : {c : Cursor} → r ≡ Entered.Rules c → Opens out d m b s starts counts begin l (Entered.Rules c)

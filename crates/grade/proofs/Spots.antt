@@ -3,6 +3,7 @@ use Prim.Native.Nat.{ℕ, ◌+◌, ◌-◌, ◌≤◌, ◌<◌}
 use mathlib.Core.Path.{◌≡◌, refl, sym, ap, subst, subst⁻¹, ◌∙◌}
 use mathlib.Core.Bool.{true}
 use mathlib.Core.List.{List, [], ◌∷◌, ◌++◌, map}
+use Rattle.std.proofs.Common.{Option, Some, None}
 use native.Mathlib.Decide.{dec_lt}
 use native.Mathlib.Numerals.{add-one}
 use native.Mathlib.Omega.{arith}
@@ -27,10 +28,8 @@ use Rattle.grade.specs.declared.finding.Finding.{Finding}
 use Rattle.grade.specs.declared.within.Here.{Here}
 use Rattle.grade.specs.declared.within.Field.{Field}
 use Rattle.grade.specs.declared.within.Spot.{Spot}
-use Rattle.grade.specs.declared.within.Value.{Value}
-use Rattle.grade.specs.declared.within.Value.TheVariants.{Broken, Fine}
+use Rattle.grade.specs.declared.within.Broken.{Broken}
 use Rattle.grade.specs.declared.within.Judged.{Judged}
-use Rattle.grade.specs.declared.within.Within.TheVariants.{Found}
 use Rattle.grade.proofs.Holding.{rules-length, rule_fits_lem, place_limits, kind_limits}
 use Rattle.grade.proofs.Repetitions.{values-over}
 use Rattle.grade.proofs.Judging.{rule-whole, left_as, rules-next, rules_end_lem}
@@ -73,7 +72,7 @@ module _ (d : Delims) (m b : List ℕ) (s : Section) (here : Here) (holds : Hold
     abbrev left : Spot → List Finding
     left at = left_of d (sets_in b s) here.name here.ordinal seg at (get_or (rules_in b s) spot.rule no_rule)
 
-    abbrev told : Value → Type 0
+    abbrev told : Option Broken → Type 0
     told v = NextValue d fld b rule f.codes (broken_from d fld b rule f.codes spot.at spot.passed) v
 
     abbrev make : ℕ → Finding
@@ -88,19 +87,18 @@ module _ (d : Delims) (m b : List ℕ) (s : Section) (here : Here) (holds : Hold
         ∙ left_as d b s here.name here.ordinal seg rule fld (ap (λ (r : Rule). (field_of d seg r.place.field).bytes) is-it ∙ known.bytes) f.codes codes-known at
         ∙ ap (λ (n : ℕ). map (value_finding here.name here.ordinal rule (n + 1)) (broken_from d fld b rule f.codes at.at at.passed)) e
 
-    pub rule_found : {r : Value} → told r → (k next : ℕ) (x : Finding) → r ≡ Broken k next → x ≡ make k → NextOfRule d m b s here spot (Judged.Found x (record { rule = spot.rule; at = next; passed = k; field = f }))
-    rule_found h k next x e made =
+    pub rule_found : {r : Option Broken} → told r → (v : Broken) (x : Finding) → r ≡ Some v → x ≡ make v.repetition → NextOfRule d m b s here spot (Judged.Found x (record { rule = spot.rule; at = v.next; passed = v.repetition; field = f }))
+    rule_found h v x e made =
         let got = subst told e h in
-        let then : Spot = record { rule = spot.rule; at = next; passed = k; field = f } in
+        let then : Spot = record { rule = spot.rule; at = v.next; passed = v.repetition; field = f } in
         (left_is spot refl ∙ ap (map make) got.0 ∙ (λ i. sym made i ∷ sym (left_is then refl) i), refl, got.1, known)
 
-    pub rule_last : {r : Value} → told r → (k next : ℕ) (x : Finding) → r ≡ Broken k next → x ≡ make k → f.end - f.start < next → NextOfRule d m b s here spot (Judged.Last x)
-    rule_last h k next x e made past =
+    pub rule_last : {r : Option Broken} → told r → (v : Broken) (x : Finding) → r ≡ Some v → x ≡ make v.repetition → length fld < v.next → NextOfRule d m b s here spot (Judged.Last x)
+    rule_last h v x e made past =
         let got = subst told e h in
-        let over : length fld < next = omega (arith, known.inside, known.forward, length-take (f.end - f.start) (drop f.start m), length-drop f.start m) in
-        left_is spot refl ∙ ap (map make) got.0 ∙ (λ i. sym made i ∷ map make (values-over d fld b rule f.codes k next over i))
+        left_is spot refl ∙ ap (map make) got.0 ∙ (λ i. sym made i ∷ map make (values-over d fld b rule f.codes v.repetition v.next past i))
 
-    pub rule-fine : {r : Value} → told r → r ≡ Fine → NextOfRule d m b s here spot Judged.Nothing
+    pub rule-fine : {r : Option Broken} → told r → r ≡ None → NextOfRule d m b s here spot Judged.Nothing
     rule-fine h e = left_is spot refl ∙ ap (map make) (subst told e h)
 
 -- ---- the rules from a spot on
@@ -144,7 +142,7 @@ module _ (d : Delims) (m b : List ℕ) (s : Section) (here : Here) where
       within : spot.rule < length (rules_in b s)
       within = omega (arith, rules-length b s holds)
 
-      pub then_found : {l : List Finding} {r : Judged} → l ≡ rest_at spot → NextOfRule d m b s here spot r → (f : Finding) (then : Spot) → r ≡ Judged.Found f then → NextWithin d m b s starts here l (Found f then)
+      pub then_found : {l : List Finding} {r : Judged} → l ≡ rest_at spot → NextOfRule d m b s here spot r → (f : Finding) (then : Spot) → r ≡ Judged.Found f then → NextWithin d m b s starts here l (Some (f, then))
       then_found same h f then e =
           let got = subst (NextOfRule d m b s here spot) e h in
           let in-it : then.rule < length (rules_in b s) = omega (arith, got.1, within) in (
@@ -182,7 +180,7 @@ module _ (d : Delims) (m b : List ℕ) (s : Section) (here : Here) where
             ∙ sym (spot-first k next_about_lem)
             ∙ ap rest_at (sym is)
 
-        pub then_last : {l : List Finding} {r : Judged} → l ≡ rest_at spot → NextOfRule d m b s here spot r → (f : Finding) → r ≡ Judged.Last f → NextWithin d m b s starts here l (Found f next)
+        pub then_last : {l : List Finding} {r : Judged} → l ≡ rest_at spot → NextOfRule d m b s here spot r → (f : Finding) → r ≡ Judged.Last f → NextWithin d m b s starts here l (Some (f, next))
         then_last same h f e = (
           same ∙ left-next spot within
               ∙ ap (λ (l : List Finding). l ++ rules_from d m b s here (spot.rule + 1)) (subst (NextOfRule d m b s here spot) e h)

@@ -3,6 +3,7 @@ use Prim.Native.Nat.{ℕ, ◌+◌, ◌*◌, ◌≤◌, ◌<◌}
 use mathlib.Core.Path.{◌≡◌, refl, sym, ap, subst, subst⁻¹, ◌∙◌}
 use mathlib.Core.Bool.{Bool, true, false, cond}
 use mathlib.Core.List.{List, [], ◌∷◌, ◌++◌, append-nil}
+use Rattle.std.proofs.Common.{Option, Some, None}
 use native.Mathlib.Omega.{arith}
 use lib.ListN.{length, get_or, drop, replicate}
 use Rattle.hl7.specs.Refusals.{message_limit}
@@ -19,8 +20,6 @@ use Rattle.grade.specs.declared.header.Header.{Header}
 use Rattle.grade.specs.declared.walk.Section.{Section}
 use Rattle.grade.specs.declared.finding.Finding.{Finding}
 use Rattle.grade.specs.declared.step.Cursor.{Cursor}
-use Rattle.grade.specs.declared.step.Step.{Step}
-use Rattle.grade.specs.declared.step.Step.TheVariants.{Found, End}
 use Rattle.grade.proofs.Holding.{rules-length}
 use Rattle.grade.proofs.Few.{findings-few}
 use Rattle.grade.proofs.Heading.{none_found, header-few}
@@ -56,34 +55,34 @@ module _ (follows : ℕ → ℕ → Bool) (d : Delims) (m b : List ℕ) (s : Sec
         by false = between-stands follows d m b s holds h 0 other_number starts (replicate name_places 0) (start-counts m)
 
   -- ---- one step, at which l is still to come
-  module _ (starts counts : List ℕ) (l : List Finding) (r : Step) (h : Steps (out_of_order follows) d m b s starts counts l r) where
-    abbrev steps : Step → Type 0
+  module _ (starts counts : List ℕ) (l : List Finding) (r : Option (Finding × Cursor)) (h : Steps (out_of_order follows) d m b s starts counts l r) where
+    abbrev steps : Option (Finding × Cursor) → Type 0
     steps = Steps (out_of_order follows) d m b s starts counts l
 
-    pub step_found : {f : Finding} {c : Cursor} → r ≡ Found f c → (l ≡ f ∷ left counts c) × Stands d m b s starts counts c
+    pub step_found : {f : Finding} {c : Cursor} → r ≡ Some (f, c) → (l ≡ f ∷ left counts c) × Stands d m b s starts counts c
     step_found e = subst steps e h
 
-    pub step_end : r ≡ End → l ≡ []
+    pub step_end : r ≡ None → l ≡ []
     step_end e = subst steps e h
 
     -- a loop over the steps ends
-    pub step_less : {f : Finding} {c : Cursor} → r ≡ Found f c → length (left counts c) < length l
+    pub step_less : {f : Finding} {c : Cursor} → r ≡ Some (f, c) → length (left counts c) < length l
     step_less e = omega (arith, ap length (step_found e).0)
 
   -- what two steps have in common: the finding and what is still to come, or that both are at the end
-  abbrev pub SameStep : (counts counts' : List ℕ) → Step → Step → Type 0
-  SameStep counts counts' (Found f c) (Found f' c') = (f ≡ f') × (left counts c ≡ left counts' c')
-  SameStep counts counts' (Found f c) End = ⊥
-  SameStep counts counts' End (Found f c) = ⊥
-  SameStep counts counts' End End = Unit {0}
+  abbrev pub SameStep : (counts counts' : List ℕ) → Option (Finding × Cursor) → Option (Finding × Cursor) → Type 0
+  SameStep counts counts' (Some (f, c)) (Some (f', c')) = (f ≡ f') × (left counts c ≡ left counts' c')
+  SameStep counts counts' (Some (f, c)) None = ⊥
+  SameStep counts counts' None (Some (f, c)) = ⊥
+  SameStep counts counts' None None = Unit {0}
 
   -- any two steps that the contract of `next` allows, where l is still to come
-  pub step_once : (starts starts' counts counts' : List ℕ) (l : List Finding) (r r' : Step) → Steps (out_of_order follows) d m b s starts counts l r → Steps (out_of_order follows) d m b s starts' counts' l r'
+  pub step_once : (starts starts' counts counts' : List ℕ) (l : List Finding) (r r' : Option (Finding × Cursor)) → Steps (out_of_order follows) d m b s starts counts l r → Steps (out_of_order follows) d m b s starts' counts' l r'
       → SameStep counts counts' r r'
-  step_once starts starts' counts counts' l (Found f c) (Found f' c') h h' = let same = sym h.0 ∙ h'.0 in (ap (λ (k : List Finding). get_or k 0 f) same, ap (drop 1) same)
-  step_once starts starts' counts counts' l (Found f c) End h h' = let z : ◌≡◌ {A = ℕ} 0 1 = cc (sym h.0 ∙ h') in omega arith
-  step_once starts starts' counts counts' l End (Found f c) h h' = let z : ◌≡◌ {A = ℕ} 0 1 = cc (sym h'.0 ∙ h) in omega arith
-  step_once starts starts' counts counts' l End End h h' = tt
+  step_once starts starts' counts counts' l (Some (f, c)) (Some (f', c')) h h' = let same = sym h.0 ∙ h'.0 in (ap (λ (k : List Finding). get_or k 0 f) same, ap (drop 1) same)
+  step_once starts starts' counts counts' l (Some (f, c)) None h h' = let z : ◌≡◌ {A = ℕ} 0 1 = cc (sym h.0 ∙ h') in omega arith
+  step_once starts starts' counts counts' l None (Some (f, c)) h h' = let z : ◌≡◌ {A = ℕ} 0 1 = cc (sym h'.0 ∙ h) in omega arith
+  step_once starts starts' counts counts' l None None h h' = tt
 
 -- ---- by the order's own table and the message's own delimiters, these are all
 pub start-all : (m b : List ℕ) (s : Section) (h : Header) {out : ℕ → ℕ → Bool} {d : Delims} → out ≡ out_of_order may_follow → d ≡ delims_of m

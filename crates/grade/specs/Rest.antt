@@ -1,7 +1,7 @@
 -- Inner: only contracts inside the crates use these names; nothing here has to be believed.
 -- What is still to come at a place of the walk, with which the stepper's contracts are stated: each level is the list of what remains, read from the
 -- position that the cursor holds. `start_left` and `start-all` (proofs/Stepping.antt) tie it to the findings. Assumes nothing.
-use Rattle.std.specs.Prelude.{ℕ, suc, ◌+◌, ◌-◌, ◌≤◌, ◌<◌, ◌≡◌, Bool, true, false, cond, ◌&&◌, List, [], ◌∷◌, ◌++◌, map, eqb, length, get_or, drop, set}
+use Rattle.std.specs.Prelude.{ℕ, suc, ◌+◌, ◌-◌, ◌≤◌, ◌<◌, ◌≡◌, Bool, true, false, cond, ◌&&◌, List, [], ◌∷◌, ◌++◌, Option, Some, None, map, eqb, length, get_or, drop, set}
 use Rattle.hl7.specs.Cut.{cut, but_last}
 use Rattle.hl7.specs.Noted.{Noted}
 use Rattle.hl7.specs.Spans.{between, parts_from}
@@ -25,14 +25,10 @@ use Rattle.grade.specs.declared.header.Header.{Header}
 use Rattle.grade.specs.declared.within.Here.{Here}
 use Rattle.grade.specs.declared.within.Field.{Field}
 use Rattle.grade.specs.declared.within.Spot.{Spot}
-use Rattle.grade.specs.declared.within.Value.{Value}
-use Rattle.grade.specs.declared.within.Value.TheVariants.{Broken, Fine}
+use Rattle.grade.specs.declared.within.Broken.{Broken}
 use Rattle.grade.specs.declared.within.Judged.{Judged}
-use Rattle.grade.specs.declared.within.Within.{Within}
-use Rattle.grade.specs.declared.within.Within.TheVariants.{Found, Nothing}
 use Rattle.grade.specs.declared.step.Cursor.{Cursor}
 use Rattle.grade.specs.declared.step.Entered.{Entered}
-use Rattle.grade.specs.declared.step.Step.{Step}
 
 -- ---- the codes of a kind's set
 -- where a kind has a set, its codes can be read at a position of the book
@@ -69,9 +65,9 @@ abbrev pub broken_from : Delims → List ℕ → List ℕ → Rule → ℕ → �
 broken_from d fld b rule codes at passed = broken_values (breaks_by b rule codes) passed (map (value_in d false rule) (parts_from d.tilde fld at))
 
 -- r is the first of the numbers l, and where the others are found
-abbrev pub NextValue : Delims → List ℕ → List ℕ → Rule → ℕ → List ℕ → Value → Type 0
-NextValue d fld b rule codes l (Broken k next) = (l ≡ k ∷ broken_from d fld b rule codes next k) × (k ≤ next)
-NextValue d fld b rule codes l Fine = l ≡ []
+abbrev pub NextValue : Delims → List ℕ → List ℕ → Rule → ℕ → List ℕ → Option Broken → Type 0
+NextValue d fld b rule codes l (Some r) = (l ≡ r.repetition ∷ broken_from d fld b rule codes r.next r.repetition) × (r.repetition ≤ r.next)
+NextValue d fld b rule codes l None = l ≡ []
 
 -- what one rule gives at a segment, and what the rules give of which i came before
 abbrev pub of_rule : Delims → List (List (List ℕ)) → ℕ → ℕ → List ℕ → ℕ → Rule → List Finding
@@ -162,9 +158,9 @@ NextOfRule d m b s here spot (Judged.Found f then) =
 NextOfRule d m b s here spot (Judged.Last f) = left_of d (sets_in b s) here.name here.ordinal (bytes_of m here) spot (get_or (rules_in b s) spot.rule no_rule) ≡ f ∷ []
 NextOfRule d m b s here spot Judged.Nothing = left_of d (sets_in b s) here.name here.ordinal (bytes_of m here) spot (get_or (rules_in b s) spot.rule no_rule) ≡ []
 
-abbrev pub NextWithin : Delims → List ℕ → List ℕ → Section → List ℕ → Here → List Finding → Within → Type 0
-NextWithin d m b s starts here l (Found f then) = (l ≡ f ∷ segment_rest d m b s here then) × SpotStands d m b s starts here then
-NextWithin d m b s starts here l Nothing = l ≡ []
+abbrev pub NextWithin : Delims → List ℕ → List ℕ → Section → List ℕ → Here → List Finding → Option (Finding × Spot) → Type 0
+NextWithin d m b s starts here l (Some (f, then)) = (l ≡ f ∷ segment_rest d m b s here then) × SpotStands d m b s starts here then
+NextWithin d m b s starts here l None = l ≡ []
 
 -- ---- the segments
 -- counts and last stand for the segments before: how many there were of each name, and the last counted name
@@ -268,6 +264,6 @@ Opens out d m b s starts counts from l (Entered.Rules c) = (l ≡ grade_rest out
 Opens out d m b s starts counts from l Entered.End = l ≡ []
 
 -- a step from a cursor at which l is still to come
-abbrev pub Steps : (ℕ → ℕ → Bool) → Delims → List ℕ → List ℕ → Section → List ℕ → List ℕ → List Finding → Step → Type 0
-Steps out d m b s starts counts l (Step.Found f c) = (l ≡ f ∷ rest out d m b s counts c) × Stands d m b s starts counts c
-Steps out d m b s starts counts l Step.End = l ≡ []
+abbrev pub Steps : (ℕ → ℕ → Bool) → Delims → List ℕ → List ℕ → Section → List ℕ → List ℕ → List Finding → Option (Finding × Cursor) → Type 0
+Steps out d m b s starts counts l (Some (f, c)) = (l ≡ f ∷ rest out d m b s counts c) × Stands d m b s starts counts c
+Steps out d m b s starts counts l None = l ≡ []

@@ -15,7 +15,7 @@ use crate::header::none_wrong;
 use crate::limits::{FIELD_PLACES, LINKS, NAME_PLACES, SET_PLACES};
 use crate::lookup::{links_of, sets_of};
 use crate::order::follow_table;
-use crate::step::{Cursor, Step, Terms, next, start};
+use crate::step::{Cursor, Terms, next, start};
 use crate::walk::Section;
 use hl7::place::delims_of;
 
@@ -133,32 +133,28 @@ pub(crate) fn list_by(
     let mut cursor = from;
     let mut used = 0;
     let mut fault = seen;
-    loop {
-        match next(table, by, m, book, sets, links, starts, counts, cursor) {
-            Step::Found(finding, then) => {
-                note(whole, lines, used, finding);
-                used += 1;
-                fault = fault | is_fault(finding);
-                cursor = then;
-                let ended = brief & fault;
-                if ended | (!whole & (LINES <= used)) {
-                    return Reached {
-                        used,
-                        fault,
-                        ended,
-                        cursor,
-                    };
-                }
-            }
-            Step::End => {
-                return Reached {
-                    used,
-                    fault,
-                    ended: true,
-                    cursor,
-                };
-            }
+    while let Some((finding, then)) = next(
+        table, by, m, book, sets, links, starts, counts, cursor,
+    ) {
+        note(whole, lines, used, finding);
+        used += 1;
+        fault = fault | is_fault(finding);
+        cursor = then;
+        let ended = brief & fault;
+        if ended | (!whole & (LINES <= used)) {
+            return Reached {
+                used,
+                fault,
+                ended,
+                cursor,
+            };
         }
+    }
+    Reached {
+        used,
+        fault,
+        ended: true,
+        cursor,
     }
 }
 

@@ -14,8 +14,8 @@ use crate::lookup::link_at;
 use crate::order::out_of_order;
 use crate::rule::name_of_letters;
 use crate::walk::Section;
-use crate::within::{Field, Here, Spot, Within, first_spot, next_within, order_finding};
-use hl7::bytes::{byte_at, pick, wide};
+use crate::within::{Field, Here, Spot, first_spot, next_within, order_finding};
+use hl7::bytes::{byte_at, pick};
 use hl7::cut::{find_far, none_is};
 use hl7::place::{Delims, note_fields};
 
@@ -38,14 +38,8 @@ pub struct Cursor {
     pub last: usize,
 }
 
-// The next finding, and where to go on.
-#[derive(Clone, Copy)]
-pub enum Step {
-    Found(Finding, Cursor),
-    End,
-}
-
-// The next segment of a counted name: what its order gives, if it is broken there, and where its rules are judged.
+// The next segment of a counted name: what its order gives, if it is broken there, and where its rules are judged; or the end. Three ways, and not the
+// two of an Option.
 #[derive(Clone, Copy)]
 pub enum Entered {
     Order(Finding, Cursor),
@@ -64,7 +58,7 @@ pub struct Marks {
 fn name_of(seg: &[u8]) -> usize
     ensures { result ≡ name_of seg.now }
 {
-    wide(name_of_letters(byte_at(seg, 0), byte_at(seg, 1), byte_at(seg, 2)))
+    usize::from(name_of_letters(byte_at(seg, 0), byte_at(seg, 1), byte_at(seg, 2)))
 }
 
 // A cursor between two segments: nothing is left of the one before.
@@ -208,14 +202,7 @@ fn open_segment(
 fn moved(c: Cursor, header: Header, spot: Spot) -> Cursor
     ensures { result ≡ moved_to c header spot }
 {
-    let here = c.here;
-    Cursor {
-        header,
-        here,
-        spot,
-        next: c.next,
-        last: c.last,
-    }
+    Cursor { header, spot, ..c }
 }
 
 // The next finding of the order and of the rules, or the end.
@@ -229,37 +216,26 @@ fn next_graded(
     starts: &mut [usize],
     counts: &mut [u32; NAME_PLACES],
     cursor: Cursor,
-) -> Step
+) -> Option<(Finding, Cursor)>
     requires { Given m.now book.now by.section sets.now links.now × Stands by.d m.now book.now by.section starts.old counts.old cursor × (field_places ≤ length starts.old) }
     ensures { Steps (out_of_order (table_says table.now)) by.d m.now book.now by.section starts.new counts.new (grade_rest (out_of_order (table_says table.now)) by.d m.now book.now by.section counts.old cursor) result }
 {
     let mut c = cursor;
     loop {
-        let here = c.here;
-        match next_within(by.d, m, book, by.section, sets, links, starts, here, c.spot) {
-            Within::Found(f, then) => {
-                return Step::Found(
-                    f,
-                    Cursor {
-                        header: none_wrong(),
-                        here,
-                        spot: then,
-                        next: c.next,
-                        last: c.last,
-                    },
-                );
-            }
-            Within::Nothing => {}
+        if let Some((finding, spot)) = next_within(
+            by.d, m, book, by.section, sets, links, starts, c.here, c.spot,
+        ) {
+            return Some((finding, moved(c, none_wrong(), spot)));
         }
         match open_segment(table, by, m, book, links, starts, counts, c.next, c.last) {
-            Entered::Order(f, then) => {
-                return Step::Found(f, then);
+            Entered::Order(finding, then) => {
+                return Some((finding, then));
             }
             Entered::Rules(then) => {
                 c = then;
             }
             Entered::End => {
-                return Step::End;
+                return None;
             }
         }
     }
@@ -278,14 +254,13 @@ pub fn next(
     starts: &mut [usize],
     counts: &mut [u32; NAME_PLACES],
     cursor: Cursor,
-) -> Step
+) -> Option<(Finding, Cursor)>
     requires { Given m.now book.now by.section sets.now links.now × Stands by.d m.now book.now by.section starts.old counts.old cursor × (field_places ≤ length starts.old) }
     ensures { Steps (out_of_order (table_says table.now)) by.d m.now book.now by.section starts.new counts.new (rest (out_of_order (table_says table.now)) by.d m.now book.now by.section counts.old cursor) result }
 {
     if any_wrong(cursor.header) {
-        let finding = first_wrong(cursor.header);
         let left = later_wrong(cursor.header);
-        return Step::Found(finding, moved(cursor, left, cursor.spot));
+        return Some((first_wrong(cursor.header), moved(cursor, left, cursor.spot)));
     }
     next_graded(table, by, m, book, sets, links, starts, counts, cursor)
 }

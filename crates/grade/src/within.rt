@@ -15,7 +15,6 @@ use crate::limits::{LINKS, NAME_PLACES, SET_PLACES};
 use crate::lookup::{link_at, place_at, rule_named};
 use crate::rule::{Kind, Rule, error_code, severity_letter};
 use crate::walk::Section;
-use hl7::bytes::wide;
 use hl7::cut::find;
 use hl7::place::{Delims, noted_field_span};
 
@@ -49,11 +48,11 @@ pub struct Spot {
     pub field: Field,
 }
 
-// The next repetition that breaks a rule, and where to look after it.
+// A repetition that breaks a rule, and where to look after it.
 #[derive(Clone, Copy)]
-pub enum Value {
-    Broken { repetition: u32, next: usize },
-    Fine,
+pub struct Broken {
+    pub repetition: u32,
+    pub next: usize,
 }
 
 // Where the repetition that begins at a position ends: at the field's end, if it has no tilde.
@@ -77,45 +76,35 @@ fn next_value(
     codes: usize,
     at: usize,
     passed: u32,
-) -> Value
+) -> Option<Broken>
     requires { (length fld.now ≤ message_limit) × (passed ≤ at) × CodesStand book.now rule.kind codes × (single ≡ true → all (differs d.tilde) fld.now ≡ true) }
     ensures { NextValue d fld.now book.now rule codes (broken_from d fld.now book.now rule codes at passed) result }
 {
-    let kind = rule.kind;
     let mut from = at;
     let mut done = passed;
     while from <= fld.len() {
         let end = repetition_end(fld, d.tilde, single, from);
         let rep = &fld[from..end];
         if breaks_rule(d, rep, book, rule, codes, done) {
-            return Value::Broken {
+            return Some(Broken {
                 repetition: done + 1,
                 next: end + 1,
-            };
+            });
         }
         // REQUIRED is about the first repetition alone
-        if is_required(kind) {
-            return Value::Fine;
+        if is_required(rule.kind) {
+            return None;
         }
         done += 1;
         from = end + 1;
     }
-    Value::Fine
-}
-
-// What judging a segment finds next, and where it goes on.
-#[derive(Clone, Copy)]
-pub enum Within {
-    Found(Finding, Spot),
-    Nothing,
+    None
 }
 
 fn value_finding(here: Here, rule: Rule, i: usize, repetition: u32) -> Finding
     requires { (here.name ≤ segment_count) × (i ≤ rule_limit) }
     ensures { result ≡ value_finding here.name here.ordinal rule i repetition }
 {
-    let kind = rule.kind;
-    let severity = rule.severity;
     Finding {
         name: here.name as u8,
         ordinal: here.ordinal,
@@ -123,8 +112,8 @@ fn value_finding(here: Here, rule: Rule, i: usize, repetition: u32) -> Finding
         repetition,
         component: rule.place.component,
         rule: i as u16,
-        code: error_code(kind),
-        severity: severity_letter(severity),
+        code: error_code(rule.kind),
+        severity: severity_letter(rule.severity),
     }
 }
 
@@ -134,12 +123,8 @@ fn codes_of(book: &[u8], section: Section, sets: &[usize; SET_PLACES], kind: Kin
     ensures { CodesAre book.now (sets_in book.now section) kind result }
 {
     match kind {
-        Kind::Required => 0,
-        Kind::Length { low: _, high: _ } => 0,
-        Kind::Number => 0,
-        Kind::Date => 0,
-        Kind::Time { digits: _ } => 0,
-        Kind::Code { set } => place_at(sets, wide(set) - 1),
+        Kind::Code { set } => place_at(sets, usize::from(set) - 1),
+        _ => 0,
     }
 }
 
@@ -158,22 +143,19 @@ fn open_field(
     requires { Holds book.now section × Placed book.now section sets.now × HereStands m.now here × Parted d (bytes_of m.now here) starts.now here.count here.single × (field_places ≤ length starts.now) × (i < section.rule_count) × ((get_or (rules_in book.now section) i no_rule).place.segment ≡ here.name) × (rule ≡ get_or (rules_in book.now section) i no_rule) }
     ensures { Fielded d m.now book.now section here i result }
 {
-    let kind = rule.kind;
-    let codes = codes_of(book, section, sets, kind);
-    let start = here.start;
-    let end = here.end;
+    let codes = codes_of(book, section, sets, rule.kind);
     let span = noted_field_span(
         d,
-        &m[start..end],
+        &m[here.start..here.end],
         here.name == 1,
         starts,
         here.count,
-        wide(rule.place.field),
+        usize::from(rule.place.field),
     );
     Field {
         codes,
-        start: start + span.start,
-        end: start + span.end,
+        start: here.start + span.start,
+        end: here.start + span.end,
     }
 }
 
@@ -193,13 +175,13 @@ fn field_of(
     ensures { Fielded d m.now book.now section here spot.rule result }
 {
     if 0 < spot.passed {
-        let known = spot.field;
-        return known;
+        return spot.field;
     }
     open_field(d, m, book, section, sets, starts, here, spot.rule, rule)
 }
 
-// What the rule at a spot gives next: a finding after which it is asked again, its last one, or none.
+// What the rule at a spot gives next: a finding after which it is asked again, its last one, or none. Each of the three has a name, as an Option within an
+// Option would not have.
 #[derive(Clone, Copy)]
 pub enum Judged {
     Found(Finding, Spot),
@@ -221,14 +203,12 @@ fn at_rule(
     requires { (length m.now ≤ message_limit) × Holds book.now section × Placed book.now section sets.now × HereStands m.now here × SpotStands d m.now book.now section starts.now here spot × (field_places ≤ length starts.now) × (spot.rule < section.rule_count) }
     ensures { NextOfRule d m.now book.now section here spot result }
 {
-    let i = spot.rule;
-    let rule = rule_named(book, section, i, here.name as u8);
+    let rule = rule_named(book, section, spot.rule, here.name as u8);
     let field = field_of(d, m, book, section, sets, starts, here, spot, rule);
-    let start = field.start;
-    let end = field.end;
+    let fld = &m[field.start..field.end];
     match next_value(
         d,
-        &m[start..end],
+        fld,
         here.single,
         book,
         rule,
@@ -236,23 +216,23 @@ fn at_rule(
         spot.at,
         spot.passed,
     ) {
-        Value::Broken { repetition, next } => {
-            let finding = value_finding(here, rule, i + 1, repetition);
-            let past = end - start < next;
+        Some(broken) => {
+            let finding = value_finding(here, rule, spot.rule + 1, broken.repetition);
+            let past = fld.len() < broken.next;
             if past {
                 return Judged::Last(finding);
             }
             Judged::Found(
                 finding,
                 Spot {
-                    rule: i,
-                    at: next,
-                    passed: repetition,
+                    rule: spot.rule,
+                    at: broken.next,
+                    passed: broken.repetition,
                     field,
                 },
             )
         }
-        Value::Fine => Judged::Nothing,
+        None => Judged::Nothing,
     }
 }
 
@@ -283,26 +263,25 @@ pub(crate) fn next_within(
     starts: &[usize],
     here: Here,
     spot: Spot,
-) -> Within
+) -> Option<(Finding, Spot)>
     requires { Given m.now book.now section sets.now links.now × HereStands m.now here × SpotStands d m.now book.now section starts.now here spot × (field_places ≤ length starts.now) }
     ensures { NextWithin d m.now book.now section starts.now here (segment_rest d m.now book.now section here spot) result }
 {
-    let n = section.rule_count;
     let mut at = spot;
-    while at.rule < n {
+    while at.rule < section.rule_count {
         match at_rule(d, m, book, section, sets, starts, here, at) {
-            Judged::Found(f, then) => {
-                return Within::Found(f, then);
+            Judged::Found(finding, then) => {
+                return Some((finding, then));
             }
-            Judged::Last(f) => {
-                return Within::Found(f, first_spot(link_at(links, NAME_PLACES + at.rule)));
+            Judged::Last(finding) => {
+                return Some((finding, first_spot(link_at(links, NAME_PLACES + at.rule))));
             }
             Judged::Nothing => {
                 at = first_spot(link_at(links, NAME_PLACES + at.rule));
             }
         }
     }
-    Within::Nothing
+    None
 }
 
 pub(crate) fn order_finding(name: usize, ordinal: u32) -> Finding

@@ -52,7 +52,7 @@ pub returns-then-ended-whole : goal.returns-then-ended-whole
 returns-then-ended-whole c =
     let a = c.args in
     let l = c.loop-finding in
-    let found = step_found (table_says a.table.now) a.by.d a.m.now a.book.now a.by.section _ _ _ c.next.result c.next.ensures c.in-Found.is in
+    let found = step_found (table_says a.table.now) a.by.d a.m.now a.book.now a.by.section _ _ _ c.next.result c.next.ensures c.in-Some.is in
     let one = ap length found.0 in
     let fault = l.fault || c.is_fault-fault.result in
     record {
@@ -68,7 +68,7 @@ returns-then-ended-whole c =
 pub loop-finding-smaller : goal.loop-finding-smaller
 loop-finding-smaller c =
     let a = c.args in
-    step_less (table_says a.table.now) a.by.d a.m.now a.book.now a.by.section _ _ _ c.next.result c.next.ensures c.in-Found.is
+    step_less (table_says a.table.now) a.by.d a.m.now a.book.now a.by.section _ _ _ c.next.result c.next.ensures c.in-Some.is
 
 -- the sheet is not full yet
 not_full : (whole : Bool) (used : ℕ) → (not whole && leb line_count used) ≡ false → whole ≡ false → used < line_count
@@ -78,7 +78,7 @@ pub loop-finding-preserved : goal.loop-finding-preserved
 loop-finding-preserved c =
     let a = c.args in
     let l = c.loop-finding in
-    let found = step_found (table_says a.table.now) a.by.d a.m.now a.book.now a.by.section _ _ _ c.next.result c.next.ensures c.in-Found.is in (
+    let found = step_found (table_says a.table.now) a.by.d a.m.now a.book.now a.by.section _ _ _ c.next.result c.next.ensures c.in-Some.is in (
       c.next.auto.starts ∙ l.invariant.0,
       c.note.auto.lines ∙ l.invariant.1,
       found.1,
@@ -88,17 +88,17 @@ loop-finding-preserved c =
       omega (arith, l.invariant.6, ap length found.0),
     )
 
-pub shape_of-starts-in-End : goal.shape_of-starts-in-End
-shape_of-starts-in-End c = c.next.auto.starts ∙ c.loop-finding.invariant.0
+pub shape_of-starts : goal.shape_of-starts
+shape_of-starts c = c.next.auto.starts ∙ c.loop-finding.invariant.0
 
-pub shape_of-lines-in-End : goal.shape_of-lines-in-End
-shape_of-lines-in-End c = c.loop-finding.invariant.1
+pub shape_of-lines : goal.shape_of-lines
+shape_of-lines c = c.loop-finding.invariant.1
 
-pub returns-in-End : goal.returns-in-End
-returns-in-End c =
+pub returns : goal.returns
+returns c =
     let a = c.args in
     let l = c.loop-finding in
-    let none = step_end (table_says a.table.now) a.by.d a.m.now a.book.now a.by.section _ _ _ c.next.result c.next.ensures c.in-End.is in
+    let none = step_end (table_says a.table.now) a.by.d a.m.now a.book.now a.by.section _ _ _ c.next.result c.next.ensures c.in_default.is in
     record {
       stands = λ e. absurd (true≢false e);
       goes = λ e. absurd (true≢false e);

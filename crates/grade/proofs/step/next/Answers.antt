@@ -4,13 +4,13 @@ use Rattle.grade.specs.Order.{table_says}
 use Rattle.grade.proofs.Segments.{header-next, header-over}
 use Rattle.grade.proofs.step.next.Goals as goal
 
-pub first_wrong-finding-requires : goal.first_wrong-finding-requires
-first_wrong-finding-requires c = sym c.any_wrong.ensures ∙ c.if-any_wrong.true
+pub first_wrong-requires : goal.first_wrong-requires
+first_wrong-requires c = sym c.any_wrong.ensures ∙ c.if-any_wrong.true
 
 pub returns-then-any_wrong : goal.returns-then-any_wrong
 returns-then-any_wrong c =
     let a = c.args in
-    header-next (table_says a.table.now) a.by.d a.m.now a.book.now a.by.section c.requires.1 c.first_wrong-finding.ensures c.later_wrong-left.ensures c.moved.ensures
+    header-next (table_says a.table.now) a.by.d a.m.now a.book.now a.by.section c.requires.1 c.first_wrong.ensures c.later_wrong-left.ensures c.moved.ensures
 
 pub returns : goal.returns
 returns c =

@@ -29,8 +29,8 @@ next_value-requires c =
       known.untilded,
     )
 
-pub overflow_add-i : goal.overflow_add-i
-overflow_add-i c =
+pub overflow_add-spot : goal.overflow_add-spot
+overflow_add-spot c =
     let p = c.requires in
     omega (arith, p.6, p.1.few_rules)
 
@@ -44,16 +44,16 @@ pub returns-then-past : goal.returns-then-past
 returns-then-past c =
     let a = c.args in
     let p = c.requires in
-    rule_last a.d a.m.now a.book.now a.section a.here p.1 p.3 a.spot p.6 (p.4.about p.6) c.rule_named-rule.result c.rule_named-rule.ensures c.field_of-field.ensures c.next_value.ensures _ _ _ c.in-Broken.is c.value_finding-finding.ensures (omega (arith, c.if-past.true))
+    rule_last a.d a.m.now a.book.now a.section a.here p.1 p.3 a.spot p.6 (p.4.about p.6) c.rule_named-rule.result c.rule_named-rule.ensures c.field_of-field.ensures c.next_value.ensures _ _ c.in-Some.is c.value_finding-finding.ensures c.if-past.true
 
 pub returns-else-past : goal.returns-else-past
 returns-else-past c =
     let a = c.args in
     let p = c.requires in
-    rule_found a.d a.m.now a.book.now a.section a.here p.1 p.3 a.spot p.6 (p.4.about p.6) c.rule_named-rule.result c.rule_named-rule.ensures c.field_of-field.ensures c.next_value.ensures _ _ _ c.in-Broken.is c.value_finding-finding.ensures
+    rule_found a.d a.m.now a.book.now a.section a.here p.1 p.3 a.spot p.6 (p.4.about p.6) c.rule_named-rule.result c.rule_named-rule.ensures c.field_of-field.ensures c.next_value.ensures _ _ c.in-Some.is c.value_finding-finding.ensures
 
-pub returns-in-Fine : goal.returns-in-Fine
-returns-in-Fine c =
+pub returns-in-None : goal.returns-in-None
+returns-in-None c =
     let a = c.args in
     let p = c.requires in
-    rule-fine a.d a.m.now a.book.now a.section a.here p.1 p.3 a.spot p.6 (p.4.about p.6) c.rule_named-rule.result c.rule_named-rule.ensures c.field_of-field.ensures c.next_value.ensures c.in-Fine.is
+    rule-fine a.d a.m.now a.book.now a.section a.here p.1 p.3 a.spot p.6 (p.4.about p.6) c.rule_named-rule.result c.rule_named-rule.ensures c.field_of-field.ensures c.next_value.ensures c.in-None.is
