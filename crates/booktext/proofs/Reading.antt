@@ -2,7 +2,7 @@
 use mathlib.Core.Path.{◌≡◌, refl, sym, ap, ◌∙◌}
 use mathlib.Core.Bool.{Bool, true, false, cond, not, ◌&&◌, ◌||◌}
 use mathlib.Core.List.{List, [], ◌∷◌}
-use Prim.Native.Nat.{ℕ, suc, ◌+◌, ◌≤◌, ◌<◌, min, max}
+use Prim.Native.Nat.{ℕ, suc, ◌+◌, ◌≤◌, ◌<◌, min}
 use Prim.Native.Char.{code}
 use native.Mathlib.Omega.{arith}
 use native.Mathlib.Numerals.{add-one}
@@ -15,7 +15,7 @@ use Rattle.hl7.specs.Counted.{too_large}
 use Rattle.hl7.specs.Cut.{end_from}
 use Rattle.hl7.specs.Number.{value_of}
 use Rattle.hl7.specs.Text.{bytes}
-use Rattle.hl7.proofs.Comparing.{and_both}
+use Rattle.hl7.proofs.Comparing.{and_both, picked_most}
 use Rattle.hl7.proofs.Cutting.{first-front}
 use Rattle.grade.specs.Rule.{name_of_letters, place_fits, severity_of}
 use Rattle.grade.specs.declared.rule.Place.{Place}
@@ -35,8 +35,8 @@ number-few n w (name ∷ names) = by (same w name) (number-few (suc n) w names)
     by false later = omega (arith, later)
 
 -- a number that was picked is small where both choices are
-pub picked_few : (n : ℕ) {r rest : ℕ} → leb n 255 ≡ true → r ≤ max n rest → rest ≤ 255 → r ≤ 255
-picked_few n h picked later = omega (arith, leb-true n 255 h)
+pub picked_few : (n : ℕ) (test : Bool) {r rest : ℕ} → leb n 255 ≡ true → r ≡ cond test n rest → rest ≤ 255 → r ≤ 255
+picked_few n test h picked later = omega (arith, leb-true n 255 h, picked_most test n _ _ picked)
 
 -- the verbs that change rules or sets
 pub asked_change : (w : List ℕ) {severity bound dropped more less : Bool} {a b c d e : ℕ}

@@ -2,7 +2,7 @@
 use mathlib.Core.Path.{◌≡◌, refl, sym, ap, ap₂, ◌∙◌}
 use mathlib.Core.Bool.{Bool, true, false, cond, not, ◌&&◌, ◌||◌, and-true, and-false, and_assoc, true≢false}
 use mathlib.Core.List.{List, [], ◌∷◌, ◌++◌, map}
-use Prim.Native.Nat.{ℕ, zero, suc, ◌+◌, ◌-◌, ◌≤◌, ◌<◌}
+use Prim.Native.Nat.{ℕ, zero, suc, ◌+◌, ◌-◌, ◌≤◌, ◌<◌, max}
 use native.Mathlib.Numerals.{add-one}
 use native.Mathlib.Nat.{le_of_eq, not-suc-le-zero, le_of_suc-le-suc, add-zero, sub-zero}
 use native.Mathlib.Omega.{arith}
@@ -10,6 +10,7 @@ use lib.Dec.{eqb}
 use lib.ListN.{length, get_or, take, drop, length-drop, drop_of_length-le}
 use lib.Seq.{drop-cons, get_or-drop, take_all, drop-length, take-nil, slice}
 use borrow.Author.Tests.{eq-eqb, ne_eqb, eqb-true, eqb-false, not-true}
+use Rattle.std.specs.Int.{from_bool}
 use Rattle.hl7.specs.Bytes.{is_in, distinct, all, same, among, begins}
 use Rattle.hl7.specs.Spans.{occurrences}
 
@@ -34,6 +35,16 @@ none_of (x ∷ l) h = absurd (omega arith)
 pub and_both : (t u : Bool) → (t && u) ≡ true → (t ≡ true) × (u ≡ true)
 and_both true u e = (refl, e)
 and_both false u e = absurd (true≢false (sym e))
+
+-- what is picked of two numbers is no more than the greater
+pub picked_most : (test : Bool) (one other r : ℕ) → r ≡ cond test one other → r ≤ max one other
+picked_most true one other r e = omega (arith, e)
+picked_most false one other r e = omega (arith, e)
+
+-- a test, as a number to count with
+pub counted_test : (test : Bool) (r : ℕ) → r ≡ from_bool test → r ≡ cond test 1 0
+counted_test true r e = e
+counted_test false r e = e
 
 pub or_neither : (t u : Bool) → (t || u) ≡ false → (t ≡ false) × (u ≡ false)
 or_neither true u e = absurd (true≢false e)

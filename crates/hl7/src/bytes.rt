@@ -1,5 +1,5 @@
 // Bytes of a lent slice. These functions are total, so that whoever calls them has nothing to show.
-ghost use Rattle.std.specs.Prelude.{◌≡◌, cond, ◌≤◌, max, get_or, take, drop};
+ghost use Rattle.std.specs.Prelude.{◌≡◌, cond, ◌≤◌, get_or, take, drop};
 ghost use Rattle.hl7.specs.Bytes.{within, same, begins};
 
 // A byte, or a wider number, as a number to count with.
@@ -21,9 +21,9 @@ pub fn wide32(x: u32) -> usize
     x as usize
 }
 
-// One number or the other, without a branch.
-pub fn pick(test: bool, yes: usize, otherwise: usize) -> usize
-    ensures { (result ≡ cond test yes otherwise) × (result ≤ max yes otherwise) }
+// One value or the other, without a branch.
+pub fn pick<T: Copy>(test: bool, yes: T, otherwise: T) -> T
+    ensures { result ≡ cond test yes otherwise }
 {
     if test {
         return yes;

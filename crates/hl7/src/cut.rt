@@ -1,5 +1,5 @@
 // Cutting bytes at a delimiter: where a part ends, and one part by its number.
-ghost use Rattle.std.specs.Prelude.{◌≡◌, cond, ◌≤◌, length};
+ghost use Rattle.std.specs.Prelude.{◌≡◌, ◌≤◌, length};
 ghost use Rattle.hl7.specs.Bytes.{all, differs};
 ghost use Rattle.hl7.specs.Cut.{cut, end_from, piece_at};
 ghost use Rattle.hl7.specs.Spans.{Spans, piece_from, occurrences};
@@ -79,19 +79,10 @@ fn count_in(v: &[u8], d: u8) -> u8
     let mut n: u8 = 0;
     let mut i = 0;
     while i < v.len() {
-        n += one_if(v[i] == d);
+        n += u8::from(v[i] == d);
         i += 1;
     }
     n
-}
-
-fn one_if(test: bool) -> u8
-    ensures { (result ≡ cond test 1 0) × (result ≤ 1) }
-{
-    if test {
-        return 1;
-    }
-    0
 }
 
 // A position, and how many parts lie between it and the part asked for.

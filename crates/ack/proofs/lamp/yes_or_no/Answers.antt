@@ -4,4 +4,4 @@ use Rattle.hl7.specs.Refusals.{told}
 use Rattle.ack.proofs.lamp.yes_or_no.Goals as goal
 
 pub returns : goal.returns
-returns c = ap (told 0) c.pick.ensures.0
+returns c = ap (told 0) c.pick.ensures

@@ -14,5 +14,5 @@ returns c =
     λ records many weighs.
     drafts a.m.now (ltb a.room a.count) records a.stamp.now a.control a.space
     (c.answered-answer.ensures records (omega (arith, many, looked-few a.count a.room, c.ranges)) weighs)
-    (many ∙ sym c.looked_at-looked.ensures) c.pick.ensures.0 c.delims_of.ensures
+    (many ∙ sym c.looked_at-looked.ensures) c.pick.ensures c.delims_of.ensures
     (c.letter_of.ensures ∙ ap (λ (w : Weight). letter w.header w.fault) weighs ∙ weighs_letter records)

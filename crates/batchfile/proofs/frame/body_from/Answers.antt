@@ -25,7 +25,7 @@ loop-end-smaller c = omega (arith, c.line_end-next.ensures.onward.further c.loop
 pub loop-end-preserved : goal.loop-end-preserved
 loop-end-preserved c =
     counting_more _ _ _ _ c.loop-end.invariant _ c.loop-end-test.true c.line_end-next.ensures
-    (sym c.is_frame.ensures ∙ c.if-is_frame.false) c.is_msh.ensures c.pick-count.ensures.0
+    (sym c.is_frame.ensures ∙ c.if-is_frame.false) c.is_msh.ensures c.pick-count.ensures
 
 pub returns : goal.returns
 returns c = counting_over _ _ _ _ c.loop-end.invariant c.loop-end-test.false

@@ -8,4 +8,4 @@ use Rattle.booktext.proofs.before.place_fault.Goals as goal
 pub returns : goal.returns
 returns c =
     let a = c.args in
-    c.pick-2.ensures.0 ∙ ap (cond (eqb a.verb a_rule && a.stands) 47) c.pick.ensures.0
+    c.pick-2.ensures ∙ ap (cond (eqb a.verb a_rule && a.stands) 47) c.pick.ensures

@@ -38,7 +38,7 @@ codes_asked-right-requires c =
 pub returns-then-is_codes : goal.returns-then-is_codes
 returns-then-is_codes c =
     let a = c.args in
-    fault-codes a.t.now a.cells.now a.marks.now a.i c.requires.1 c.requires.2 c.verb_in-verb.ensures c.is_placed.ensures c.if-is_placed.false c.is_codes.ensures c.if-is_codes.true c.line_in-line.ensures.0 c.codes_asked-right.ensures c.pick.ensures.0
+    fault-codes a.t.now a.cells.now a.marks.now a.i c.requires.1 c.requires.2 c.verb_in-verb.ensures c.is_placed.ensures c.if-is_placed.false c.is_codes.ensures c.if-is_codes.true c.line_in-line.ensures.0 c.codes_asked-right.ensures c.pick.ensures
 
 pub returns : goal.returns
 returns c =

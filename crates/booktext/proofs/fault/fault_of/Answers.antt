@@ -6,11 +6,11 @@ pub returns : goal.returns
 returns c =
     rw (
       fault_late,
-      c.pick-3.ensures.0,
-      c.pick-2.ensures.0,
-      c.pick-middle.ensures.0,
-      c.pick.ensures.0,
-      c.pick-late.ensures.0,
+      c.pick-3.ensures,
+      c.pick-2.ensures,
+      c.pick-middle.ensures,
+      c.pick.ensures,
+      c.pick-late.ensures,
       c.may_stand.ensures,
       c.count_right.ensures,
       c.version_right.ensures,

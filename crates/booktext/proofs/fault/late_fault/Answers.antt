@@ -11,11 +11,11 @@ pub returns : goal.returns
 unfolding late_fault
 returns c =
     rw (
-      c.pick-4.ensures.0,
-      c.pick-3.ensures.0,
-      c.pick-last.ensures.0,
-      c.pick-2.ensures.0,
-      c.pick.ensures.0,
+      c.pick-4.ensures,
+      c.pick-3.ensures,
+      c.pick-last.ensures,
+      c.pick-2.ensures,
+      c.pick.ensures,
       c.codes_right.ensures,
       c.place_right.ensures,
       c.kind_right.ensures,

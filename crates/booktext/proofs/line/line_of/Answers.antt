@@ -10,7 +10,7 @@ loop-i-init c = (omega arith, line-start c.args.t.now c.args.at c.front-before.e
 
 pub loop-i-preserved : goal.loop-i-preserved
 loop-i-preserved c =
-    let more = line_more c.front-before.result.now c.loop-i.i c.loop-i.line c.loop-i-test.true c.pick-line.ensures.0 in
+    let more = line_more c.front-before.result.now c.loop-i.i c.loop-i.line c.loop-i-test.true c.pick-line.ensures in
     (omega (arith, more.0), omega (arith, more.1))
 
 pub returns : goal.returns

@@ -27,7 +27,7 @@ loop-at-smaller c =
 pub loop-at-preserved : goal.loop-at-preserved
 loop-at-preserved c =
     let a = c.args in
-    naming_on a.t.now c.loop-at.sections c.loop-at.at c.loop-at.invariant c.loop-at-test.true c.name_fault-fault.ensures c.if-fault-ne0.false c.verb_at.ensures.0 c.pick-sections.ensures.0 c.next_line.ensures c.next_statement-at-in-loop-at.ensures
+    naming_on a.t.now c.loop-at.sections c.loop-at.at c.loop-at.invariant c.loop-at-test.true c.name_fault-fault.ensures c.if-fault-ne0.false c.verb_at.ensures.0 c.pick-sections.ensures c.next_line.ensures c.next_statement-at-in-loop-at.ensures
 
 pub returns : goal.returns
 returns c =

@@ -2,4 +2,4 @@
 use Rattle.booktext.proofs.refer.set_word.Goals as goal
 
 pub returns : goal.returns
-returns c = rw (c.pick.ensures.0, c.before_bound.ensures.0, c.is_codes.ensures)
+returns c = rw (c.pick.ensures, c.before_bound.ensures.0, c.is_codes.ensures)

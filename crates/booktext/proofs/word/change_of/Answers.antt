@@ -10,8 +10,8 @@ returns c =
     c.same_bytes-4.ensures
     c.same_bytes.ensures
     c.same_bytes-2.ensures
-    c.pick-3.ensures.0
-    c.pick-rules.ensures.0
-    c.pick-2.ensures.0
-    c.pick-codes.ensures.0
-    c.pick.ensures.0
+    c.pick-3.ensures
+    c.pick-rules.ensures
+    c.pick-2.ensures
+    c.pick-codes.ensures
+    c.pick.ensures

@@ -12,9 +12,9 @@ returns c =
     c.same_bytes-2.ensures
     c.same_bytes-3.ensures
     c.short.ensures
-    c.pick-4.ensures.0
-    c.pick-all.ensures.0
-    c.pick-3.ensures.0
-    c.pick-later.ensures.0
-    c.pick-2.ensures.0
-    c.pick.ensures.0
+    c.pick-4.ensures
+    c.pick-all.ensures
+    c.pick-3.ensures
+    c.pick-later.ensures
+    c.pick-2.ensures
+    c.pick.ensures

@@ -5,15 +5,15 @@ use Rattle.booktext.proofs.word.verb_of.Goals as goal
 
 pub short-requires : goal.short-requires
 short-requires c =
-    picked_few 1 refl c.pick-6.ensures.1
-    (picked_few 2 refl c.pick-5.ensures.1
-    (picked_few 3 refl c.pick-heads.ensures.1
-    (picked_few 4 refl c.pick-4.ensures.1
-    (picked_few 5 refl c.pick-inner.ensures.1
-    (picked_few 6 refl c.pick-3.ensures.1
-    (picked_few 7 refl c.pick-2.ensures.1
-    (picked_few 8 refl c.pick-later.ensures.1
-    (picked_few 9 refl c.pick.ensures.1 (change_few _ c.change_of.ensures)))))))))
+    picked_few 1 _ refl c.pick-6.ensures
+    (picked_few 2 _ refl c.pick-5.ensures
+    (picked_few 3 _ refl c.pick-heads.ensures
+    (picked_few 4 _ refl c.pick-4.ensures
+    (picked_few 5 _ refl c.pick-inner.ensures
+    (picked_few 6 _ refl c.pick-3.ensures
+    (picked_few 7 _ refl c.pick-2.ensures
+    (picked_few 8 _ refl c.pick-later.ensures
+    (picked_few 9 _ refl c.pick.ensures (change_few _ c.change_of.ensures)))))))))
 
 pub returns : goal.returns
 returns c =
@@ -28,13 +28,13 @@ returns c =
     c.same_bytes.ensures
     c.same_bytes-2.ensures
     c.short.ensures
-    c.pick-6.ensures.0
-    c.pick-5.ensures.0
-    c.pick-heads.ensures.0
-    c.pick-4.ensures.0
-    c.pick-inner.ensures.0
-    c.pick-3.ensures.0
-    c.pick-2.ensures.0
-    c.pick-later.ensures.0
-    c.pick.ensures.0
+    c.pick-6.ensures
+    c.pick-5.ensures
+    c.pick-heads.ensures
+    c.pick-4.ensures
+    c.pick-inner.ensures
+    c.pick-3.ensures
+    c.pick-2.ensures
+    c.pick-later.ensures
+    c.pick.ensures
     c.change_of.ensures

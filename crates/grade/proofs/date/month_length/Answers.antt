@@ -26,4 +26,4 @@ pub returns : goal.returns
 unfolding month_length
 returns c =
     let is : within 1 12 c.args.month ≡ true = c.if-not-month.false in
-    rw (is, c.pick.ensures.0, c.pick-february.ensures.0, c.is_leap.ensures)
+    rw (is, c.pick.ensures, c.pick-february.ensures, c.is_leap.ensures)

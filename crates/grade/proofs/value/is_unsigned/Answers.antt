@@ -5,6 +5,7 @@ use native.Mathlib.Omega.{arith}
 use lib.Dec.{eqb}
 use lib.ListN.{get_or}
 use Rattle.hl7.specs.Bytes.{is_digit}
+use Rattle.hl7.proofs.Comparing.{picked_most}
 use Rattle.grade.proofs.Counting.{passed_more, passed_stop, passed_over}
 use Rattle.grade.proofs.value.is_unsigned.Goals as goal
 
@@ -25,7 +26,7 @@ returns-then-not-is_within-point c =
     passed_stop v l.points l.i l.invariant (omega arith) other
 
 pub overflow_add-points : goal.overflow_add-points
-overflow_add-points c = omega arith
+overflow_add-points c = omega (arith, picked_most _ 1 0 _ c.pick-points.ensures)
 
 pub overflow_add-i : goal.overflow_add-i
 overflow_add-i c = omega arith
@@ -38,7 +39,7 @@ loop-i-preserved c =
     let v = c.args.v.now in
     let l = c.loop-i in
     let fine : is_digit (get_or v l.i 0) || eqb (get_or v l.i 0) 46 ≡ true = rw (← c.is_within.ensures) (c.if-not-is_within-point.false) in
-    passed_more v l.points l.i l.invariant c.pick-points.result c.pick-points.ensures.0 (omega arith) fine
+    passed_more v l.points l.i l.invariant c.pick-points.result c.pick-points.ensures (omega arith) fine
 
 pub returns : goal.returns
 returns c =

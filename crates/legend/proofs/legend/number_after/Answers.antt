@@ -3,6 +3,7 @@ use mathlib.Core.Path.{ap, ◌∙◌}
 use mathlib.Core.Bool.{Bool, cond}
 use Prim.Native.Nat.{◌+◌}
 use native.Mathlib.Omega.{arith}
+use Rattle.hl7.proofs.Comparing.{picked_most}
 use Rattle.legend.proofs.legend.number_after.Goals as goal
 
 pub is_staying-requires : goal.is_staying-requires
@@ -10,6 +11,6 @@ is_staying-requires c = c.requires.1
 
 pub returns : goal.returns
 returns c = (
-  λ s later m n. c.pick.ensures.0 ∙ ap (λ (b : Bool). cond b (c.args.n + 1) c.args.n) (c.is_staying.ensures s later m n),
-  omega (arith, c.pick.ensures.1),
+  λ s later m n. c.pick.ensures ∙ ap (λ (b : Bool). cond b (c.args.n + 1) c.args.n) (c.is_staying.ensures s later m n),
+  omega (arith, picked_most _ (c.args.n + 1) c.args.n _ c.pick.ensures),
 )

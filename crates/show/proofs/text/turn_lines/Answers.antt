@@ -4,7 +4,7 @@ use Rattle.show.proofs.Showing.{turning_start, turning_more, turning_done}
 use Rattle.show.proofs.text.turn_lines.Goals as goal
 
 pub loop-i-init : goal.loop-i-init
-loop-i-init c = turning_start _ _ c.pick-end.ensures.0
+loop-i-init c = turning_start _ _ c.pick-end.ensures
 
 pub bounds-text-i : goal.bounds-text-i
 bounds-text-i c = omega arith
