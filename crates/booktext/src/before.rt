@@ -30,10 +30,8 @@ fn is_standing(marks: &[usize], spot: usize) -> bool
     ensures { (ss : List Statement) → Marks ss marks.now → result ≡ stands spot ss }
 {
     let mut so = false;
-    let mut i = 0;
-    while i < marks.len() {
-        so = stands_after(so, marks[i], spot);
-        i += 1;
+    for &mark in marks {
+        so = stands_after(so, mark, spot);
     }
     so
 }

@@ -17,10 +17,8 @@ pub fn is_dropped(marks: &[usize], spot: usize) -> bool
     ensures { (ss : List Statement) → Marks ss marks.now → result ≡ dropped spot ss }
 {
     let mut any = false;
-    let mut i = 0;
-    while i < marks.len() {
-        any = any | says_of(marks[i], DROP, spot);
-        i += 1;
+    for &mark in marks {
+        any = any | says_of(mark, DROP, spot);
     }
     any
 }
@@ -85,10 +83,8 @@ pub(crate) fn settle(t: &[u8], cells: &[usize], marks: &[usize], lasting: &mut [
     ensures { Holds t.now lasting.new result (settled (map (noted t.now) cells.now)) }
 {
     let mut count = 0;
-    let mut i = 0;
-    while i < cells.len() {
+    for i in 0..cells.len() {
         count = settle_one(t, cells, marks, i, lasting, count);
-        i += 1;
     }
     count
 }

@@ -44,13 +44,10 @@ pub(crate) fn number_of(t: &[u8], names: Names, name: &[u8]) -> usize
     requires { (names.count ≤ 64) × (length names.spans ≡ 64) }
     ensures { (result ≡ number_from 1 name.now (names_in t.now names)) × (result ≤ 64) }
 {
-    let count = names.count;
-    let mut i = 0;
-    while i < count {
+    for i in 0..names.count {
         if same_bytes(name, name_at(t, names, i)) {
             return i + 1;
         }
-        i += 1;
     }
     0
 }
@@ -133,10 +130,8 @@ fn pinned_names(t: &[u8], cells: &[usize]) -> Names
     ensures { Names64 t.now result (with_names [] (pinned (map (noted t.now) cells.now))) }
 {
     let mut names = no_names();
-    let mut i = 0;
-    while i < cells.len() {
-        names = note_sets(t, names, cells[i]);
-        i += 1;
+    for &cell in cells {
+        names = note_sets(t, names, cell);
     }
     names
 }
@@ -146,10 +141,8 @@ pub(crate) fn names_of(t: &[u8], cells: &[usize]) -> Names
     ensures { Names64 t.now result (names_of (map (noted t.now) cells.now)) }
 {
     let mut names = pinned_names(t, cells);
-    let mut i = 0;
-    while i < cells.len() {
-        names = note_code(t, names, cells[i]);
-        i += 1;
+    for &cell in cells {
+        names = note_code(t, names, cell);
     }
     names
 }

@@ -20,10 +20,8 @@ pub(crate) fn count_rules(t: &[u8], cells: &[usize]) -> usize
     ensures { CountsRules (map (noted t.now) cells.now) result × (result ≤ length cells.now) }
 {
     let mut n = 0;
-    let mut i = 0;
-    while i < cells.len() {
-        n = pick(is_rule(verb_at(t, line_in(cells[i]))), n + 1, n);
-        i += 1;
+    for &cell in cells {
+        n = pick(is_rule(verb_at(t, line_in(cell))), n + 1, n);
     }
     n
 }
@@ -103,10 +101,8 @@ pub(crate) fn put_rules(out: &mut [u8], at: usize, t: &[u8], cells: &[usize], na
     ensures { Wrote out.old at (spell_all rule_bytes (rules_of (names_in t.now names) (map (noted t.now) cells.now))) out.new result }
 {
     let mut to = at;
-    let mut i = 0;
-    while i < cells.len() {
-        to = put_made(out, to, t, cells[i], names);
-        i += 1;
+    for &cell in cells {
+        to = put_made(out, to, t, cell, names);
     }
     put(out, to, b"")
 }

@@ -1,5 +1,5 @@
 // The sets of a section: rows 52 and 53, and their bytes.
-ghost use Rattle.std.specs.Prelude.{◌≡◌, true, not, ◌&&◌, [], ◌∷◌, map, ◌+◌, ◌≤◌, ◌<◌, min, length, get_or, drop};
+ghost use Rattle.std.specs.Prelude.{◌≡◌, true, not, ◌&&◌, [], ◌∷◌, map, ◌+◌, ◌≤◌, ◌<◌, length, get_or, drop};
 ghost use Rattle.hl7.specs.Bytes.{among};
 ghost use Rattle.grade.specs.Encoding.{each, spell_all, text_bytes, set_bytes, two_bytes_of};
 ghost use Rattle.ack.specs.Splice.{Wrote};
@@ -63,28 +63,8 @@ fn put_none(out: &mut [u8], run: Run) -> Run
 {
     Run {
         at: put(out, run.at, b""),
-        count: capped(run.count),
+        count: run.count.min(CODE_COUNT_LIMIT + 1),
     }
-}
-
-// A count, up to one more than a set may have.
-fn capped(n: usize) -> usize
-    ensures { result ≡ min n 1025 }
-{
-    if CODE_COUNT_LIMIT < n {
-        return CODE_COUNT_LIMIT + 1;
-    }
-    n
-}
-
-// One more, likewise.
-fn one_more(count: usize) -> usize
-    ensures { result ≡ min (count + 1) 1025 }
-{
-    if CODE_COUNT_LIMIT < count {
-        return CODE_COUNT_LIMIT + 1;
-    }
-    count + 1
 }
 
 // Whether the statement of a cell takes a code from a set.
@@ -131,7 +111,7 @@ fn put_code(
     }
     Run {
         at: put_text(out, run.at, code),
-        count: one_more(run.count),
+        count: run.count.min(CODE_COUNT_LIMIT) + 1,
     }
 }
 
@@ -238,10 +218,8 @@ fn put_added(
     ensures { Spelt (added name.now (map (noted t.now) cells.now)) out.old run out.new result }
 {
     let mut to = run;
-    let mut i = 0;
-    while i < cells.len() {
+    for i in 0..cells.len() {
         to = put_more(out, to, t, cells, marks, name, i);
-        i += 1;
     }
     put_none(out, to)
 }
@@ -329,17 +307,14 @@ pub(crate) fn put_sets(
     requires { Heads t.now heads.now rest × Marks (map (noted t.now) cells.now) marks.now × (each ready (map (noted t.now) cells.now) ≡ true) × (names.count ≤ 64) × (length names.spans ≡ 64) × (each sound (statements t.now) ≡ true) }
     ensures { Puts (first_bad_set t.now (line_of t.now head) (statements t.now) (map (noted t.now) cells.now) (names_in t.now names)) (spell_all set_bytes (map (held (statements t.now) (map (noted t.now) cells.now)) (names_in t.now names))) out.old at out.new result }
 {
-    let count = names.count;
     let mut to = at;
-    let mut i = 0;
-    while i < count {
+    for i in 0..names.count {
         let name = name_at(t, names, i);
         let one = put_set(out, to, t, heads, rest, head, cells, marks, name);
         if one.told.number != 0 {
             return one;
         }
         to = one.at;
-        i += 1;
     }
     Put {
         told: nothing(),

@@ -1,6 +1,6 @@
 -- `booktext::names::number_of` meets its contract. The invariant of its loop: the name is none of those passed. Assumes nothing.
 use mathlib.Core.Path.{◌≡◌}
-use Prim.Native.Nat.{◌+◌, ◌-◌}
+use Prim.Native.Nat.{◌+◌}
 use Rattle.booktext.specs.Lines.{number_from}
 use Rattle.booktext.specs.Standing.{names_in}
 use Rattle.booktext.proofs.Naming.{names_left}
@@ -8,6 +8,3 @@ use Rattle.booktext.proofs.names.number_of.Given as goal
 
 abbrev pub invariant-loop-i : goal.invariant-loop-i
 invariant-loop-i l = number_from 1 l.name (names_in l.t l.names) ≡ number_from (l.i + 1) l.name (names_left l.t l.names.spans l.names.count l.i)
-
-abbrev pub decreases-loop-i : goal.decreases-loop-i
-decreases-loop-i l = l.count - l.i

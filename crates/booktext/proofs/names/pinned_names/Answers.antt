@@ -2,14 +2,14 @@
 use Rattle.booktext.proofs.Naming.{leads_more, leads_over, pinned-start, pinned_step, pinned-over}
 use Rattle.booktext.proofs.names.pinned_names.Goals as goal
 
-pub loop-i-init : goal.loop-i-init
-loop-i-init c = pinned-start _ _ _ c.no_names-names.ensures
+pub loop-cell-init : goal.loop-cell-init
+loop-cell-init c = pinned-start _ _ _ c.no_names-names.ensures
 
 pub note_sets-names-requires : goal.note_sets-names-requires
-note_sets-names-requires c = c.loop-i.invariant.room
+note_sets-names-requires c = c.loop-cell.invariant.room
 
-pub loop-i-preserved : goal.loop-i-preserved
-loop-i-preserved c = leads_more c.loop-i.invariant _ (pinned_step _ _ _ c.loop-i-test.true) c.note_sets-names.ensures
+pub loop-cell-preserved : goal.loop-cell-preserved
+loop-cell-preserved c = leads_more c.loop-cell.invariant _ (pinned_step _ _ _ c.loop-cell-test.true) c.note_sets-names.ensures
 
 pub returns : goal.returns
-returns c = leads_over c.loop-i.invariant (pinned-over _ _ _ c.loop-i-test.false)
+returns c = leads_over c.loop-cell.invariant (pinned-over _ _ _ c.loop-cell-test.false)

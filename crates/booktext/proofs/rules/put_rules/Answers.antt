@@ -4,21 +4,21 @@ use Rattle.booktext.proofs.Completing.{completes_more, completes_over}
 use Rattle.booktext.proofs.Ruling.{spelt_more, spelt-over, ready_more}
 use Rattle.booktext.proofs.rules.put_rules.Goals as goal
 
-pub loop-i-init : goal.loop-i-init
-loop-i-init c = (c.requires.2, λ after r w. w)
+pub loop-cell-init : goal.loop-cell-init
+loop-cell-init c = (c.requires.2, λ after r w. w)
 
 pub put_made-to-requires : goal.put_made-to-requires
 put_made-to-requires c =
     let pre = c.requires in
-    (pre.0, pre.1, (ready_more _ _ _ c.loop-i-test.true c.loop-i.invariant.0).0)
+    (pre.0, pre.1, (ready_more _ _ _ c.loop-cell-test.true c.loop-cell.invariant.0).0)
 
-pub loop-i-preserved : goal.loop-i-preserved
-loop-i-preserved c =
-    let inv = c.loop-i.invariant in
-    ((ready_more _ _ _ c.loop-i-test.true inv.0).1, completes_more inv.1 (spelt_more _ _ _ _ c.loop-i-test.true) c.put_made-to.ensures)
+pub loop-cell-preserved : goal.loop-cell-preserved
+loop-cell-preserved c =
+    let inv = c.loop-cell.invariant in
+    ((ready_more _ _ _ c.loop-cell-test.true inv.0).1, completes_more inv.1 (spelt_more _ _ _ _ c.loop-cell-test.true) c.put_made-to.ensures)
 
 pub returns : goal.returns
-returns c = completes_over c.loop-i.invariant.1 (spelt-over _ _ _ _ c.loop-i-test.false) c.put.ensures
+returns c = completes_over c.loop-cell.invariant.1 (spelt-over _ _ _ _ c.loop-cell-test.false) c.put.ensures
 
 pub shape_of-out : goal.shape_of-out
 shape_of-out c = wrote-length (returns c)

@@ -2,16 +2,12 @@
 use mathlib.Core.Path.{◌≡◌}
 use mathlib.Core.Bool.{true}
 use mathlib.Core.List.{map}
-use Prim.Native.Nat.{◌-◌}
-use lib.ListN.{length, drop}
+use lib.ListN.{drop}
 use Rattle.grade.specs.Encoding.{each}
 use Rattle.booktext.specs.Standing.{noted, names_in, ready}
 use Rattle.booktext.proofs.Completing.{Completes}
 use Rattle.booktext.proofs.Ruling.{spelt_from}
 use Rattle.booktext.proofs.rules.put_rules.Given as goal
 
-abbrev pub invariant-loop-i : goal.invariant-loop-i
-invariant-loop-i l = (each ready (map (noted l.t) (drop l.i l.cells)) ≡ true) × Completes (spelt_from (names_in l.t l.names) l.t l.cells 0) (spelt_from (names_in l.t l.names) l.t l.cells l.i) l.initial.out l.at l.out l.to
-
-abbrev pub decreases-loop-i : goal.decreases-loop-i
-decreases-loop-i l = length l.cells - l.i
+abbrev pub invariant-loop-cell : goal.invariant-loop-cell
+invariant-loop-cell l = (each ready (map (noted l.t) (drop l.cell-index l.cells)) ≡ true) × Completes (spelt_from (names_in l.t l.names) l.t l.cells 0) (spelt_from (names_in l.t l.names) l.t l.cells l.cell-index) l.initial.out l.at l.out l.to

@@ -1,5 +1,6 @@
 -- `booktext::sets::put_code` meets its contract. Assumes nothing.
 use mathlib.Core.List.{map}
+use native.Mathlib.Omega.{arith}
 use Rattle.booktext.specs.Standing.{noted}
 use Rattle.booktext.proofs.Spelling.{spelt_as, spelt-length, code_taken, code_put}
 use Rattle.booktext.proofs.sets.put_code.Goals as goal
@@ -15,7 +16,7 @@ returns-then-is_lessened c =
 pub returns : goal.returns
 returns c =
     let entry = c.args in
-    code_put entry.name.now (map (noted entry.t.now) entry.cells.now) entry.code.now c.is_lessened.ensures c.if-is_lessened.false c.put_text.ensures c.one_more.ensures
+    code_put entry.name.now (map (noted entry.t.now) entry.cells.now) entry.code.now c.is_lessened.ensures c.if-is_lessened.false c.put_text.ensures (omega arith)
 
 pub shape_of-out-then-is_lessened : goal.shape_of-out-then-is_lessened
 shape_of-out-then-is_lessened c = spelt-length (returns-then-is_lessened c)
