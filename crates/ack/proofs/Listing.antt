@@ -1,11 +1,12 @@
 -- The ERRs of lists of findings, one after the other, and the loop that writes them from sheet to sheet. Assumes nothing.
-use mathlib.Core.Path.{◌≡◌, refl, sym, ap, ap₂, ◌∙◌}
+use mathlib.Core.Path.{◌≡◌, refl, sym, ap, ap₂, subst, ◌∙◌}
 use mathlib.Core.Bool.{Bool, true, false, cond, ◌||◌, or-false}
 use mathlib.Core.List.{List, [], ◌∷◌, ◌++◌, map, flat_map, append-nil, append_assoc}
-use Prim.Native.Nat.{ℕ, zero, suc, ◌≤◌, ◌<◌}
+use Prim.Native.Nat.{ℕ, zero, suc, ◌+◌, ◌≤◌, ◌<◌, min}
+use Rattle.std.proofs.lemmas.List.{take_more}
 use Prim.Native.Char.{code}
 use native.Mathlib.Omega.{arith}
-use lib.ListN.{length}
+use lib.ListN.{length, get_or, take}
 use Rattle.hl7.specs.declared.place.Delims.{Delims}
 use Rattle.grade.specs.Header.{header_finding, header_findings, any_wrong}
 use Rattle.grade.specs.declared.header.Header.{Header}
@@ -31,12 +32,27 @@ use Rattle.ack.specs.Layout.{verdict, err_line, ended}
 use Rattle.ack.specs.Pieces.{errs, Puts}
 use Rattle.ack.specs.declared.errs.Put.{Put}
 use Rattle.ack.proofs.Sizes.{errs-short}
-use Rattle.ack.proofs.Writing.{◌then◌, wrote_as, wrote-length}
+use Rattle.ack.proofs.Writing.{◌then◌, wrote_as, wrote_none, wrote-length}
 
 pub errs-append : (d : Delims) (l k : List Finding) → errs d l ++ errs d k ≡ errs d (l ++ k)
 unfolding errs flat_map
 errs-append d [] k = refl
 errs-append d (f ∷ l) k = append_assoc (ended (err_line d f)) (errs d l) (errs d k) ∙ ap (λ (t : List ℕ). ended (err_line d f) ++ t) (errs-append d l k)
+
+-- before the first of them, and after one more
+pub errs-begun : (d : Delims) (list : List Finding) {o : List ℕ} {at : ℕ} → length o < limit → at ≤ limit → Wrote o at (errs d (take 0 list)) o at
+unfolding errs flat_map
+errs-begun d list {o} {at} room near =
+    let kept : min at limit ≡ at = omega arith in
+    subst (Wrote o at [] o) kept (wrote_none o at room)
+
+pub errs_more : (d : Delims) (list : List Finding) (i : ℕ) {o now mid : List ℕ} {from at next : ℕ} (none : Finding) → i < length list
+    → Wrote o from (errs d (take i list)) now at → Wrote now at (ended (err_line d (get_or list i none))) mid next → Wrote o from (errs d (take (i + 1) list)) mid next
+unfolding errs flat_map
+errs_more d list i none less before one =
+    let f = get_or list i none in
+    wrote_as (before then one)
+    (ap (λ (t : List ℕ). errs d (take i list) ++ t) (sym (append-nil (ended (err_line d f)))) ∙ errs-append d (take i list) (f ∷ []) ∙ ap (errs d) (sym (take_more list i none less)))
 
 -- ---- ERRs that were written from the start on: where they end is how long they are
 pub whole_is : (d : Delims) (findings : List Finding) {o p : List ℕ} {at : ℕ} → Wrote o 0 (errs d findings) p at → length findings ≤ finding_limit → at ≡ length (errs d findings)

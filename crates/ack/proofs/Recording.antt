@@ -1,16 +1,14 @@
 -- What the loops over records keep: what is left to weigh, or to write, completes the whole. Assumes nothing.
-use mathlib.Core.Path.{◌≡◌, refl, sym, ap, subst, subst₂, ◌∙◌}
+use mathlib.Core.Path.{◌≡◌, refl, sym, ap, subst, ◌∙◌}
 use mathlib.Core.Bool.{Bool, true, false, cond}
-use Prim.Native.Nat.{ℕ, zero, suc, ◌+◌, ◌-◌, ◌<◌, ◌≤◌, min, zero-le}
+use Prim.Native.Nat.{ℕ, zero, suc, ◌+◌, ◌<◌, ◌≤◌, min, zero-le}
 use native.Mathlib.Omega.{arith}
 use mathlib.Core.List.{List, [], ◌++◌, flat_map}
 use lib.Dec.{T, leb, leb→le}
 use lib.ListN.{length, get_or, take}
-use lib.Seq.{slice, slice-cons, slice_empty, length-take-le, take_all}
+use lib.Seq.{slice, slice-cons, slice_empty, length-take-le}
 use Rattle.hl7.specs.declared.place.Delims.{Delims}
-use Rattle.grade.specs.Sheet.{record_at, records_from}
 use Rattle.grade.specs.declared.finding.Finding.{Finding}
-use Rattle.grade.proofs.Sheets.{records_length, records_at}
 use Rattle.ack.specs.Layout.{err_line, ended}
 use Rattle.ack.specs.Pieces.{errs}
 use Rattle.ack.specs.Splice.{limit, Wrote}
@@ -68,32 +66,6 @@ module _ (d : Delims) (xs : List Finding) (n : ℕ) (o : List ℕ) (from : ℕ) 
       let small : length now < limit = omega (arith, h.long) in
       let kept : min at limit ≡ at = omega (arith, h.near) in
       h.rest now at (wrote_as (subst (Wrote now at [] now) kept (wrote_none now at small)) (sym (errs-none d xs i n over)))
-
--- ---- the same, by the lines of a sheet
-module _ (d : Delims) (lines : List ℕ) (n : ℕ) (o : List ℕ) (from : ℕ) where
-  abbrev pub Notes : (i at : ℕ) → (now : List ℕ) → Type 0
-  Notes i at now = (i ≤ n) × Writes d (records_from lines 0 n) n o from (n - i) i at now
-
-  as_left : {k l i j at : ℕ} {now : List ℕ} → k ≡ l → i ≡ j → Writes d (records_from lines 0 n) n o from k i at now → Writes d (records_from lines 0 n) n o from l j at now
-  as_left {at = at} {now} e f w = subst₂ (λ (k i : ℕ). Writes d (records_from lines 0 n) n o from k i at now) e f w
-
-  pub notes_start : from ≤ limit → Notes 0 from o
-  notes_start near = (omega arith, as_left (omega arith) refl (writes_start d (records_from lines 0 n) n o from near))
-
-  pub notes_one : (i at : ℕ) (now mid : List ℕ) (r : ℕ) {f : Finding} → i < n → f ≡ record_at lines i → Notes i at now → Wrote now at (ended (err_line d f)) mid r → Notes (i + 1) r mid
-  notes_one i at now mid r less is h one =
-      let first : 0 + i ≡ i = omega arith in
-      let same = is ∙ ap (record_at lines) (sym first) ∙ sym (records_at lines 0 n i blank less) in (
-        omega (arith, less),
-        as_left refl (omega arith)
-            (writes_one d (records_from lines 0 n) n o from (n - (i + 1)) i at now mid r less (omega (arith, records_length lines 0 n))
-            (as_left (omega (arith, less)) refl h.1) (subst (λ (x : Finding). Wrote now at (ended (err_line d x)) mid r) same one)),
-      )
-
-  pub notes_done : (i at : ℕ) (now : List ℕ) → length o < limit → n ≤ i → Notes i at now → Wrote o from (errs d (records_from lines 0 n)) now at
-  notes_done i at now room over h =
-      wrote_as (writes_done d (records_from lines 0 n) n o from i at now room (as_left (omega (arith, over)) refl h.1))
-      (ap (errs d) (take_all n (records_from lines 0 n) (omega (arith, records_length lines 0 n))))
 
 -- ---- how many records are looked at
 -- no more than the table has

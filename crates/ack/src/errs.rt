@@ -1,6 +1,6 @@
 // The ERR segments of findings, one for each. What does not fit is counted all the same, so that a run without room measures.
-ghost use Rattle.std.specs.Prelude.{◌≡◌, false, ◌*◌, ◌≤◌, length};
-ghost use Rattle.grade.specs.Sheet.{records_from, Sheeted};
+ghost use Rattle.std.specs.Prelude.{◌≡◌, false, ◌≤◌};
+ghost use Rattle.grade.specs.Sheet.{Sheeted};
 ghost use Rattle.ack.specs.Splice.{Wrote, limit};
 ghost use Rattle.ack.specs.Layout.{err_line, ended};
 ghost use Rattle.ack.specs.Pieces.{errs, Puts};
@@ -9,7 +9,7 @@ use crate::layout::put_err;
 use crate::measure::err_length;
 use crate::output::advanced;
 use grade::finding::Finding;
-use grade::sheet::{Sheet, next_sheet, record_at};
+use grade::sheet::{Sheet, next_sheet};
 use hl7::place::Delims;
 
 // Where ERRs end, and whether an E or W is among their findings.
@@ -34,16 +34,14 @@ pub(crate) fn put_finding(out: &mut [u8], at: usize, d: Delims, finding: Finding
     put_err(out, at, marks, found)
 }
 
-// The ERRs of the findings on so many lines.
-fn put_lines(out: &mut [u8], from: usize, d: Delims, lines: &[usize], count: usize) -> usize
-    requires { (from ≤ limit) × (2 * count ≤ length lines.now) }
-    ensures { Wrote out.old from (errs d (records_from lines.now 0 count)) out.new result }
+// The ERRs of findings, one after the other.
+pub(crate) fn put_each(out: &mut [u8], from: usize, d: Delims, findings: &[Finding]) -> usize
+    requires { from ≤ limit }
+    ensures { Wrote out.old from (errs d findings.now) out.new result }
 {
     let mut at = from;
-    let mut i: usize = 0;
-    while i < count {
-        at = put_finding(out, at, d, record_at(lines, i));
-        i += 1;
+    for finding in findings {
+        at = put_finding(out, at, d, *finding);
     }
     at
 }
@@ -57,8 +55,7 @@ pub(crate) fn put_errs(out: &mut [u8], from: usize, m: &[u8], book: &[u8], first
     let mut sheet = first;
     let mut at = from;
     loop {
-        let lines = sheet.lines;
-        at = put_lines(out, at, d, &lines, sheet.used);
+        at = put_each(out, at, d, &sheet.lines[..sheet.used]);
         if sheet.ended {
             return Put {
                 at,

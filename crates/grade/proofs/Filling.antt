@@ -21,7 +21,7 @@ pub record Ahead (m b : List ℕ) (s : Sheet) (left : List Finding) : Type 0 whe
 
 module _ {m b : List ℕ} {s : Sheet} {left : List Finding} (h : Ahead m b s left) where
   pub length-left : length left ≡ s.used + length (to_come m b s)
-  length-left = ap length h.all ∙ length-append (held s) (to_come m b s) ∙ ap (λ (k : ℕ). k + length (to_come m b s)) (held-length s)
+  length-left = ap length h.all ∙ length-append (held s) (to_come m b s) ∙ ap (λ (k : ℕ). k + length (to_come m b s)) (held-length s h.sheeted)
 
   -- where something is left, something is on the sheet
   pub some_used : 1 ≤ length left → 1 ≤ s.used
@@ -65,7 +65,7 @@ module _ {m b : List ℕ} {first : Sheet} {count : ℕ} {ys : List Finding} wher
         long = length-sets ts at (held s) ∙ h.long;
         ahead = λ _. record { sheeted = got.sheeted; whole = got.briefly ∙ here.whole; all = got.all here.whole };
         answer =
-            ap (λ (k : ℕ). sets (sets ts at (held s)) (at + k) (to_come m b s)) (sym (held-length s)) ∙ sym (sets-append (held s) (to_come m b s) ts at)
+            ap (λ (k : ℕ). sets (sets ts at (held s)) (at + k) (to_come m b s)) (sym (held-length s here.sheeted)) ∙ sym (sets-append (held s) (to_come m b s) ts at)
             ∙ ap (λ (l : List Finding). sets ts at l) (sym here.all) ∙ h.answer;
       }
 

@@ -1,18 +1,18 @@
 -- Findings on the lines of a sheet, and what is known after one more of them. Assumes nothing.
-use Prim.Native.Nat.{ℕ, zero, suc, ◌+◌, ◌*◌, ◌≤◌, ◌<◌}
-use mathlib.Core.Path.{◌≡◌, refl, sym, ap, ap₂, subst, ◌∙◌}
+use Prim.Native.Nat.{ℕ, ◌+◌, ◌≤◌, ◌<◌}
+use mathlib.Core.Path.{◌≡◌, refl, sym, ap, subst, ◌∙◌}
 use mathlib.Core.Bool.{Bool, true, false, cond, ◌&&◌, ◌||◌, or_assoc, true≢false}
 use mathlib.Core.List.{List, [], ◌∷◌, ◌++◌, append_assoc}
 use native.Mathlib.Omega.{arith}
-use lib.ListN.{length, get_or, set, replicate, length-set, length-replicate, length-append}
-use lib.Seq.{get_or-set_same, get_or-set_other}
+use lib.ListN.{length, replicate, length-replicate, length-append}
+use lib.Seq.{length-take-le}
 use Rattle.hl7.specs.Place.{delims_of}
 use Rattle.grade.specs.Limits.{field_places, name_places}
 use Rattle.grade.specs.Deciding.{has, is_fault}
 use Rattle.grade.specs.Order.{may_follow, out_of_order}
 use Rattle.grade.specs.Standing.{Holds}
 use Rattle.grade.specs.Rest.{Given, rest, findings_in, cursor_at_start}
-use Rattle.grade.specs.Sheet.{line_count, finding_limit, record_of, record_at, records_from, held, to_come, behind, Ready, Gets, Lists}
+use Rattle.grade.specs.Sheet.{line_count, finding_limit, held, to_come, behind, Ready, Sheeted, Gets, Lists}
 use Rattle.grade.specs.declared.finding.Finding.{Finding}
 use Rattle.grade.specs.declared.step.Terms.{Terms}
 use Rattle.grade.specs.declared.step.Cursor.{Cursor}
@@ -20,49 +20,9 @@ use Rattle.grade.specs.declared.sheet.Reached.{Reached}
 use Rattle.grade.specs.declared.sheet.Sheet.{Sheet}
 use Rattle.grade.proofs.Stepping.{start_left, start-stands, start-all}
 
--- one line more
-records_last : (lines : List ℕ) (i k : ℕ) → records_from lines i (suc k) ≡ records_from lines i k ++ (record_at lines (i + k) ∷ [])
-unfolding records_from
-records_last lines i zero = ap (λ (n : ℕ). record_at lines n ∷ []) (omega arith)
-records_last lines i (suc k) = ap (λ (l : List Finding). record_at lines i ∷ l) (records_last lines (suc i) k ∙ ap (λ (n : ℕ). records_from lines (suc i) k ++ (record_at lines n ∷ [])) (omega arith))
-
-pub records_length : (lines : List ℕ) (i k : ℕ) → length (records_from lines i k) ≡ k
-unfolding records_from
-records_length lines i zero = refl
-records_length lines i (suc k) = ap suc (records_length lines (suc i) k)
-
--- the one on a line
-pub records_at : (lines : List ℕ) (i k j : ℕ) (none : Finding) → j < k → get_or (records_from lines i k) j none ≡ record_at lines (i + j)
-unfolding records_from
-records_at lines i zero j none h = absurd (omega arith)
-records_at lines i (suc k) zero none h = ap (record_at lines) (omega arith)
-records_at lines i (suc k) (suc j) none h = records_at lines (suc i) k j none (omega arith) ∙ ap (record_at lines) (omega arith)
-
-pub held-length : (s : Sheet) → length (held s) ≡ s.used
+pub held-length : {m b : List ℕ} (s : Sheet) → Sheeted m b s → length (held s) ≡ s.used
 unfolding held
-held-length s = records_length s.lines 0 s.used
-
-module _ (lines : List ℕ) (n x y : ℕ) where
-  abbrev noted : List ℕ
-  noted = set (set lines (2 * n) x) (2 * n + 1) y
-
-  other : (j : ℕ) → j < 2 * n → get_or noted j 0 ≡ get_or lines j 0
-  other j h = get_or-set_other (set lines (2 * n) x) (2 * n + 1) j y 0 (λ e. absurd (omega (arith, e))) ∙ get_or-set_other lines (2 * n) j x 0 (λ e. absurd (omega (arith, e)))
-
-  -- the lines before it stay
-  records_kept : (i k : ℕ) → i + k ≤ n → records_from noted i k ≡ records_from lines i k
-  unfolding records_from
-  records_kept i zero h = refl
-  records_kept i (suc k) h =
-      ap₂ (λ (f : Finding) (l : List Finding). f ∷ l) (ap₂ record_of (other (2 * i) (omega arith)) (other (2 * i + 1) (omega arith))) (records_kept (suc i) k (omega arith))
-
-  -- a record noted on the line behind those that are used
-  pub records_noted : 2 * n + 1 < length lines → records_from noted 0 (suc n) ≡ records_from lines 0 n ++ (record_of x y ∷ [])
-  records_noted h =
-      let front : get_or noted (2 * n) 0 ≡ x = get_or-set_other (set lines (2 * n) x) (2 * n + 1) (2 * n) y 0 (λ e. absurd (omega (arith, e))) ∙ get_or-set_same lines (2 * n) x 0 (omega arith) in
-      let back : get_or noted (2 * n + 1) 0 ≡ y = get_or-set_same (set lines (2 * n) x) (2 * n + 1) y 0 (omega (arith, length-set lines (2 * n) x)) in
-      let line : 0 + n ≡ n = omega arith in
-      records_last noted 0 n ∙ ap (λ (i : ℕ). records_from noted 0 n ++ (record_at noted i ∷ [])) line ∙ ap₂ (λ (l : List Finding) (f : Finding). l ++ (f ∷ [])) (records_kept 0 n (omega arith)) (ap₂ record_of front back)
+held-length s h = length-take-le s.used s.lines (omega (arith, h.fits, h.ready.lined))
 
 -- ---- what the findings have
 pub has-append : (test : Finding → Bool) (l k : List Finding) → has test (l ++ k) ≡ (has test l || has test k)
@@ -106,7 +66,7 @@ pub gets_none : (m b : List ℕ) (s : Sheet) → Ready m b s → s.ended ≡ tru
       starts = s.starts;
       counts = s.counts;
     })
-unfolding held records_from to_come
+unfolding held to_come
 gets_none m b s h over = record {
   sheeted = record {
     ready = record { lined = h.lined; wide = h.wide; given = h.given; stands = h.stands };
@@ -121,7 +81,7 @@ gets_none m b s h over = record {
 }
 
 -- what the grader reached from one sheet on is the next one
-pub gets_reached : (m b : List ℕ) (s : Sheet) {out : ℕ → ℕ → Bool} {starts counts lines : List ℕ} {r : Reached} → Ready m b s → s.ended ≡ false → out ≡ out_of_order may_follow
+pub gets_reached : (m b : List ℕ) (s : Sheet) {out : ℕ → ℕ → Bool} {starts counts : List ℕ} {lines : List Finding} {r : Reached} → Ready m b s → s.ended ≡ false → out ≡ out_of_order may_follow
     → Lists out s.by.d m b s.by.section false s.brief s.fault (rest out s.by.d m b s.by.section s.counts s.cursor) starts counts lines r
     → length lines ≡ length s.lines → length starts ≡ length s.starts
     → Gets m b s.by s.brief s.fault (to_come m b s) (record {
@@ -161,7 +121,7 @@ behind-few m b s goes_on same few =
     rw same (omega (arith, few, length-append (held s) (to_come m b s), ap (λ (e : Bool). length (cond e [] (rest (out_of_order may_follow) s.by.d m b s.by.section s.counts s.cursor))) goes_on))
 
 -- what is counted and not noted: all of these
-pub all-counted : (m b : List ℕ) (s : Sheet) {out : ℕ → ℕ → Bool} {seen : Bool} {starts counts lines : List ℕ} {r : Reached} → s.ended ≡ false → out ≡ out_of_order may_follow
+pub all-counted : (m b : List ℕ) (s : Sheet) {out : ℕ → ℕ → Bool} {seen : Bool} {starts counts : List ℕ} {lines : List Finding} {r : Reached} → s.ended ≡ false → out ≡ out_of_order may_follow
     → Lists out s.by.d m b s.by.section true false seen (rest out s.by.d m b s.by.section s.counts s.cursor) starts counts lines r
     → r.used ≡ length (to_come m b s)
 unfolding to_come
@@ -177,7 +137,7 @@ all-counted m b s {out} {counts = counts} {r = r} goes_on same w =
     by true e = omega (arith, w.counted refl, ap length (none e))
 
 -- ---- the first sheet
-module _ (m b : List ℕ) (by : Terms) (brief : Bool) {c : Cursor} (sets links : List ℕ) (holds : Holds b by.section)
+module _ (m b : List ℕ) (by : Terms) (brief : Bool) {c : Cursor} (sets links : List ℕ) (lines : List Finding) (holds : Holds b by.section)
     (begins : c ≡ cursor_at_start by.header by.section.rule_count (length m)) where
   -- before anything was written on it
   abbrev pub unwritten : Sheet
@@ -185,7 +145,7 @@ module _ (m b : List ℕ) (by : Terms) (brief : Bool) {c : Cursor} (sets links :
       record {
         by = by;
         brief = brief;
-        lines = replicate (2 * line_count) 0;
+        lines = lines;
         used = 0;
         fault = false;
         ended = false;
@@ -196,9 +156,9 @@ module _ (m b : List ℕ) (by : Terms) (brief : Bool) {c : Cursor} (sets links :
         counts = replicate name_places 0;
       }
 
-  pub unwritten-ready : Given m b by.section sets links → Ready m b unwritten
-  unwritten-ready given = record {
-    lined = length-replicate {A = ℕ} (2 * line_count) 0;
+  pub unwritten-ready : length lines ≡ line_count → Given m b by.section sets links → Ready m b unwritten
+  unwritten-ready lined given = record {
+    lined = lined;
     wide = length-replicate {A = ℕ} field_places 0;
     given = given;
     stands = λ _. start-stands may_follow by.d m b by.section holds by.header begins (replicate field_places 0);

@@ -1,26 +1,19 @@
--- A run of stores into a list is the same as two runs, one after the other. Assumes nothing.
+-- Stores into a list: two runs of them are one, and a run is a write to a part. Assumes nothing.
 use mathlib.Core.Path.{◌≡◌, sym, ◌∙◌, ap, ap₂}
-use Prim.Native.Nat.{ℕ, suc, ◌+◌, ◌-◌, ◌<◌}
-use native.Mathlib.Omega.{arith}
+use Prim.Native.Nat.{ℕ, suc, ◌+◌, ◌≤◌}
 use native.Mathlib.Nat.{add-zero, add-suc, suc-add}
-use mathlib.Core.List.{List, [], ◌∷◌, ◌++◌}
-use lib.ListN.{length, set}
-use lib.Seq.{sets}
-use Rattle.grade.specs.declared.finding.Finding.{Finding}
-use Rattle.grade.specs.Sheet.{record_at, records_from}
+use mathlib.Core.List.{List, [], ◌∷◌, ◌++◌, append_assoc}
+use lib.ListN.{length, take, drop, set}
+use lib.Seq.{sets, sets-eq, drop-drop}
+use borrow.Rule.Slice.PartMut.{put_mid}
 
 pub sets-append : {X : Type 0} (u w l : List X) (i : ℕ) → sets l i (u ++ w) ≡ sets (sets l i u) (i + length u) w
 sets-append [] w l i = ap (λ (k : ℕ). sets l k w) (sym (add-zero i))
 sets-append (a ∷ u) w l i =
     sets-append u w (set l i a) (suc i) ∙ ap (λ (k : ℕ). sets (sets l i (a ∷ u)) k w) (suc-add i (length u) ∙ sym (add-suc i (length u)))
 
--- ---- a line's record is stored, and those of the lines behind it are left
-pub stored_one : (ts : List Finding) (lines : List ℕ) (from i count : ℕ) → i < count →
-    sets ts (from + i) (records_from lines i (count - i)) ≡ sets (set ts (from + i) (record_at lines i)) (from + (i + 1)) (records_from lines (i + 1) (count - (i + 1)))
-unfolding records_from
-stored_one ts lines from i count h =
-    let left : ℕ = count - (i + 1) in
-    let one : count - i ≡ suc left = omega arith in
-    let next : suc (from + i) ≡ from + (i + 1) = omega arith in
-    let line : suc i ≡ i + 1 = omega arith in
-    ap (λ (n : ℕ). sets ts (from + i) (records_from lines i n)) one ∙ ap₂ (λ (j k : ℕ). sets (set ts (from + i) (record_at lines i)) j (records_from lines k left)) next line
+-- the part of `l` from i on, of so many elements, now holds vs
+pub sets-part : {X : Type 0} (l vs ys : List X) (i k : ℕ) → ys ≡ vs → k ≡ length vs → i + length vs ≤ length l → put_mid i k l ys ≡ sets l i vs
+sets-part {X} l vs ys i k same long fits =
+    ap₂ (λ (part : List X) (n : ℕ). put_mid i n l part) same long ∙ ap (λ (rest : List X). take i l ++ (vs ++ rest)) (drop-drop (length vs) i l)
+    ∙ sym (append_assoc (take i l) vs (drop (i + length vs) l)) ∙ sym (sets-eq vs l i fits)

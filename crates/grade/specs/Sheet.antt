@@ -1,6 +1,6 @@
 -- Inner: only contracts inside the crates use these names; nothing here has to be believed.
 -- A message's findings sheet by sheet. Assumes nothing.
-use Rattle.std.specs.Prelude.{ℕ, zero, suc, ◌+◌, ◌*◌, ◌/◌, ◌%◌, ◌≤◌, ◌<◌, ◌^◌, ◌≡◌, Bool, false, cond, ◌||◌, List, [], ◌∷◌, ◌++◌, length, get_or}
+use Rattle.std.specs.Prelude.{ℕ, ◌+◌, ◌≤◌, ◌<◌, ◌^◌, ◌≡◌, Bool, false, cond, ◌||◌, List, [], ◌++◌, length, take}
 use Rattle.hl7.specs.declared.place.Delims.{Delims}
 use Rattle.grade.specs.Limits.{field_places}
 use Rattle.grade.specs.Deciding.{has, is_fault}
@@ -20,34 +20,10 @@ line_count = 64
 abbrev pub finding_limit : ℕ
 finding_limit = 2 ^ 40
 
--- ---- a line
--- the record whose first eight bytes are the one number, and whose last eight are the other
-unfoldable pub record_of : (front back : ℕ) → Finding
-record_of front back =
-    record {
-      ordinal = front % 4294967296;
-      repetition = front / 4294967296;
-      rule = back % 65536;
-      code = back / 65536 % 65536;
-      name = back / 4294967296 % 256;
-      field = back / 1099511627776 % 256;
-      component = back / 281474976710656 % 256;
-      severity = back / 72057594037927936;
-    }
-
--- the record on line i, of two numbers each
-abbrev pub record_at : List ℕ → ℕ → Finding
-record_at lines i = record_of (get_or lines (2 * i) 0) (get_or lines (2 * i + 1) 0)
-
--- those on so many lines from line i on
-unfoldable pub records_from : List ℕ → ℕ → ℕ → List Finding
-records_from lines i zero = []
-records_from lines i (suc k) = record_at lines i ∷ records_from lines (suc i) k
-
 -- ---- a sheet
 -- its findings
 unfoldable pub held : Sheet → List Finding
-held s = records_from s.lines 0 s.used
+held s = take s.used s.lines
 
 -- those behind it: none where the sheets have ended
 unfoldable pub to_come : (m b : List ℕ) → Sheet → List Finding
@@ -55,7 +31,7 @@ to_come m b s = cond s.ended [] (rest (out_of_order may_follow) s.by.d m b s.by.
 
 -- the grader can go on behind it
 pub record Ready (m b : List ℕ) (s : Sheet) : Type 0 where
-  pub lined : length s.lines ≡ 2 * line_count
+  pub lined : length s.lines ≡ line_count
   pub wide : length s.starts ≡ field_places
   pub given : Given m b s.by.section s.sets s.links
   pub stands : s.ended ≡ false → Stands s.by.d m b s.by.section s.starts s.counts s.cursor
@@ -79,11 +55,11 @@ pub record Gets (m b : List ℕ) (by : Terms) (brief seen : Bool) (left : List F
 abbrev pub behind : (ℕ → ℕ → Bool) → Delims → (m b : List ℕ) → Section → (counts : List ℕ) → Reached → List Finding
 behind out d m b s counts r = cond r.ended [] (rest out d m b s counts r.cursor)
 
-pub record Lists (out : ℕ → ℕ → Bool) (d : Delims) (m b : List ℕ) (s : Section) (whole brief seen : Bool) (left : List Finding) (starts counts lines : List ℕ) (r : Reached) : Type 0 where
+pub record Lists (out : ℕ → ℕ → Bool) (d : Delims) (m b : List ℕ) (s : Section) (whole brief seen : Bool) (left : List Finding) (starts counts : List ℕ) (lines : List Finding) (r : Reached) : Type 0 where
   pub stands : r.ended ≡ false → Stands d m b s starts counts r.cursor
   pub goes : r.ended ≡ false → (whole ≡ false) × (1 ≤ r.used)
   pub fits : whole ≡ false → r.used ≤ line_count
-  pub all : whole ≡ false → brief ≡ false → left ≡ records_from lines 0 r.used ++ behind out d m b s counts r
+  pub all : whole ≡ false → brief ≡ false → left ≡ take r.used lines ++ behind out d m b s counts r
   pub counted : brief ≡ false → r.used + length (behind out d m b s counts r) ≡ length left
   pub told : (r.fault || has is_fault (behind out d m b s counts r)) ≡ (seen || has is_fault left)
   pub less : r.ended ≡ false → length (behind out d m b s counts r) < length left

@@ -15,3 +15,15 @@ pub struct Finding {
     pub component: u8,
     pub severity: u8,
 }
+
+// What a place for a record holds before one is set.
+pub const BLANK: Finding = Finding {
+    ordinal: 0,
+    repetition: 0,
+    rule: 0,
+    code: 0,
+    name: 0,
+    field: 0,
+    component: 0,
+    severity: 0,
+};

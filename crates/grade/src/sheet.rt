@@ -1,6 +1,6 @@
 // A message's findings, sheet by sheet: as many of them as a sheet has lines, and where the grader stands behind them. Every call goes by these sheets, so
 // that the grader is asked from one place: with a second one its cursor would go through memory at each finding.
-ghost use Rattle.std.specs.Prelude.{◌≡◌, true, false, [], ◌∷◌, ◌++◌, ◌≤◌, ◌<◌, ◌+◌, ◌*◌, length};
+ghost use Rattle.std.specs.Prelude.{◌≡◌, true, false, [], ◌∷◌, ◌++◌, ◌≤◌, ◌<◌, ◌+◌, length, take};
 ghost use Rattle.hl7.specs.Place.{delims_of};
 ghost use Rattle.hl7.specs.Refusals.{message_limit};
 ghost use Rattle.grade.specs.Deciding.{is_fault};
@@ -8,9 +8,9 @@ ghost use Rattle.grade.specs.Limits.{field_places};
 ghost use Rattle.grade.specs.Order.{out_of_order, table_says};
 ghost use Rattle.grade.specs.Standing.{Holds};
 ghost use Rattle.grade.specs.Rest.{Given, Stands, rest, findings_in};
-ghost use Rattle.grade.specs.Sheet.{line_count, finding_limit, record_of, record_at, records_from, to_come, Ready, Gets, Lists};
+ghost use Rattle.grade.specs.Sheet.{line_count, finding_limit, to_come, Ready, Gets, Lists};
 
-use crate::finding::Finding;
+use crate::finding::{BLANK, Finding};
 use crate::header::none_wrong;
 use crate::limits::{FIELD_PLACES, LINKS, NAME_PLACES, SET_PLACES};
 use crate::lookup::{links_of, sets_of};
@@ -19,25 +19,16 @@ use crate::step::{Cursor, Terms, next, start};
 use crate::walk::Section;
 use hl7::place::delims_of;
 
-// So many findings are on a sheet, each as two numbers.
-const LINES: usize = 64;
+// So many findings are on a sheet.
+pub const LINES: usize = 64;
 
-pub const NUMBERS: usize = 128;
-
-// A finding's record as two numbers: its first eight bytes and its last.
-#[derive(Clone, Copy)]
-struct Halves {
-    front: usize,
-    back: usize,
-}
-
-// In brief the sheets end at the first E or W. A fault is one of this sheet's findings or of a sheet's before it. What the grader was lent stands here
+// The first lines hold its findings, as many as are used. In brief the sheets end at the first E or W. A fault is one of this sheet's findings or of a sheet's before it. What the grader was lent stands here
 // too, for the sheet after this one.
 #[derive(Clone, Copy)]
 pub struct Sheet {
     pub by: Terms,
     pub brief: bool,
-    pub lines: [usize; NUMBERS],
+    pub lines: [Finding; LINES],
     pub used: usize,
     pub fault: bool,
     pub ended: bool,
@@ -64,51 +55,14 @@ pub fn is_fault(finding: Finding) -> bool
     (finding.severity == b'E') | (finding.severity == b'W')
 }
 
-fn halves_of(f: Finding) -> Halves
-    ensures { record_of result.front result.back ≡ f }
-{
-    let last = f.component as usize + 256 * (f.severity as usize);
-    let place = f.name as usize + 256 * (f.field as usize + 256 * last);
-    Halves {
-        front: f.ordinal as usize + 4294967296 * (f.repetition as usize),
-        back: f.rule as usize + 65536 * (f.code as usize + 65536 * place),
-    }
-}
-
-fn record_of(front: usize, back: usize) -> Finding
-    ensures { result ≡ record_of front back }
-{
-    Finding {
-        ordinal: (front % 4294967296) as u32,
-        repetition: (front / 4294967296) as u32,
-        rule: (back % 65536) as u16,
-        code: (back / 65536 % 65536) as u16,
-        name: (back / 4294967296 % 256) as u8,
-        field: (back / 1099511627776 % 256) as u8,
-        component: (back / 281474976710656 % 256) as u8,
-        severity: (back / 72057594037927936) as u8,
-    }
-}
-
-// The finding on line i.
-pub fn record_at(lines: &[usize], i: usize) -> Finding
-    requires { 2 * i + 1 < length lines.now }
-    ensures { result ≡ record_at lines.now i }
-{
-    record_of(lines[2 * i], lines[2 * i + 1])
-}
-
 // One finding more, on the line after those that are used; where all are only counted, none is noted.
-fn note(whole: bool, lines: &mut [usize], used: usize, finding: Finding)
-    requires { whole ≡ false → 2 * used + 1 < length lines.old }
-    ensures { whole ≡ false → records_from lines.new 0 (used + 1) ≡ records_from lines.old 0 used ++ (finding ∷ []) }
+fn note(whole: bool, lines: &mut [Finding], used: usize, finding: Finding)
+    requires { whole ≡ false → used < length lines.old }
+    ensures { whole ≡ false → take (used + 1) lines.new ≡ take used lines.old ++ (finding ∷ []) }
 {
-    if whole {
-        return;
+    if !whole {
+        lines[used] = finding;
     }
-    let halves = halves_of(finding);
-    lines[2 * used] = halves.front;
-    lines[2 * used + 1] = halves.back;
 }
 
 // The next findings by a follow table, until the sheet is full or nothing more comes; or all of them, which are then counted and not noted.
@@ -125,9 +79,9 @@ pub(crate) fn list_by(
     counts: &mut [u32; NAME_PLACES],
     from: Cursor,
     seen: bool,
-    lines: &mut [usize],
+    lines: &mut [Finding],
 ) -> Reached
-    requires { Given m.now book.now by.section sets.now links.now × Stands by.d m.now book.now by.section starts.old counts.old from × (field_places ≤ length starts.old) × (whole ≡ false → 2 * line_count ≤ length lines.old) × (whole ≡ true → length (rest (out_of_order (table_says table.now)) by.d m.now book.now by.section counts.old from) ≤ finding_limit) }
+    requires { Given m.now book.now by.section sets.now links.now × Stands by.d m.now book.now by.section starts.old counts.old from × (field_places ≤ length starts.old) × (whole ≡ false → line_count ≤ length lines.old) × (whole ≡ true → length (rest (out_of_order (table_says table.now)) by.d m.now book.now by.section counts.old from) ≤ finding_limit) }
     ensures { Lists (out_of_order (table_says table.now)) by.d m.now book.now by.section whole brief seen (rest (out_of_order (table_says table.now)) by.d m.now book.now by.section counts.old from) starts.new counts.new lines.new result }
 {
     let mut cursor = from;
@@ -223,7 +177,7 @@ pub(crate) fn no_sheet() -> Sheet {
     Sheet {
         by,
         brief: false,
-        lines: [0; NUMBERS],
+        lines: [BLANK; LINES],
         used: 0,
         fault: false,
         ended: true,
@@ -246,7 +200,7 @@ pub fn first_sheet(brief: bool, by: Terms, m: &[u8], book: &[u8]) -> Sheet
     let links = links_of(book, by.section);
     let mut starts = [0; FIELD_PLACES];
     let mut counts = [0; NAME_PLACES];
-    let mut lines = [0; NUMBERS];
+    let mut lines = [BLANK; LINES];
     let reached = list_by(
         &table,
         false,

@@ -3,16 +3,16 @@ ghost use Rattle.std.specs.Prelude.{◌≡◌, false, ◌≤◌, ◌<◌, ◌+�
 ghost use Rattle.std.proofs.lemmas.List.Edits.{sets};
 ghost use Rattle.grade.specs.Admission.{paper};
 ghost use Rattle.grade.specs.Table.{grade_into};
-ghost use Rattle.grade.specs.Sheet.{line_count, finding_limit, records_from, held, Sheeted};
+ghost use Rattle.grade.specs.Sheet.{line_count, finding_limit, held, Sheeted};
 ghost use Rattle.grade.specs.Filling.{all_from, Fills, plan_none, plan_for, Plans};
 
 use crate::admit::{Admitted, admit};
 use crate::book::index_book;
-use crate::finding::Finding;
+use crate::finding::{BLANK, Finding};
 use crate::limits::SECTION_LIMIT;
 use crate::order::follow_table;
 use crate::refusal::Answer;
-use crate::sheet::{Sheet, first_sheet, list_by, next_sheet, no_sheet, record_at};
+use crate::sheet::{Sheet, first_sheet, list_by, next_sheet, no_sheet};
 use crate::step::Terms;
 use hl7::place::delims_of;
 
@@ -38,7 +38,7 @@ fn count_findings(m: &[u8], book: &[u8], first: Sheet) -> usize
     let links = first.links;
     let mut starts = first.starts;
     let mut counts = first.counts;
-    let mut none = [0usize; 0];
+    let mut none = [BLANK; 0];
     let from = first.cursor;
     let behind = list_by(
         &table,
@@ -106,34 +106,12 @@ fn planned(m: &[u8], book: &[u8], room: usize) -> Plan
     }
 }
 
-// Sets one record, and leaves the others.
-fn store(table: &mut [Finding], at: usize, finding: Finding)
-    requires { at < length table.old }
-    ensures { table.new ≡ set table.old at finding }
-{
-    table[at] = finding;
-}
-
-// Sets so many records from one on by so many lines.
-fn store_lines(table: &mut [Finding], from: usize, lines: &[usize], count: usize)
-    requires { (from + count ≤ length table.old) × (2 * count ≤ length lines.now) }
-    ensures { table.new ≡ sets table.old from (records_from lines.now 0 count) }
-{
-    let mut i: usize = 0;
-    while i < count {
-        let finding = record_at(lines, i);
-        store(table, from + i, finding);
-        i += 1;
-    }
-}
-
 // Sets records from one on by a sheet.
 fn store_sheet(table: &mut [Finding], from: usize, sheet: Sheet)
-    requires { (from + sheet.used ≤ length table.old) × (sheet.used ≤ line_count) }
+    requires { (from + sheet.used ≤ length table.old) × (sheet.used ≤ length sheet.lines) }
     ensures { table.new ≡ sets table.old from (held sheet) }
 {
-    let lines = sheet.lines;
-    store_lines(table, from, &lines, sheet.used);
+    table[from..from + sheet.used].copy_from_slice(&sheet.lines[..sheet.used]);
 }
 
 // Sets the first so many records, all findings from a sheet on or none.

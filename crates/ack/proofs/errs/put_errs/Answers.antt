@@ -14,19 +14,19 @@ loop-sheet-init c =
     let a = c.args in
     (putting_start a.m.now a.book.now a.first a.out.now a.from c.requires.1 c.requires.2 (omega arith) c.requires.0, refl, refl)
 
-pub put_lines-at-requires : goal.put_lines-at-requires
-put_lines-at-requires c =
-    let h = c.loop-sheet.invariant.0 in (h.near, omega (arith, h.sheeted.ready.lined, h.sheeted.fits))
+pub put_each-at-requires : goal.put_each-at-requires
+put_each-at-requires c =
+    c.loop-sheet.invariant.0.near
 
 pub shape_of-out-then-sheet : goal.shape_of-out-then-sheet
-shape_of-out-then-sheet c = wrote-length c.put_lines-at.ensures ∙ c.loop-sheet.invariant.2
+shape_of-out-then-sheet c = wrote-length c.put_each-at.ensures ∙ c.loop-sheet.invariant.2
 
 pub returns-then-sheet : goal.returns-then-sheet
 unfolding held
 returns-then-sheet c =
     let a = c.args in
     let l = c.loop-sheet in
-    putting_over a.m.now a.book.now a.first a.out.now a.from l.invariant.0 (wrote_as c.put_lines-at.ensures (ap (λ (d : Delims). errs d (held l.sheet)) l.invariant.1)) c.if-sheet.true
+    putting_over a.m.now a.book.now a.first a.out.now a.from l.invariant.0 (wrote_as c.put_each-at.ensures (ap (λ (d : Delims). errs d (held l.sheet)) l.invariant.1)) c.if-sheet.true
 
 pub loop-sheet-smaller : goal.loop-sheet-smaller
 loop-sheet-smaller c =
@@ -38,7 +38,7 @@ unfolding held
 loop-sheet-preserved c =
     let a = c.args in
     let l = c.loop-sheet in
-    let wrote = c.put_lines-at.ensures in (
+    let wrote = c.put_each-at.ensures in (
       putting_more a.m.now a.book.now a.first a.out.now a.from l.invariant.0 (wrote_as wrote (ap (λ (d : Delims). errs d (held l.sheet)) l.invariant.1)) c.next_sheet-sheet.ensures,
       l.invariant.1,
       wrote-length wrote ∙ l.invariant.2,

@@ -6,18 +6,17 @@ use mathlib.Core.List.{List, ◌++◌}
 use native.Mathlib.Omega.{arith}
 use borrow.Author.Tests.{leb-false, not-true}
 use lib.Dec.{leb}
-use lib.ListN.{length}
+use lib.ListN.{length, take}
 use Rattle.hl7.proofs.Comparing.{and_both, or_neither}
 use Rattle.grade.specs.Deciding.{has, is_fault}
 use Rattle.grade.specs.Order.{table_says}
-use Rattle.grade.specs.Sheet.{line_count, finding_limit, records_from}
+use Rattle.grade.specs.Sheet.{line_count, finding_limit}
 use Rattle.grade.specs.declared.finding.Finding.{Finding}
 use Rattle.grade.proofs.Stepping.{step_found, step_end, step_less}
 use Rattle.grade.proofs.Sheets.{whole_more, told_more, told_last}
 use Rattle.grade.proofs.sheet.list_by.Goals as goal
 
 pub loop-finding-init : goal.loop-finding-init
-unfolding records_from
 loop-finding-init c = (refl, refl, c.requires.1, λ _. omega arith, λ _. refl, refl, omega arith)
 
 pub next-requires : goal.next-requires
@@ -59,7 +58,7 @@ returns-then-ended-whole c =
       stands = λ _. found.1;
       goes = λ e. (not-whole a.whole (leb line_count (l.used + 1)) (a.brief && fault) c.if-ended-whole.true e, omega arith);
       fits = λ e. omega (arith, l.invariant.3 e);
-      all = λ e none. rw none (whole_more (records_from l.lines 0 l.used) _ (l.invariant.4 e) found.0 (c.note.ensures e));
+      all = λ e none. rw none (whole_more (take l.used l.lines) _ (l.invariant.4 e) found.0 (c.note.ensures e));
       counted = λ none. rw none (omega (arith, l.invariant.6, one));
       less = λ e. rw e (omega (arith, l.invariant.6, one));
       told = rw c.is_fault-fault.ensures (told_last a.brief l.fault l.invariant.5 found.0);
@@ -83,7 +82,7 @@ loop-finding-preserved c =
       c.note.auto.lines ∙ l.invariant.1,
       found.1,
       not_full a.whole (l.used + 1) (or_neither (a.brief && (l.fault || c.is_fault-fault.result)) (not a.whole && leb line_count (l.used + 1)) c.if-ended-whole.false).1,
-      λ e. whole_more (records_from l.lines 0 l.used) _ (l.invariant.4 e) found.0 (c.note.ensures e),
+      λ e. whole_more (take l.used l.lines) _ (l.invariant.4 e) found.0 (c.note.ensures e),
       rw c.is_fault-fault.ensures (told_more l.fault l.invariant.5 found.0),
       omega (arith, l.invariant.6, ap length found.0),
     )
@@ -103,7 +102,7 @@ returns c =
       stands = λ e. absurd (true≢false e);
       goes = λ e. absurd (true≢false e);
       fits = λ e. omega (arith, l.invariant.3 e);
-      all = λ e _. l.invariant.4 e ∙ ap (λ (left : List Finding). records_from l.lines 0 l.used ++ left) none;
+      all = λ e _. l.invariant.4 e ∙ ap (λ (left : List Finding). take l.used l.lines ++ left) none;
       counted = λ _. omega (arith, l.invariant.6, ap length none);
       less = λ e. absurd (true≢false e);
       told = ap (λ (left : List Finding). l.fault || has is_fault left) (sym none) ∙ l.invariant.5;

@@ -13,7 +13,7 @@ pub returns-then-first : goal.returns-then-first
 returns-then-first c =
     let a = c.args in
     let first = a.first in
-    omega (arith, held-length first, length-append (held first) (to_come a.m.now a.book.now first), ap length (none-to_come a.m.now a.book.now first c.if-first.true))
+    omega (arith, held-length first c.requires.0, length-append (held first) (to_come a.m.now a.book.now first), ap length (none-to_come a.m.now a.book.now first c.if-first.true))
 
 pub list_by-behind-requires : goal.list_by-behind-requires
 list_by-behind-requires c =
@@ -34,7 +34,7 @@ overflow_add-result c =
       fits = omega (
         arith,
         c.requires.2,
-        held-length first,
+        held-length first c.requires.0,
         length-append (held first) (to_come a.m.now a.book.now first),
         all-counted a.m.now a.book.now first c.if-first.false (by-table _ may_follow c.follow_table-table.ensures) c.list_by-behind.ensures,
       );
@@ -46,7 +46,7 @@ returns c =
     let first = a.first in
     omega (
       arith,
-      held-length first,
+      held-length first c.requires.0,
       length-append (held first) (to_come a.m.now a.book.now first),
       all-counted a.m.now a.book.now first c.if-first.false (by-table _ may_follow c.follow_table-table.ensures) c.list_by-behind.ensures,
     )

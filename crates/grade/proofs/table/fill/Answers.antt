@@ -12,7 +12,7 @@ pub store_sheet-requires : goal.store_sheet-requires
 store_sheet-requires c =
     let h = c.loop-at.invariant.1 in
     let here = goes_on h c.loop-at-test.true in
-    (omega (arith, h.upto, h.long, length-left here), here.sheeted.fits)
+    (omega (arith, h.upto, h.long, length-left here), omega (arith, here.sheeted.fits, here.sheeted.ready.lined))
 
 pub loop-at-preserved : goal.loop-at-preserved
 loop-at-preserved c =
