@@ -5,9 +5,10 @@ use mathlib.Core.List.{List, [], ◌∷◌, ◌++◌, map, append-nil, append_as
 use Prim.Native.Nat.{ℕ, suc, ◌+◌, ◌-◌, ◌≤◌, ◌<◌}
 use native.Mathlib.Omega.{arith}
 use native.Mathlib.Numerals.{add-one}
-use lib.ListN.{length, get_or, drop, drop_of_length-le}
-use lib.Seq.{drop-cons}
+use lib.ListN.{length, get_or, take, drop, drop_of_length-le}
+use lib.Seq.{drop-cons, length-take-le}
 use borrow.Author.Tests.{eq-eqb, ne_eqb}
+use Rattle.std.proofs.Common.{get_or-take}
 use Rattle.hl7.specs.Text.{bytes}
 use Rattle.grade.specs.declared.walk.Section.{Section}
 use Rattle.grade.specs.Book.{text, code_set}
@@ -62,12 +63,16 @@ module _ (b : List ℕ) where
 pub sets-length : (b : List ℕ) (s : Section) → Holds b s → length (sets_in b s) ≡ s.set_count
 sets-length b s h = row-length code_set b s.set_count s.sets_at (sets_in b s) h.sets_after (sets_read_lem b s h)
 
--- they stand at so many places
-abbrev pub SetsAt : (b places : List ℕ) → ℕ → List (List (List ℕ)) → Type 0
-SetsAt b places count sets = (length sets ≡ count) × ((k : ℕ) → k < count → codes_at b (get_or places k 0) ≡ get_or sets k [])
+-- they stand at the places
+abbrev pub SetsAt : (b places : List ℕ) → List (List (List ℕ)) → Type 0
+SetsAt b places sets = (length sets ≡ length places) × ((k : ℕ) → k < length places → codes_at b (get_or places k 0) ≡ get_or sets k [])
 
-pub sets-at : (b : List ℕ) (s : Section) {places : List ℕ} → Placed b s places → Holds b s → SetsAt b places s.set_count (sets_in b s)
-sets-at b s w h = (sets-length b s h, λ k l. (placed_at b s w h k l).codes)
+pub sets-at : (b : List ℕ) (s : Section) {places : List ℕ} → Placed b s places → Holds b s → SetsAt b (take s.set_count places) (sets_in b s)
+sets-at b s {places} w h =
+    let many : length (take s.set_count places) ≡ s.set_count = length-take-le s.set_count places (omega (arith, w.sized, h.few_sets)) in (
+      sets-length b s h ∙ sym many,
+      λ k l. let inside : k < s.set_count = omega (arith, many) in ap (codes_at b) (get_or-take s.set_count places k 0 inside) ∙ (placed_at b s w h k inside).codes,
+    )
 
 module _ (key : List ℕ) (sets : List (List (List ℕ))) (i : ℕ) where
   -- the lines of the sets from i on

@@ -53,11 +53,9 @@ fn put_codes(out: &mut [u8], at: usize, book: &[u8], start: usize, count: usize)
 {
     let mut to = at;
     let mut from = start;
-    let mut left = count;
-    while 0 < left {
+    for _i in 0..count {
         to = put_code(out, to, book, from);
         from = text_after(book, from);
-        left -= 1;
     }
     put(out, to, b"")
 }
@@ -79,12 +77,9 @@ fn put_sets(out: &mut [u8], at: usize, book: &[u8], section: Section, key: &[u8]
     ensures { Wrote out.old at (printed (set_lines key.now 1 (sets_in book.now section))) out.new result }
 {
     let places = sets_of(book, section);
-    let count = section.set_count as usize;
     let mut to = at;
-    let mut i = 0;
-    while i < count {
-        to = put_set(out, to, book, places[i], key, i + 1);
-        i += 1;
+    for (i, place) in places[..section.set_count as usize].iter().enumerate() {
+        to = put_set(out, to, book, *place, key, i + 1);
     }
     put(out, to, b"")
 }
@@ -103,10 +98,8 @@ fn put_names(out: &mut [u8], at: usize, key: &[u8], count: usize) -> usize
     ensures { Wrote out.old at (marked 32 (names_from key.now 1 count)) out.new result }
 {
     let mut to = at;
-    let mut i = 0;
-    while i < count {
-        i += 1;
-        to = put_named(out, to, key, i);
+    for i in 0..count {
+        to = put_named(out, to, key, i + 1);
     }
     put(out, to, b"")
 }
@@ -148,11 +141,11 @@ pub fn put_kind(out: &mut [u8], at: usize, kind: Kind) -> usize
 {
     match kind {
         Kind::Required => put(out, at, b" REQUIRED"),
-        Kind::Length { low: _, high: _ } => put(out, at, b" LENGTH"),
+        Kind::Length { .. } => put(out, at, b" LENGTH"),
         Kind::Number => put(out, at, b" NUMBER"),
         Kind::Date => put(out, at, b" DATE"),
-        Kind::Time { digits: _ } => put(out, at, b" TIME"),
-        Kind::Code { set: _ } => put(out, at, b" CODE"),
+        Kind::Time { .. } => put(out, at, b" TIME"),
+        Kind::Code { .. } => put(out, at, b" CODE"),
     }
 }
 
@@ -179,12 +172,10 @@ fn put_bound(out: &mut [u8], at: usize, key: &[u8], kind: Kind) -> usize
     ensures { Wrote out.old at (marked 32 (bound_words key.now kind)) out.new result }
 {
     match kind {
-        Kind::Required => put(out, at, b""),
         Kind::Length { low, high } => put_range(out, at, low, high),
-        Kind::Number => put(out, at, b""),
-        Kind::Date => put(out, at, b""),
         Kind::Time { digits } => put_number(out, at, b' ', digits as usize),
         Kind::Code { set } => put_named(out, at, key, set as usize),
+        Kind::Required | Kind::Number | Kind::Date => put(out, at, b""),
     }
 }
 
@@ -192,14 +183,11 @@ fn put_bound(out: &mut [u8], at: usize, key: &[u8], kind: Kind) -> usize
 fn put_rule(out: &mut [u8], at: usize, key: &[u8], again: bool, rule: Rule) -> usize
     ensures { Wrote out.old at (line_bytes (line_of_rule key.now again rule)) out.new result }
 {
-    let place = rule.place;
-    let severity = rule.severity;
-    let kind = rule.kind;
     let second = put_verb(out, at, again);
-    let third = put_place(out, second, place);
-    let fourth = put_kind(out, third, kind);
-    let fifth = put_severity(out, fourth, severity);
-    let sixth = put_bound(out, fifth, key, kind);
+    let third = put_place(out, second, rule.place);
+    let fourth = put_kind(out, third, rule.kind);
+    let fifth = put_severity(out, fourth, rule.severity);
+    let sixth = put_bound(out, fifth, key, rule.kind);
     put_byte(out, sixth, LINE_FEED)
 }
 
@@ -209,11 +197,11 @@ fn kind_byte(kind: Kind) -> u8
 {
     match kind {
         Kind::Required => 1,
-        Kind::Length { low: _, high: _ } => 2,
+        Kind::Length { .. } => 2,
         Kind::Number => 3,
         Kind::Date => 4,
-        Kind::Time { digits: _ } => 5,
-        Kind::Code { set: _ } => 6,
+        Kind::Time { .. } => 5,
+        Kind::Code { .. } => 6,
     }
 }
 
@@ -222,8 +210,12 @@ pub fn spot_of(rule: Rule) -> usize
     ensures { result ≡ rule_spot rule }
 {
     let place = rule.place;
-    let kind = rule.kind;
-    spot_number(place.segment, place.field, place.component, kind_byte(kind))
+    spot_number(
+        place.segment,
+        place.field,
+        place.component,
+        kind_byte(rule.kind),
+    )
 }
 
 // Whether a number is among some.
@@ -231,10 +223,8 @@ fn is_in(spots: &[usize], x: usize) -> bool
     ensures { result ≡ is_in x spots.now }
 {
     let mut any = false;
-    let mut i = 0;
-    while i < spots.len() {
-        any = any | (x == spots[i]);
-        i += 1;
+    for spot in spots {
+        any = any | (x == *spot);
     }
     any
 }
@@ -271,12 +261,9 @@ fn put_rules(
     requires { Holds book.now section × (rule_limit ≤ length spots.old) }
     ensures { Wrote out.old at (printed (rule_lines key.now [] (rules_in book.now section))) out.new result }
 {
-    let count = section.rule_count;
     let mut to = at;
-    let mut i = 0;
-    while i < count {
+    for i in 0..section.rule_count {
         to = put_noted(out, to, book, section, key, spots, i);
-        i += 1;
     }
     put(out, to, b"")
 }
@@ -309,10 +296,8 @@ fn put_sections(
     ensures { Wrote out.old at (printed (book_lines (map (contents_at book.now) starts.now))) out.new result }
 {
     let mut to = at;
-    let mut i = 0;
-    while i < starts.len() {
-        to = put_section(out, to, book, starts[i], spots);
-        i += 1;
+    for start in starts {
+        to = put_section(out, to, book, *start, spots);
     }
     put(out, to, b"")
 }

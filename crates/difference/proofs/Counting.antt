@@ -1,15 +1,18 @@
 -- Laws of spots, which name place and kind of each rule: noted, counted, and found again by their number. Assumes nothing.
-use mathlib.Core.Path.{◌≡◌, sym, ap, ap₂, ◌∙◌}
+use mathlib.Core.Path.{◌≡◌, refl, sym, ap, ap₂, ◌∙◌}
 use mathlib.Core.Bool.{Bool, true, false, cond, ◌&&◌}
 use mathlib.Core.List.{List, [], ◌∷◌, ◌++◌}
 use Prim.Native.Nat.{ℕ, suc, ◌+◌, ◌-◌, ◌≤◌, ◌<◌}
 use native.Mathlib.Numerals.{add-one}
 use native.Mathlib.Omega.{arith}
 use lib.Dec.{eqb}
+use mir.Val.{bool_byte}
 use lib.ListN.{length, get_or, take, drop, set, drop_of_length-le, length-map, get_or-map}
 use lib.Seq.{take-suc, take-suc-set, take_all}
+use Rattle.std.proofs.Common.{count_by}
+use Rattle.std.proofs.lemmas.List.Recursion.{is_count_by}
 use Rattle.hl7.specs.Spans.{occurrences}
-use Rattle.hl7.proofs.Comparing.{rest_at, occurs_more, occurs-none}
+use Rattle.hl7.proofs.Comparing.{rest_at}
 use Rattle.grade.specs.Rule.{no_rule}
 use Rattle.grade.specs.declared.rule.Rule.{Rule}
 use Rattle.canonical.specs.Shown.{rule_spot}
@@ -33,19 +36,22 @@ module _ (rules : List Rule) (i : ℕ) (noted : List ℕ) where
       ap (λ (n : ℕ). take n noted) (sym at) ∙ e ∙ take_all i (spots rules) (omega (arith, length-map rules rule_spot))
 
 -- ---- counted
+-- in the library's words
+pub counted : (spot : ℕ) (noted : List ℕ) → occurrences spot noted ≡ count_by (λ x. eqb x spot) noted
+unfolding occurrences
+counted spot noted = is_count_by (occurrences spot) (λ x. eqb x spot) refl (λ x xs. by (eqb x spot) (occurrences spot xs)) noted
+  where
+    by : (b : Bool) (n : ℕ) → cond b 1 0 + n ≡ cond b (1 + n) n
+    by true n = refl
+    by false n = omega arith
+
+-- one, where one was passed
+pub one_if : (b : Bool) → bool_byte b ≡ cond b 1 0
+one_if true = refl
+one_if false = refl
+
+-- ---- found
 module _ (noted : List ℕ) (spot i : ℕ) where
-  pub count_more : (n : ℕ) {m : ℕ} → i < length noted → occurrences spot noted ≡ n + occurrences spot (drop i noted) → m ≡ cond (eqb (get_or noted i 0) spot) (n + 1) n
-      → occurrences spot noted ≡ m + occurrences spot (drop (i + 1) noted)
-  count_more n {m} h e f = by (eqb (get_or noted i 0) spot) (occurs_more spot noted i h) f
-    where
-      by : (b : Bool) → occurrences spot (drop i noted) ≡ cond b 1 0 + occurrences spot (drop (i + 1) noted) → m ≡ cond b (n + 1) n → occurrences spot noted ≡ m + occurrences spot (drop (i + 1) noted)
-      by true g f = omega (arith, e, g, f)
-      by false g f = omega (arith, e, g, f)
-
-  pub count-over : (n : ℕ) → length noted ≤ i → occurrences spot noted ≡ n + occurrences spot (drop i noted) → n ≡ occurrences spot noted
-  count-over n h e = omega (arith, e, occurs-none spot noted i h)
-
-  -- ---- found
   -- what is left of the search at i
   abbrev pub numbered_from : ℕ → ℕ
   numbered_from left = numbered (i + 1) spot left (drop i noted)

@@ -9,19 +9,15 @@ use canonical::show::spot_of;
 use grade::limits::RULE_LIMIT;
 use grade::lookup::rule_at;
 use grade::walk::Section;
-use hl7::bytes::pick;
 
 // Place and kind of each rule of a section, each as one number.
 pub(crate) fn spots_of(book: &[u8], section: Section) -> [usize; RULE_LIMIT]
     requires { Holds book.now section }
     ensures { (length result ≡ rule_limit) × (take section.rule_count result ≡ spots (rules_in book.now section)) }
 {
-    let count = section.rule_count;
     let mut noted = [0usize; RULE_LIMIT];
-    let mut i = 0;
-    while i < count {
+    for i in 0..section.rule_count {
         noted[i] = spot_of(rule_at(book, section, i));
-        i += 1;
     }
     noted
 }
@@ -30,25 +26,7 @@ pub(crate) fn spots_of(book: &[u8], section: Section) -> [usize; RULE_LIMIT]
 fn count_of(noted: &[usize], spot: usize) -> usize
     ensures { result ≡ occurrences spot noted.now }
 {
-    let mut n = 0;
-    let mut i = 0;
-    while i < noted.len() {
-        n = pick(noted[i] == spot, n + 1, n);
-        i += 1;
-    }
-    n
-}
-
-// One less, where one was passed.
-fn less(left: usize, passed: bool) -> usize
-    ensures { result ≡ left - cond passed 1 0 }
-{
-    if passed {
-        if 0 < left {
-            return left - 1;
-        }
-    }
-    left
+    noted.iter().filter(|&x| *x == spot).count()
 }
 
 // The number from 1 of the one that is this spot and has so many such before it; 0 where there is none.
@@ -56,14 +34,12 @@ fn number_of(noted: &[usize], spot: usize, before: usize) -> usize
     ensures { (result ≡ numbered 1 spot before noted.now) × (result ≤ length noted.now) }
 {
     let mut left = before;
-    let mut i = 0;
-    while i < noted.len() {
-        let here = noted[i] == spot;
-        i += 1;
+    for (i, x) in noted.iter().enumerate() {
+        let here = *x == spot;
         if here & (left == 0) {
-            return i;
+            return i + 1;
         }
-        left = less(left, here);
+        left = left.saturating_sub(usize::from(here));
     }
     0
 }

@@ -24,14 +24,12 @@ fn find_key(book: &[u8], starts: &[usize], key: &[u8]) -> usize
     requires { all (stands_at book.now) starts.now ≡ true }
     ensures { result ≡ key_place key.now (map (text_at book.now) starts.now) }
 {
-    let mut i = 0;
-    while i < starts.len() {
-        if same_bytes(key, text_part(book, starts[i])) {
+    for (i, start) in starts.iter().enumerate() {
+        if same_bytes(key, text_part(book, *start)) {
             return i;
         }
-        i += 1;
     }
-    i
+    starts.len()
 }
 
 // A section that one book has.
@@ -78,10 +76,8 @@ fn put_old_sections(
     ensures { Wrote out.old at (printed (flat_map (old_section (map (contents_at new.now) news.now)) (map (contents_at old.now) olds.now))) out.new result }
 {
     let mut to = at;
-    let mut i = 0;
-    while i < olds.len() {
-        to = put_old_section(out, to, old, olds[i], new, news);
-        i += 1;
+    for start in olds {
+        to = put_old_section(out, to, old, *start, new, news);
     }
     put(out, to, b"")
 }
@@ -117,10 +113,8 @@ fn put_new_sections(
     ensures { Wrote out.old at (printed (flat_map (new_section (map (contents_at old.now) olds.now)) (map (contents_at new.now) news.now))) out.new result }
 {
     let mut to = at;
-    let mut i = 0;
-    while i < news.len() {
-        to = put_new_section(out, to, old, olds, new, news[i]);
-        i += 1;
+    for start in news {
+        to = put_new_section(out, to, old, olds, new, *start);
     }
     put(out, to, b"")
 }

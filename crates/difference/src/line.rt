@@ -21,12 +21,9 @@ fn put_numbers(out: &mut [u8], at: usize, kind: Kind) -> usize
     ensures { Wrote out.old at (marked 32 (number_words kind)) out.new result }
 {
     match kind {
-        Kind::Required => put(out, at, b""),
         Kind::Length { low, high } => put_range(out, at, low, high),
-        Kind::Number => put(out, at, b""),
-        Kind::Date => put(out, at, b""),
         Kind::Time { digits } => put_number(out, at, b' ', digits as usize),
-        Kind::Code { set: _ } => put(out, at, b""),
+        Kind::Required | Kind::Number | Kind::Date | Kind::Code { .. } => put(out, at, b""),
     }
 }
 
@@ -46,11 +43,9 @@ fn put_codes(out: &mut [u8], at: usize, mark: u8, book: &[u8], ruled: Ruled) -> 
 {
     let mut to = at;
     let mut from = ruled.from;
-    let mut left = ruled.count;
-    while 0 < left {
+    for _i in 0..ruled.count {
         to = put_code(out, to, mark, book, from);
         from = text_after(book, from);
-        left -= 1;
     }
     put(out, to, b"")
 }
@@ -89,11 +84,9 @@ fn put_gone(
 {
     let mut to = at;
     let mut from = ruled.from;
-    let mut left = ruled.count;
-    while 0 < left {
+    for _i in 0..ruled.count {
         to = put_unless(out, to, mark, book, from, other, second);
         from = text_after(book, from);
-        left -= 1;
     }
     put(out, to, b"")
 }
@@ -103,14 +96,12 @@ fn put_gone(
 fn put_head(out: &mut [u8], at: usize, key: &[u8], mark: u8, n: usize, rule: Rule) -> usize
     ensures { Wrote out.old at (joined 32 (rule_line key.now mark n rule [])) out.new result }
 {
-    let place = rule.place;
-    let kind = rule.kind;
     let second = put(out, at, key);
     let third = put_byte(out, second, b' ');
     let fourth = put_byte(out, third, mark);
     let fifth = put_number(out, fourth, b' ', n);
-    let sixth = put_place(out, fifth, place);
-    put_kind(out, sixth, kind)
+    let sixth = put_place(out, fifth, rule.place);
+    put_kind(out, sixth, rule.kind)
 }
 
 // The whole rule.
@@ -127,11 +118,9 @@ pub(crate) fn put_rule(
     ensures { Wrote out.old at (line_bytes (whole_line key.now mark n ruled.rule (codes_in book.now ruled))) out.new result }
 {
     let rule = ruled.rule;
-    let severity = rule.severity;
-    let kind = rule.kind;
     let second = put_head(out, at, key, mark, n, rule);
-    let third = put_severity(out, second, severity);
-    let fourth = put_numbers(out, third, kind);
+    let third = put_severity(out, second, rule.severity);
+    let fourth = put_numbers(out, third, rule.kind);
     let fifth = put_codes(out, fourth, mark, book, ruled);
     put_byte(out, fifth, LINE_FEED)
 }
@@ -140,15 +129,13 @@ pub(crate) fn put_rule(
 fn put_severities(out: &mut [u8], at: usize, key: &[u8], n: usize, rule: Rule, other: Rule) -> usize
     ensures { Wrote out.old at (printed (severity_lines key.now n rule other)) out.new result }
 {
-    let severity = rule.severity;
-    let after = other.severity;
-    if severity_letter(severity) == severity_letter(after) {
+    if severity_letter(rule.severity) == severity_letter(other.severity) {
         return put(out, at, b"");
     }
     let second = put_head(out, at, key, b'~', n, rule);
-    let third = put_severity(out, second, severity);
+    let third = put_severity(out, second, rule.severity);
     let fourth = put(out, third, b" ->");
-    let fifth = put_severity(out, fourth, after);
+    let fifth = put_severity(out, fourth, other.severity);
     put_byte(out, fifth, LINE_FEED)
 }
 
@@ -156,15 +143,13 @@ fn put_severities(out: &mut [u8], at: usize, key: &[u8], n: usize, rule: Rule, o
 fn put_bounds(out: &mut [u8], at: usize, key: &[u8], n: usize, rule: Rule, other: Rule) -> usize
     ensures { Wrote out.old at (printed (number_lines key.now n rule other)) out.new result }
 {
-    let kind = rule.kind;
-    let after = other.kind;
-    if same_numbers(kind, after) {
+    if same_numbers(rule.kind, other.kind) {
         return put(out, at, b"");
     }
     let second = put_head(out, at, key, b'~', n, rule);
-    let third = put_numbers(out, second, kind);
+    let third = put_numbers(out, second, rule.kind);
     let fourth = put(out, third, b" ->");
-    let fifth = put_numbers(out, fourth, after);
+    let fifth = put_numbers(out, fourth, other.kind);
     put_byte(out, fifth, LINE_FEED)
 }
 
@@ -182,13 +167,12 @@ fn put_sets(
     requires { CodesStand old.now ruled × CodesStand new.now second }
     ensures { Wrote out.old at (printed (code_lines key.now n ruled.rule (codes_in old.now ruled) (codes_in new.now second))) out.new result }
 {
-    let rule = ruled.rule;
     let kept = all_among(old, ruled, new, second);
     let known = all_among(new, second, old, ruled);
     if kept & known {
         return put(out, at, b"");
     }
-    let to = put_head(out, at, key, b'~', n, rule);
+    let to = put_head(out, at, key, b'~', n, ruled.rule);
     let third = put_gone(out, to, b'-', old, ruled, new, second);
     let fourth = put_gone(out, third, b'+', new, second, old, ruled);
     put_byte(out, fourth, LINE_FEED)
@@ -201,15 +185,13 @@ fn put_moved(out: &mut [u8], at: usize, key: &[u8], n: usize, m: usize, rule: Ru
     if n == m {
         return put(out, at, b"");
     }
-    let place = rule.place;
-    let kind = rule.kind;
     let second = put(out, at, key);
     let third = put(out, second, b" #");
     let fourth = put_number(out, third, b' ', n);
     let fifth = put(out, fourth, b" ->");
     let sixth = put_number(out, fifth, b' ', m);
-    let seventh = put_place(out, sixth, place);
-    let eighth = put_kind(out, seventh, kind);
+    let seventh = put_place(out, sixth, rule.place);
+    let eighth = put_kind(out, seventh, rule.kind);
     put_byte(out, eighth, LINE_FEED)
 }
 
@@ -228,10 +210,8 @@ pub(crate) fn put_changes(
     requires { CodesStand old.now ruled × CodesStand new.now second }
     ensures { Wrote out.old at (printed (changes key.now n m ruled.rule second.rule (codes_in old.now ruled) (codes_in new.now second))) out.new result }
 {
-    let rule = ruled.rule;
-    let other = second.rule;
-    let to = put_severities(out, at, key, n, rule, other);
-    let third = put_bounds(out, to, key, n, rule, other);
+    let to = put_severities(out, at, key, n, ruled.rule, second.rule);
+    let third = put_bounds(out, to, key, n, ruled.rule, second.rule);
     let fourth = put_sets(out, third, key, n, old, ruled, new, second);
-    put_moved(out, fourth, key, n, m, rule)
+    put_moved(out, fourth, key, n, m, ruled.rule)
 }

@@ -23,12 +23,8 @@ fn set_of(kind: Kind) -> usize
     ensures { result ≡ set_of kind }
 {
     match kind {
-        Kind::Required => 0,
-        Kind::Length { low: _, high: _ } => 0,
-        Kind::Number => 0,
-        Kind::Date => 0,
-        Kind::Time { digits: _ } => 0,
         Kind::Code { set } => set as usize,
+        _ => 0,
     }
 }
 
@@ -36,12 +32,9 @@ fn low_of(kind: Kind) -> u8
     ensures { result ≡ low_of kind }
 {
     match kind {
-        Kind::Required => 0,
-        Kind::Length { low, high: _ } => low,
-        Kind::Number => 0,
-        Kind::Date => 0,
+        Kind::Length { low, .. } => low,
         Kind::Time { digits } => digits,
-        Kind::Code { set: _ } => 0,
+        _ => 0,
     }
 }
 
@@ -49,12 +42,8 @@ fn high_of(kind: Kind) -> u8
     ensures { result ≡ high_of kind }
 {
     match kind {
-        Kind::Required => 0,
-        Kind::Length { low: _, high } => high,
-        Kind::Number => 0,
-        Kind::Date => 0,
-        Kind::Time { digits: _ } => 0,
-        Kind::Code { set: _ } => 0,
+        Kind::Length { high, .. } => high,
+        _ => 0,
     }
 }
 
@@ -77,8 +66,7 @@ pub(crate) fn ruled_at(
     ensures { Rules book.now (rules_in book.now section) (sets_in book.now section) i result }
 {
     let rule = rule_at(book, section, i);
-    let kind = rule.kind;
-    let set = set_of(kind);
+    let set = set_of(rule.kind);
     if set == 0 {
         return Ruled {
             rule,
@@ -109,11 +97,9 @@ pub(crate) fn all_among(book: &[u8], ruled: Ruled, other: &[u8], second: Ruled) 
 {
     let mut every = true;
     let mut from = ruled.from;
-    let mut left = ruled.count;
-    while 0 < left {
+    for _i in 0..ruled.count {
         every = every & has_code(other, second, book, from);
         from = text_after(book, from);
-        left -= 1;
     }
     every
 }

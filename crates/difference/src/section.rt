@@ -59,12 +59,9 @@ fn put_old_rules(
     requires { Side old.now a sets.now own.now × Side new.now b places.now others.now }
     ensures { Wrote out.old at (printed (flat_map (old_lines (held_by key.now old.now a) (held_by key.now new.now b)) (count_from 0 a.rule_count))) out.new result }
 {
-    let count = a.rule_count;
     let mut to = at;
-    let mut i = 0;
-    while i < count {
+    for i in 0..a.rule_count {
         to = put_old_rule(out, to, key, old, a, sets, own, new, b, places, others, i);
-        i += 1;
     }
     put(out, to, b"")
 }
@@ -104,12 +101,9 @@ fn put_new_rules(
     requires { Side new.now b places.now others.now }
     ensures { Wrote out.old at (printed (flat_map (new_lines key.now own.now (held_by key.now new.now b)) (count_from 0 b.rule_count))) out.new result }
 {
-    let count = b.rule_count;
     let mut to = at;
-    let mut i = 0;
-    while i < count {
+    for i in 0..b.rule_count {
         to = put_new_rule(out, to, key, own, new, b, places, others, i);
-        i += 1;
     }
     put(out, to, b"")
 }

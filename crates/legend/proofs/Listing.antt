@@ -95,18 +95,24 @@ module _ (t : List ℕ) (spot cell : ℕ) {mark : ℕ} (m : mark ≡ mark_of (no
   unfolding later_remarks
   change_none h w = wrote_as w (sym (rw (changes-is h)))
 
-module _ (t : List ℕ) (spot : ℕ) (cells : List ℕ) (i : ℕ) where
-  pub changes_more : i < length cells → later_remarks t spot (map (noted t) (drop i cells)) ≡ later_remarks t spot (noted t (get_or cells i 0) ∷ []) ++ later_remarks t spot (map (noted t) (drop (i + 1) cells))
+-- the next of them, and those after it
+module _ (t : List ℕ) (spot : ℕ) {left : List ℕ} where
+  pub changes_next : {cell : ℕ} {cells : List ℕ} → left ≡ cell ∷ cells → later_remarks t spot (map (noted t) left) ≡ later_remarks t spot (noted t cell ∷ []) ++ later_remarks t spot (map (noted t) cells)
   unfolding later_remarks
-  changes_more h = ap (later_remarks t spot) (from_step (noted t) cells i h) ∙ by (changes spot (noted t (get_or cells i 0))) (remark_of t (noted t (get_or cells i 0))) (later_remarks t spot (map (noted t) (drop (i + 1) cells)))
+  changes_next {cell} {cells} e = ap (λ (l : List ℕ). later_remarks t spot (map (noted t) l)) e ∙ by (changes spot (noted t cell)) (remark_of t (noted t cell)) (later_remarks t spot (map (noted t) cells))
     where
       by : (b : Bool) (own later : List ℕ) → cond b (own ++ later) later ≡ cond b (own ++ []) [] ++ later
       by true own later = ap (λ (l : List ℕ). l ++ later) (sym (append-nil own))
       by false own later = refl
 
-  pub changes-over : length cells ≤ i → later_remarks t spot (map (noted t) (drop i cells)) ≡ []
+  pub changes-none : left ≡ [] → later_remarks t spot (map (noted t) left) ≡ []
   unfolding later_remarks
-  changes-over h = ap (later_remarks t spot) (from_done (noted t) cells i h)
+  changes-none e = ap (λ (l : List ℕ). later_remarks t spot (map (noted t) l)) e
+
+pub marks_next : (t : List ℕ) {left cells others marks : List ℕ} {cell mark : ℕ} → left ≡ cell ∷ cells → others ≡ mark ∷ marks → Marks (map (noted t) left) others → (mark ≡ mark_of (noted t cell)) × Marks (map (noted t) cells) marks
+marks_next t {cell = cell} {mark = mark} e f m =
+    let both = sym f ∙ m ∙ ap (λ (l : List ℕ). map mark_of (map (noted t) l)) e in
+    (ap (λ (l : List ℕ). get_or l 0 0) both, ap (drop 1) both)
 
 -- ---- a rule that stays
 module _ (marks : List ℕ) (i : ℕ) (s : Statement) (later : List Statement) (m : get_or marks i 0 ≡ mark_of s) (n : Marks later (drop (i + 1) marks))

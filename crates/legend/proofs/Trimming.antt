@@ -5,9 +5,8 @@ use mathlib.Core.List.{List, [], ◌∷◌}
 use Prim.Native.Nat.{ℕ, zero, suc, ◌+◌, ◌-◌, ◌≤◌, ◌<◌}
 use native.Mathlib.Omega.{arith}
 use native.Mathlib.Numerals.{add-one}
-use lib.ListN.{length, get_or, take, drop}
-use lib.Seq.{drop-drop, drop-length}
-use borrow.Author.Tests.{not-true, not-false}
+use lib.ListN.{length, get_or, take, drop, length-drop}
+use lib.Seq.{drop-drop, get_or-drop}
 use Rattle.hl7.specs.Bytes.{all}
 use Rattle.hl7.specs.Cut.{cut, part_at, end_from}
 use Rattle.hl7.proofs.Comparing.{all-at, rest_at}
@@ -56,32 +55,19 @@ untrailed_last [] i h e f = absurd (omega arith)
 untrailed_last (x ∷ s) zero h e f = ap length (untrailed-some x s 0 h e) ∙ ap (λ (l : List ℕ). suc (length l)) (untrailed-none s f)
 untrailed_last (x ∷ s) (suc i) h e f = ap length (untrailed-some x s (suc i) h e) ∙ ap suc (untrailed_last s i (omega arith) e f)
 
--- ---- the loop, from the end on: all behind a position are blanks
-pub trail_none : (s : List ℕ) → all blank (drop (length s) s) ≡ true
+-- where the last byte stands that is no blank
+all-if : (test : ℕ → Bool) (s : List ℕ) → ((k : ℕ) → k < length s → test (get_or s k 0) ≡ true) → all test s ≡ true
 unfolding all
-trail_none s = ap (all blank) (drop-length s)
+all-if test [] h = refl
+all-if test (x ∷ s) h = rw (h 0 (omega arith)) (all-if test s (λ k l. h (suc k) (omega arith)))
 
-module _ (s : List ℕ) {end last : ℕ} (some : 0 < end) (inside : end ≤ length s) (e : last ≡ end - 1) (blanks : all blank (drop end s) ≡ true) {b : Bool} (f : b ≡ blank (get_or s last 0)) where
-  behind : end ≡ last + 1
-  behind = omega arith
+pub trail_ends : (s : List ℕ) (last : ℕ) → last < length s → blank (get_or s last 0) ≡ false → ((k : ℕ) → last < k → k < length s → blank (get_or s k 0) ≡ true) → last + 1 ≡ length (untrailed s)
+trail_ends s last inside here behind =
+    let blanks = all-if blank (drop (suc last) s) (λ k l. rw (get_or-drop (suc last) s k 0) (behind (suc last + k) (omega arith) (omega (arith, length-drop (suc last) s)))) in
+    add-one last ∙ sym (untrailed_last s last inside here blanks)
 
-  pub trail_more : not b ≡ false → all blank (drop last s) ≡ true
-  unfolding all
-  trail_more g =
-      ap (all blank) (rest_at s last (omega arith))
-      ∙ ap (λ (x : Bool). x && all blank (drop (last + 1) s)) (sym f ∙ not-false b g)
-      ∙ ap (λ (n : ℕ). all blank (drop n s)) (sym behind)
-      ∙ blanks
-
-  pub trail_ends : not b ≡ true → end ≡ length (untrailed s)
-  trail_ends g =
-      let at : end ≡ suc last = behind ∙ add-one last in
-      at ∙ sym (untrailed_last s last (omega arith) (sym f ∙ not-true b g) (ap (λ (n : ℕ). all blank (drop n s)) (sym at) ∙ blanks))
-
-pub trail_over : (s : List ℕ) {end : ℕ} → end ≤ 0 → all blank (drop end s) ≡ true → end ≡ length (untrailed s)
-trail_over s {end} h blanks =
-    let none : end ≡ 0 = omega arith in
-    none ∙ sym (ap length (untrailed-none s (ap (λ (n : ℕ). all blank (drop n s)) (sym none) ∙ blanks)))
+pub trail_none : (s : List ℕ) → ((k : ℕ) → k < length s → blank (get_or s k 0) ≡ true) → 0 ≡ length (untrailed s)
+trail_none s blanks = sym (ap length (untrailed-none s (all-if blank s blanks)))
 
 -- ---- together
 pub trims : (s : List ℕ) {from end : ℕ} {led r : List ℕ} → from ≡ 0 + length (run blank (drop 0 s)) → led ≡ drop from s → end ≡ length (untrailed led) → r ≡ take end led → r ≡ trimmed s

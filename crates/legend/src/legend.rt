@@ -92,10 +92,8 @@ fn put_changes(
     ensures { Wrote out.old at (later_remarks t.now spot (map (noted t.now) cells.now)) out.new result }
 {
     let mut to = at;
-    let mut i = 0;
-    while i < cells.len() {
-        to = put_change(out, to, t, spot, cells[i], marks[i]);
-        i += 1;
+    for (cell, mark) in cells.iter().zip(marks) {
+        to = put_change(out, to, t, spot, *cell, *mark);
     }
     put(out, to, b"")
 }
@@ -197,11 +195,9 @@ fn put_rules(
 {
     let mut to = at;
     let mut n = 1;
-    let mut i = 0;
-    while i < cells.len() {
+    for i in 0..cells.len() {
         to = put_made(out, to, t, cells, marks, i, key, n);
         n = number_after(marks, i, n);
-        i += 1;
     }
     put(out, to, b"")
 }

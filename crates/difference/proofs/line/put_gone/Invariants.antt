@@ -1,4 +1,5 @@
 -- `difference::line::put_gone` meets its contract. The loop's invariant: whoever writes what is gone of the codes left has written all. Assumes nothing.
+use Prim.Native.Nat.{◌-◌}
 use Rattle.ack.specs.Layout.{marked}
 use Rattle.booktext.proofs.Completing.{Completes}
 use Rattle.difference.specs.Difference.{code_words, gone}
@@ -6,9 +7,6 @@ use Rattle.difference.specs.Ruled.{codes_in}
 use Rattle.difference.proofs.Coding.{codes_from, CodesFound}
 use Rattle.difference.proofs.line.put_gone.Given as goal
 
-abbrev pub invariant-loop-left : goal.invariant-loop-left
-invariant-loop-left l = CodesFound l.book l.left l.from
-    × Completes (marked 32 (code_words l.mark (gone (codes_from l.book l.initial.left l.initial.from) (codes_in l.other l.second)))) (marked 32 (code_words l.mark (gone (codes_from l.book l.left l.from) (codes_in l.other l.second)))) l.initial.out l.at l.out l.to
-
-abbrev pub decreases-loop-left : goal.decreases-loop-left
-decreases-loop-left l = l.left
+abbrev pub invariant-loop-i : goal.invariant-loop-i
+invariant-loop-i l = CodesFound l.book (l.fn.ruled.count - l._i) l.from
+    × Completes (marked 32 (code_words l.mark (gone (codes_from l.book l.fn.ruled.count l.fn.ruled.from) (codes_in l.other l.second)))) (marked 32 (code_words l.mark (gone (codes_from l.book (l.fn.ruled.count - l._i) l.from) (codes_in l.other l.second)))) l.initial.out l.at l.out l.to

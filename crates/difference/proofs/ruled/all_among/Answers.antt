@@ -1,35 +1,38 @@
 -- `difference::ruled::all_among` meets its contract, by the invariant that stands beside this. Assumes nothing.
-use mathlib.Core.Path.{refl, sym, ap, ◌∙◌}
+use mathlib.Core.Path.{◌≡◌, refl, sym, ap, ◌∙◌}
 use mathlib.Core.Bool.{Bool, ◌&&◌}
-use Prim.Native.Nat.{◌-◌}
+use Prim.Native.Nat.{◌+◌, ◌-◌, ◌<◌}
+use native.Mathlib.Omega.{arith}
 use Rattle.grade.proofs.Parts.{code_fits}
 use Rattle.difference.specs.Difference.{all_among}
 use Rattle.difference.specs.Ruled.{codes_in}
 use Rattle.difference.proofs.Coding.{codes_from, codes-found, every_more, every-over}
 use Rattle.difference.proofs.ruled.all_among.Goals as goal
 
-pub loop-left-init : goal.loop-left-init
-loop-left-init c = (c.requires.0.stand, refl)
+pub loop-i-init : goal.loop-i-init
+loop-i-init c = let all : c.args.ruled.count - 0 ≡ c.args.ruled.count = omega arith in rw all (c.requires.0.stand, refl)
 
 pub has_code-every-requires : goal.has_code-every-requires
-has_code-every-requires c = (c.requires.1, code_fits c.args.book.now c.loop-left.left c.loop-left.from c.loop-left-test.true c.loop-left.invariant.0)
+has_code-every-requires c = (c.requires.1, code_fits c.args.book.now (c.args.ruled.count - c.loop-i._i) c.loop-i.from (omega arith) c.loop-i.invariant.0)
 
 pub text_after-from-requires : goal.text_after-from-requires
-text_after-from-requires c = code_fits c.args.book.now c.loop-left.left c.loop-left.from c.loop-left-test.true c.loop-left.invariant.0
+text_after-from-requires c = code_fits c.args.book.now (c.args.ruled.count - c.loop-i._i) c.loop-i.from (omega arith) c.loop-i.invariant.0
 
-pub loop-left-preserved : goal.loop-left-preserved
-loop-left-preserved c =
+pub loop-i-preserved : goal.loop-i-preserved
+loop-i-preserved c =
     let b = c.args.book.now in
     let others = codes_in c.args.other.now c.args.second in
-    let left = c.loop-left.left in
-    let from = c.loop-left.from in
-    let so = c.loop-left.every in
-    let some = c.loop-left-test.true in
-    let here = c.loop-left.invariant.0 in
-    let next = c.text_after-from.ensures in (
+    let left = c.args.ruled.count - c.loop-i._i in
+    let one : c.args.ruled.count - (c.loop-i._i + 1) ≡ left - 1 = omega arith in
+    let from = c.loop-i.from in
+    let so = c.loop-i.every in
+    let some : 0 < left = omega arith in
+    let here = c.loop-i.invariant.0 in
+    let next = c.text_after-from.ensures in
+    rw one (
       codes-found b left from some here next,
-      c.loop-left.invariant.1 ∙ every_more b left from some here next others so ∙ ap (λ (t : Bool). (so && t) && all_among (codes_from b (left - 1) c.text_after-from.result) others) (sym c.has_code-every.ensures),
+      c.loop-i.invariant.1 ∙ every_more b left from some here next others so ∙ ap (λ (t : Bool). (so && t) && all_among (codes_from b (left - 1) c.text_after-from.result) others) (sym c.has_code-every.ensures),
     )
 
 pub returns : goal.returns
-returns c = sym (c.loop-left.invariant.1 ∙ every-over c.args.book.now c.loop-left.left c.loop-left.from (codes_in c.args.other.now c.args.second) c.loop-left.every c.loop-left-test.false)
+returns c = sym (c.loop-i.invariant.1 ∙ every-over c.args.book.now (c.args.ruled.count - c.loop-i._i) c.loop-i.from (codes_in c.args.other.now c.args.second) c.loop-i.every (omega arith))

@@ -1,5 +1,4 @@
 -- `difference::section::put_old_rules` meets its contract. The loop's invariant: whoever writes the lines of the rules left has written all. Assumes nothing.
-use Prim.Native.Nat.{◌-◌}
 use Rattle.booktext.proofs.Completing.{Completes}
 use Rattle.difference.specs.Difference.{old_lines}
 use Rattle.difference.specs.Ruled.{held_by}
@@ -7,7 +6,4 @@ use Rattle.difference.proofs.Sections.{lines_left}
 use Rattle.difference.proofs.section.put_old_rules.Given as goal
 
 abbrev pub invariant-loop-i : goal.invariant-loop-i
-invariant-loop-i l = Completes (lines_left (old_lines (held_by l.key l.old l.a) (held_by l.key l.new l.b)) l.count 0) (lines_left (old_lines (held_by l.key l.old l.a) (held_by l.key l.new l.b)) l.count l.i) l.initial.out l.at l.out l.to
-
-abbrev pub decreases-loop-i : goal.decreases-loop-i
-decreases-loop-i l = l.count - l.i
+invariant-loop-i l = Completes (lines_left (old_lines (held_by l.key l.old l.a) (held_by l.key l.new l.b)) l.a.rule_count 0) (lines_left (old_lines (held_by l.key l.old l.a) (held_by l.key l.new l.b)) l.a.rule_count l.i) l.initial.out l.at l.out l.to

@@ -1,25 +1,38 @@
 -- `legend::legend::put_changes` meets its contract, by the invariant that stands beside this. Assumes nothing.
+use mathlib.Core.Path.{◌≡◌}
+use mathlib.Core.Logic.{⊎_elim}
+use Prim.Native.Nat.{◌≤◌}
 use native.Mathlib.Omega.{arith}
+use lib.ListN.{length}
+use Rattle.std.proofs.Common.{rules}
+use Rattle.hl7.proofs.Comparing.{none_of}
 use Rattle.ack.proofs.Writing.{wrote-length}
 use Rattle.booktext.proofs.Completing.{completes_more, completes_over}
-use Rattle.booktext.proofs.Marking.{marks_at, marks_length}
-use Rattle.legend.proofs.Listing.{changes_more, changes-over}
+use Rattle.booktext.proofs.Marking.{marks_length}
+use Rattle.legend.proofs.Listing.{marks_next, changes_next, changes-none}
 use Rattle.legend.proofs.legend.put_changes.Goals as goal
 
-pub bounds-marks-i : goal.bounds-marks-i
-bounds-marks-i c = omega (arith, marks_length c.args.t.now c.args.cells.now _ c.requires, c.loop-i-test.true)
+pub loop-cell-init : goal.loop-cell-init
+loop-cell-init c =
+    let cells : c.into_iter-cell-iterator.result.a.rest.now ≡ c.args.cells.now = search rules in
+    let marks : c.into_iter-cell-iterator.result.b.rest.now ≡ c.args.marks.now = search rules in
+    rw (cells, marks) (c.requires, λ after r w. w)
 
 pub put_change-to-requires : goal.put_change-to-requires
-put_change-to-requires c = marks_at c.args.t.now c.args.cells.now _ _ c.requires c.loop-i-test.true
+put_change-to-requires c = let next = c.in-Some.ensures.steps in (marks_next c.args.t.now next.0 next.1 c.loop-cell.invariant.0).0
 
-pub loop-i-preserved : goal.loop-i-preserved
-loop-i-preserved c = completes_more c.loop-i.invariant (changes_more _ c.args.spot c.args.cells.now _ c.loop-i-test.true) c.put_change-to.ensures
+pub loop-cell-preserved : goal.loop-cell-preserved
+loop-cell-preserved c =
+    let next = c.in-Some.ensures.steps in (
+      (marks_next c.args.t.now next.0 next.1 c.loop-cell.invariant.0).1,
+      completes_more c.loop-cell.invariant.1 (changes_next c.args.t.now c.args.spot next.0) c.put_change-to.ensures,
+    )
 
 pub returns : goal.returns
-returns c = completes_over c.loop-i.invariant (changes-over _ c.args.spot c.args.cells.now _ c.loop-i-test.false) c.put.ensures
-
-pub loop-i-init : goal.loop-i-init
-loop-i-init c = λ after r w. w
+returns c =
+    let over : length c.loop-cell.cell-iterator.a.rest.now ≤ 0 =
+    ⊎_elim (λ none. omega (arith, none.1.0)) (λ none. omega (arith, none.1.0, marks_length c.args.t.now _ _ c.loop-cell.invariant.0)) c.in-None.ensures.steps in
+    completes_over c.loop-cell.invariant.1 (changes-none c.args.t.now c.args.spot (none_of _ over)) c.put.ensures
 
 pub shape_of-out : goal.shape_of-out
 shape_of-out c = wrote-length (returns c)

@@ -6,16 +6,16 @@ use Rattle.legend.proofs.Listing.{listing_none, listing_more, listing_over}
 use Rattle.legend.proofs.legend.put_rules.Goals as goal
 
 pub put_made-to-requires : goal.put_made-to-requires
-put_made-to-requires c = (c.requires.0, c.loop-i-test.true)
+put_made-to-requires c = (c.requires.0, omega arith)
 
 pub number_after-n-requires : goal.number_after-n-requires
-number_after-n-requires c = (omega (arith, c.loop-i.invariant.few, c.loop-i-test.true, c.requires.1), omega (arith, marks_length c.args.t.now c.args.cells.now _ c.requires.0, c.loop-i-test.true))
+number_after-n-requires c = (omega (arith, c.loop-i.invariant.few), omega (arith, marks_length c.args.t.now c.args.cells.now _ c.requires.0))
 
 pub loop-i-preserved : goal.loop-i-preserved
-loop-i-preserved c = listing_more c.loop-i.invariant c.args.marks.now c.requires.0 c.loop-i-test.true c.put_made-to.ensures c.number_after-n.ensures
+loop-i-preserved c = listing_more c.loop-i.invariant c.args.marks.now c.requires.0 (omega arith) c.put_made-to.ensures c.number_after-n.ensures
 
 pub returns : goal.returns
-returns c = listing_over c.loop-i.invariant c.loop-i-test.false c.put.ensures
+returns c = listing_over c.loop-i.invariant (omega arith) c.put.ensures
 
 pub loop-i-init : goal.loop-i-init
 loop-i-init c = listing_none _ _ _ _ _

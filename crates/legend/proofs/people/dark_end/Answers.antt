@@ -1,19 +1,21 @@
--- `legend::people::dark_end` meets its contract, by the invariant that stands beside this. Assumes nothing.
-use mathlib.Core.Path.{ap}
-use mathlib.Core.Bool.{not}
-use mathlib.Core.Path.{refl}
-use native.Mathlib.Omega.{arith}
-use Rattle.legend.proofs.Trimming.{trail_none, trail_more, trail_ends, trail_over}
+-- `legend::people::dark_end` meets its contract. Assumes nothing.
+use mathlib.Core.Path.{◌≡◌}
+use mathlib.Core.Bool.{true, false}
+use Prim.Native.Nat.{ℕ, ◌<◌}
+use lib.ListN.{length, get_or}
+use Rattle.std.proofs.Common.{rules}
+use Rattle.booktext.specs.Lines.{blank}
+use Rattle.legend.proofs.Trimming.{trail_ends, trail_none}
 use Rattle.legend.proofs.people.dark_end.Goals as goal
 
-pub loop-end-init : goal.loop-end-init
-loop-end-init c = (omega arith, trail_none c.args.s.now)
+pub returns-in-Some : goal.returns-in-Some
+returns-in-Some c =
+    let inside : c.in-Some.last < length c.args.s.now = search rules in
+    let here : blank (get_or c.args.s.now c.in-Some.last 0) ≡ false = search rules in
+    let behind : (k : ℕ) → c.in-Some.last < k → k < length c.args.s.now → blank (get_or c.args.s.now k 0) ≡ true = search rules in
+    trail_ends c.args.s.now c.in-Some.last inside here behind
 
-pub returns-then-not-is_blank : goal.returns-then-not-is_blank
-returns-then-not-is_blank c = trail_ends c.args.s.now c.loop-end-test.true c.loop-end.invariant.0 refl c.loop-end.invariant.1 c.is_blank.ensures (ap not c.if-not-is_blank.true)
-
-pub loop-end-preserved : goal.loop-end-preserved
-loop-end-preserved c = (omega arith, trail_more c.args.s.now c.loop-end-test.true c.loop-end.invariant.0 refl c.loop-end.invariant.1 c.is_blank.ensures (ap not c.if-not-is_blank.false))
-
-pub returns : goal.returns
-returns c = trail_over c.args.s.now c.loop-end-test.false c.loop-end.invariant.1
+pub returns-in-None : goal.returns-in-None
+returns-in-None c =
+    let blanks : (k : ℕ) → k < length c.args.s.now → blank (get_or c.args.s.now k 0) ≡ true = search rules in
+    trail_none c.args.s.now blanks
