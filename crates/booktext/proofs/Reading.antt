@@ -1,4 +1,5 @@
 -- Laws of `specs/Words.antt` and of the verbs of `specs/Lines.antt`, in the words of the code that reads a word. Assumes nothing.
+use Rattle.std.specs.Prelude.{Some, None}
 use mathlib.Core.Path.{◌≡◌, refl, sym, ap, ◌∙◌}
 use mathlib.Core.Bool.{Bool, true, false, cond, not, ◌&&◌, ◌||◌}
 use mathlib.Core.List.{List, [], ◌∷◌}
@@ -20,7 +21,6 @@ use Rattle.hl7.proofs.Cutting.{first-front}
 use Rattle.grade.specs.Rule.{name_of_letters, place_fits, severity_of}
 use Rattle.grade.specs.declared.rule.Place.{Place}
 use Rattle.grade.specs.declared.rule.Severity.{Severity}
-use Rattle.grade.specs.declared.rule.SeverityRead.{SeverityRead}
 use Rattle.booktext.specs.Lines.{number_from, verbs, verb_of}
 use Rattle.booktext.specs.Words.{is_number, number_in, field_word, place_in, is_place, is_severity, kind_names, kind_number}
 
@@ -132,7 +132,7 @@ pub asked_severity : (letter : ℕ) → (eqb letter (code "E") || eqb letter (co
 unfolding severity_of
 asked_severity letter = by (eqb letter (code "E")) (eqb letter (code "W")) (eqb letter (code "I"))
   where
-    by : (e w i : Bool) → (e || w || i) ≡ is_severity (cond e (SeverityRead.Is Severity.Error) (cond w (SeverityRead.Is Severity.Warning) (cond i (SeverityRead.Is Severity.Informational) SeverityRead.Fault)))
+    by : (e w i : Bool) → (e || w || i) ≡ is_severity (cond e (Some Severity.Error) (cond w (Some Severity.Warning) (cond i (Some Severity.Informational) None)))
     by true w i = refl
     by false true i = refl
     by false false true = refl

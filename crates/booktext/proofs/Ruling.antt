@@ -1,4 +1,5 @@
 -- Laws of the rules of a section: how many there are, and their bytes. Assumes nothing.
+use Rattle.std.specs.Prelude.{Option, Some, None}
 use mathlib.Core.Path.{◌≡◌, refl, sym, ap, ap₂, subst, ◌∙◌}
 use mathlib.Core.Bool.{Bool, true, false, cond, not, ◌&&◌, ◌||◌, true≢false}
 use mathlib.Core.List.{List, [], ◌∷◌, ◌++◌, map, append-nil, append_assoc}
@@ -17,8 +18,6 @@ use Rattle.grade.specs.declared.rule.Place.{Place}
 use Rattle.grade.specs.declared.rule.Rule.{Rule}
 use Rattle.grade.specs.declared.rule.Severity.{Severity}
 use Rattle.grade.specs.declared.rule.Kind.{Kind}
-use Rattle.grade.specs.declared.rule.SeverityRead.{SeverityRead}
-use Rattle.grade.specs.declared.rule.KindRead.{KindRead}
 use Rattle.grade.proofs.Naming.{name_letters}
 use Rattle.ack.specs.Splice.{Wrote}
 use Rattle.ack.proofs.Writing.{wrote_as, ◌then◌}
@@ -127,7 +126,7 @@ place-written w h e g x y z = wrote_as (x then y then z) (rw (e, g, place-name w
 -- ---- a rule's severity and kind, and their bytes
 record SeveritySaid (letter : ℕ) : Type 0 where
   severity : Severity
-  reads : severity_of letter ≡ SeverityRead.Is severity
+  reads : severity_of letter ≡ Some severity
   spelt : severity_letter severity ≡ letter
 
 severity_said : (letter : ℕ) → is_severity (severity_of letter) ≡ true → SeveritySaid letter
@@ -135,7 +134,7 @@ unfolding severity_of
 severity_said letter h = by (eqb letter 69) (eqb letter 87) (eqb letter 73) refl refl refl h
   where
     by : (e w i : Bool) → eqb letter 69 ≡ e → eqb letter 87 ≡ w → eqb letter 73 ≡ i
-        → is_severity (cond e (SeverityRead.Is Severity.Error) (cond w (SeverityRead.Is Severity.Warning) (cond i (SeverityRead.Is Severity.Informational) SeverityRead.Fault))) ≡ true → SeveritySaid letter
+        → is_severity (cond e (Some Severity.Error) (cond w (Some Severity.Warning) (cond i (Some Severity.Informational) None))) ≡ true → SeveritySaid letter
     by true w i f g k h = record { severity = Severity.Error; reads = rw f; spelt = sym (eqb-true letter 69 f) }
     by false true i f g k h = record { severity = Severity.Warning; reads = rw (f, g); spelt = sym (eqb-true letter 87 g) }
     by false false true f g k h = record { severity = Severity.Informational; reads = rw (f, g, k); spelt = sym (eqb-true letter 73 k) }
@@ -143,7 +142,7 @@ severity_said letter h = by (eqb letter 69) (eqb letter 87) (eqb letter 73) refl
 
 record KindSaid (number set low high : ℕ) : Type 0 where
   kind : Kind
-  reads : kind_of number set low high ≡ KindRead.Is kind
+  reads : kind_of number set low high ≡ Some kind
   spelt : kind_byte kind ∷ last_bytes kind ≡ number ∷ bound_bytes number set low high
   fits : (n count : ℕ) (w x : List ℕ) → low ≡ number_in w → high ≡ number_in x → bound_fits number count w x ≡ true → (number ≡ a_code_kind → within 1 n set ≡ true) → kind_fits n kind ≡ true
 
@@ -204,7 +203,7 @@ module _ (s : Statement) (ok : ready s ≡ true) (rule : makes_rule s ≡ true) 
         let kind = kind_said (kind_number (word s 2)) (number_from 1 (word s 4) names) (number_in (word s 4)) (number_in (word s 5)) rule_kind most in
         let place = place_in (word s 1) in
         let bound = rule-bound in
-        ap₂ (λ (x : SeverityRead) (y : KindRead). rule_fits n (rule_or (rule_with place x y))) severity.reads kind.reads
+        ap₂ (λ (x : Option Severity) (y : Option Kind). rule_fits n (rule_or (rule_with place x y))) severity.reads kind.reads
         ∙ rw (place_fits_lem (word s 1) rule-place, kind.fits n (length s.words - 4) (word s 4) (word s 5) refl refl bound held) refl
 
     rule-spelt : rule_bytes (made names s)
@@ -214,7 +213,7 @@ module _ (s : Statement) (ok : ready s ≡ true) (rule : makes_rule s ≡ true) 
         let severity = severity_said (letter_of s) rule-letter in
         let kind = kind_said (kind_number (word s 2)) (number_from 1 (word s 4) names) (number_in (word s 4)) (number_in (word s 5)) rule_kind most in
         let place = place_in (word s 1) in
-        ap₂ (λ (x : SeverityRead) (y : KindRead). rule_bytes (rule_or (rule_with place x y))) severity.reads kind.reads
+        ap₂ (λ (x : Option Severity) (y : Option Kind). rule_bytes (rule_or (rule_with place x y))) severity.reads kind.reads
         ∙ sym (append_assoc (name_bytes place.segment) (place.field ∷ place.component ∷ []) (kind_byte kind.kind ∷ severity_letter severity.severity ∷ last_bytes kind.kind))
         ∙ ap₂ (λ (l : List ℕ) (x : ℕ). place_bytes place ++ (get_or l 0 0 ∷ x ∷ drop 1 l)) kind.spelt severity.spelt
 

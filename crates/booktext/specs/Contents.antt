@@ -1,10 +1,9 @@
 -- To be believed. What a text means: the rules and sets of its sections, and the book that they make. Assumes nothing.
-use Rattle.std.specs.Prelude.{ℕ, Bool, cond, ◌&&◌, List, [], ◌∷◌, ◌++◌, map, eqb, get_or, drop}
+use Rattle.std.specs.Prelude.{ℕ, Bool, cond, ◌&&◌, List, [], ◌∷◌, ◌++◌, map, eqb, get_or, drop, Option, Some, None}
 use Rattle.hl7.specs.Bytes.{among}
 use Rattle.grade.specs.Book.{Contents}
 use Rattle.grade.specs.Rule.{severity_of, kind_of, no_rule, rule_with}
 use Rattle.grade.specs.declared.rule.Rule.{Rule}
-use Rattle.grade.specs.declared.rule.RuleRead.{RuleRead}
 use Rattle.booktext.specs.Lines.{Statement, word, says, makes_rule, number_from, a_set, a_section, a_code, some_sets, statements}
 use Rattle.booktext.specs.Words.{number_in, place_in, kind_number, a_code_kind}
 use Rattle.booktext.specs.Meaning.{body, from, expand}
@@ -16,9 +15,9 @@ use Rattle.booktext.specs.Changes.{settled, kept, added}
 abbrev pub letter_of : Statement → ℕ
 letter_of s = cond (eqb s.given 0) (get_or (word s 3) 0 0) s.given
 
-abbrev pub rule_or : RuleRead → Rule
-rule_or (RuleRead.Is rule) = rule
-rule_or RuleRead.Fault = no_rule
+abbrev pub rule_or : Option Rule → Rule
+rule_or (Some rule) = rule
+rule_or None = no_rule
 
 -- the rule that it makes in a section which holds the named sets
 unfoldable pub made : List (List ℕ) → Statement → Rule

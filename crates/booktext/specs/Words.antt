@@ -1,6 +1,6 @@
 -- To be believed. Numbers, places, kinds, severities and bounds as words. Every word is read: one that is no number counts as 0, which is no field, no component
 -- that is written, no bound and no set. Assumes nothing.
-use Rattle.std.specs.Prelude.{ℕ, suc, Bool, true, false, cond, not, ◌&&◌, ◌||◌, List, [], ◌∷◌, eqb, leb, ltb, length, get_or, drop}
+use Rattle.std.specs.Prelude.{ℕ, suc, Bool, true, false, cond, not, ◌&&◌, ◌||◌, List, [], ◌∷◌, eqb, leb, ltb, length, get_or, drop, Option, Some, None}
 use Prim.Native.Char.{code}
 use Rattle.hl7.specs.Text.{bytes}
 use Rattle.hl7.specs.Bytes.{within, is_digit, all}
@@ -8,7 +8,7 @@ use Rattle.hl7.specs.Cut.{cut, part_at}
 use Rattle.hl7.specs.Number.{value_of}
 use Rattle.grade.specs.Rule.{name_of_letters, place_fits, severity_of, time_digits}
 use Rattle.grade.specs.declared.rule.Place.{Place}
-use Rattle.grade.specs.declared.rule.SeverityRead.{SeverityRead}
+use Rattle.grade.specs.declared.rule.Severity.{Severity}
 use Rattle.booktext.specs.Lines.{number_from}
 
 -- ---- numbers
@@ -51,9 +51,9 @@ is_place w = eqb (get_or w 3 0) (code "-") && (not (pointed w) || leb 1 (place_i
 
 -- ---- severities and kinds
 
-abbrev pub is_severity : SeverityRead → Bool
-is_severity (SeverityRead.Is severity) = true
-is_severity SeverityRead.Fault = false
+abbrev pub is_severity : Option Severity → Bool
+is_severity (Some severity) = true
+is_severity None = false
 
 -- the letter E, W or I
 unfoldable pub is_severity_word : List ℕ → Bool

@@ -1,4 +1,5 @@
 -- Numbers, places, kinds, severities and names that were spelled are read back, and what was spelled is a word. Assumes nothing.
+use Rattle.std.specs.Prelude.{Some}
 use mathlib.Core.Path.{◌≡◌, refl, sym, ap, ap₂, ◌∙◌}
 use mathlib.Core.Bool.{Bool, true, false, cond, not, ◌&&◌, ◌||◌, and-false, true≢false}
 use mathlib.Core.List.{List, [], ◌∷◌, ◌++◌, head-eq_of_cons-eq, tail-eq_of_cons-eq}
@@ -19,7 +20,6 @@ use Rattle.grade.specs.Rule.{segment_names, name_bytes, counted, first_field, pl
 use Rattle.grade.specs.declared.rule.Kind.{Kind}
 use Rattle.grade.specs.declared.rule.Place.{Place}
 use Rattle.grade.specs.declared.rule.Severity.{Severity}
-use Rattle.grade.specs.declared.rule.SeverityRead.{SeverityRead}
 use Rattle.grade.proofs.Naming.{at-counted, letters_name}
 use Rattle.ack.specs.Decimal.{last_digits, decimal}
 use Rattle.booktext.specs.Lines.{number_from}
@@ -187,7 +187,7 @@ kind_word_lem Kind.Date = refl
 kind_word_lem (Kind.Time digits) = refl
 kind_word_lem (Kind.Code set) = refl
 
-pub severity_back : (s : Severity) → severity_of (severity_letter s) ≡ SeverityRead.Is s
+pub severity_back : (s : Severity) → severity_of (severity_letter s) ≡ Some s
 unfolding severity_of
 severity_back Severity.Error = refl
 severity_back Severity.Warning = refl

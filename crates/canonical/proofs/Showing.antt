@@ -1,4 +1,5 @@
 -- What a section's own lines of the canonical text say: its rules, and the names of its sets. Assumes nothing.
+use Rattle.std.specs.Prelude.{Some}
 use mathlib.Core.Path.{◌≡◌, refl, sym, ap, ap₂, ◌∙◌}
 use mathlib.Core.Bool.{Bool, true, false, cond, not, ◌&&◌, ◌||◌, true≢false}
 use mathlib.Core.List.{List, [], ◌∷◌, ◌++◌, append-nil}
@@ -15,7 +16,6 @@ use Rattle.grade.specs.Encoding.{each, kind_byte}
 use Rattle.grade.specs.Limits.{set_limit}
 use Rattle.grade.specs.Rule.{kind_of, kind_fits}
 use Rattle.grade.specs.declared.rule.Kind.{Kind}
-use Rattle.grade.specs.declared.rule.KindRead.{KindRead}
 use Rattle.grade.specs.declared.rule.Rule.{Rule}
 use Rattle.booktext.specs.Lines.{number_from, verbs, verb_of, of_rule, some_sets}
 use Rattle.booktext.specs.Words.{number_in, kind_number, a_code_kind}
@@ -73,7 +73,7 @@ module _ (key : List ℕ) (sets : List (List (List ℕ))) (few : length sets ≤
   bound k n = get_or (bound_words key k) n []
 
   kind_made : (k : Kind) → kind_fits (length sets) k ≡ true → high_said k ≡ true
-      → kind_of (kind_number (kind_word k)) (number_from 1 (bound k 0) (set_names key 1 sets)) (number_in (bound k 0)) (number_in (bound k 1)) ≡ KindRead.Is k
+      → kind_of (kind_number (kind_word k)) (number_from 1 (bound k 0) (set_names key 1 sets)) (number_in (bound k 0)) (number_in (bound k 1)) ≡ Some k
   unfolding kind_of
   kind_made Kind.Required e f = rw (kind_back Kind.Required)
   kind_made (Kind.Length low high) e f =

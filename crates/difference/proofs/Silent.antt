@@ -1,4 +1,5 @@
 -- Where no line speaks of a key, the sections with that key are alike. Assumes nothing.
+use Rattle.std.specs.Prelude.{Some}
 use mathlib.Core.Path.{◌≡◌, refl, sym, ap, ap₂, ◌∙◌}
 use mathlib.Core.Bool.{Bool, true, false, cond, ◌&&◌, ◌||◌, true≢false}
 use mathlib.Core.List.{List, [], ◌∷◌, ◌++◌, flat_map}
@@ -21,11 +22,9 @@ use Rattle.grade.specs.Encoding.{each, kind_byte}
 use Rattle.grade.specs.Rule.{severity_letter, severity_of, kind_of, no_rule, rule_fits}
 use Rattle.grade.specs.Strict.{count_from}
 use Rattle.grade.specs.declared.rule.Kind.{Kind}
-use Rattle.grade.specs.declared.rule.KindRead.{KindRead}
 use Rattle.grade.specs.declared.rule.Place.{Place}
 use Rattle.grade.specs.declared.rule.Rule.{Rule}
 use Rattle.grade.specs.declared.rule.Severity.{Severity}
-use Rattle.grade.specs.declared.rule.SeverityRead.{SeverityRead}
 use Rattle.grade.proofs.Holding.{PlaceFits, place_limits}
 use Rattle.canonical.specs.Shown.{rule_spot}
 use Rattle.canonical.proofs.Showable.{high_said, is_shown, Fits}
@@ -132,9 +131,9 @@ spot_once r s f g e =
 -- ---- what is not printed of a rule is the same
 severity_once : (a b : Severity) → severity_letter a ≡ severity_letter b → a ≡ b
 unfolding severity_of
-severity_once a b e = let both : SeverityRead.Is a ≡ SeverityRead.Is b = sym (back a) ∙ ap severity_of e ∙ back b in cc
+severity_once a b e = let both : Some a ≡ Some b = sym (back a) ∙ ap severity_of e ∙ back b in cc
   where
-    back : (s : Severity) → severity_of (severity_letter s) ≡ SeverityRead.Is s
+    back : (s : Severity) → severity_of (severity_letter s) ≡ Some s
     back Severity.Error = refl
     back Severity.Warning = refl
     back Severity.Informational = refl
@@ -145,10 +144,10 @@ kind_once k l e f =
     let numbers = and_both (eqb (low_of k) (low_of l)) (eqb (high_of k) (high_of l)) f in
     let low = eqb-true (low_of k) (low_of l) numbers.0 in
     let high = eqb-true (high_of k) (high_of l) numbers.1 in
-    let both : KindRead.Is (blank k) ≡ KindRead.Is (blank l) = sym (back k) ∙ ap₂ (λ (n low : ℕ). kind_of n 0 low (high_of k)) e low ∙ ap (kind_of (kind_byte l) 0 (low_of l)) high ∙ back l in
+    let both : Some (blank k) ≡ Some (blank l) = sym (back k) ∙ ap₂ (λ (n low : ℕ). kind_of n 0 low (high_of k)) e low ∙ ap (kind_of (kind_byte l) 0 (low_of l)) high ∙ back l in
     cc
   where
-    back : (k : Kind) → kind_of (kind_byte k) 0 (low_of k) (high_of k) ≡ KindRead.Is (blank k)
+    back : (k : Kind) → kind_of (kind_byte k) 0 (low_of k) (high_of k) ≡ Some (blank k)
     back Kind.Required = refl
     back (Kind.Length low high) = refl
     back Kind.Number = refl

@@ -1,4 +1,5 @@
 -- An encoding decodes: each reader finds what the bytes at its position encode, where that is within its limits. Assumes nothing.
+use Rattle.std.specs.Prelude.{Some}
 use Prim.Native.Nat.{ℕ, suc, ◌+◌, ◌-◌, ◌*◌, ◌/◌, ◌%◌, ◌<◌, ◌≤◌}
 use native.Mathlib.Nat.{add-zero}
 use native.Mathlib.Omega.{arith}
@@ -14,9 +15,6 @@ use Rattle.hl7.proofs.Comparing.{and_both, part_slice, drop_head, same_equal}
 use Rattle.grade.specs.declared.rule.Severity.{Severity}
 use Rattle.grade.specs.declared.rule.Kind.{Kind}
 use Rattle.grade.specs.declared.rule.Rule.{Rule}
-use Rattle.grade.specs.declared.rule.SeverityRead.{SeverityRead}
-use Rattle.grade.specs.declared.rule.KindRead.{KindRead}
-use Rattle.grade.specs.declared.rule.RuleRead.{RuleRead}
 use Rattle.grade.specs.Limits.{head_size, book_limit, book_version, section_limit, key_limit, rule_limit, rule_size, set_limit, code_limit, code_count_limit}
 use Rattle.grade.specs.Reader.{found, items_of, Reader, run, two_bytes, byte, times}
 use Rattle.grade.specs.Rule.{counted, segment_names, name_bytes, name_of_letters, severity_of, severity_letter, kind_of, unused_zero, rule_said, rule_of, rule_fits}
@@ -99,13 +97,13 @@ three : (n : ℕ) → counted n ≡ true → name_bytes n ≡ get_or (name_bytes
 unfolding name_bytes segment_names same
 three n h = same_equal _ _ (at-counted three_at refl n h)
 
-severity_back : (severity : Severity) → severity_of (severity_letter severity) ≡ SeverityRead.Is severity
+severity_back : (severity : Severity) → severity_of (severity_letter severity) ≡ Some severity
 unfolding severity_of
 severity_back Severity.Error = refl
 severity_back Severity.Warning = refl
 severity_back Severity.Informational = refl
 
-kind_back : (kind : Kind) → kind_of (kind_byte kind) (get_or (last_bytes kind) 0 0) (get_or (last_bytes kind) 1 0) (get_or (last_bytes kind) 2 0) ≡ KindRead.Is kind
+kind_back : (kind : Kind) → kind_of (kind_byte kind) (get_or (last_bytes kind) 0 0) (get_or (last_bytes kind) 1 0) (get_or (last_bytes kind) 2 0) ≡ Some kind
 unfolding kind_of
 kind_back Kind.Required = refl
 kind_back (Kind.Length low high) = refl
@@ -135,7 +133,7 @@ rule_ten : (r : Rule) (name : List ℕ) (x y z : ℕ) → name ≡ x ∷ y ∷ z
 rule_ten r name x y z e = rw (e, last_three r.kind)
 
 rule_back : (sets : ℕ) (r : Rule) (name : List ℕ) (x y z : ℕ) → name ≡ x ∷ y ∷ z ∷ [] → name_of_letters x y z ≡ r.place.segment → rule_fits sets r ≡ true →
-    rule_of sets (name ++ (r.place.field ∷ r.place.component ∷ kind_byte r.kind ∷ severity_letter r.severity ∷ last_bytes r.kind)) ≡ RuleRead.Is r
+    rule_of sets (name ++ (r.place.field ∷ r.place.component ∷ kind_byte r.kind ∷ severity_letter r.severity ∷ last_bytes r.kind)) ≡ Some r
 unfolding rule_of rule_said
 rule_back sets r name x y z e s h = rw (e, s, severity_back r.severity, kind_back r.kind, h, zero_back r.kind)
 

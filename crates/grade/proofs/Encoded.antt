@@ -1,4 +1,5 @@
 -- Bytes that decode are the encoding of what they decode to: each reader takes the bytes of what it found, and leaves the rest. Assumes nothing.
+use Rattle.std.specs.Prelude.{Option, Some, None}
 use Prim.Native.Nat.{ℕ, zero, suc, ◌+◌, ◌-◌, ◌*◌, ◌/◌, ◌%◌, ◌<◌, ◌≤◌}
 use native.Mathlib.Omega.{arith}
 use mathlib.Core.Path.{◌≡◌, refl, sym, ap, ap₂, ◌∙◌}
@@ -15,9 +16,6 @@ use Rattle.grade.specs.declared.rule.Severity.{Severity}
 use Rattle.grade.specs.declared.rule.Kind.{Kind}
 use Rattle.grade.specs.declared.rule.Place.{Place}
 use Rattle.grade.specs.declared.rule.Rule.{Rule}
-use Rattle.grade.specs.declared.rule.SeverityRead.{SeverityRead}
-use Rattle.grade.specs.declared.rule.KindRead.{KindRead}
-use Rattle.grade.specs.declared.rule.RuleRead.{RuleRead}
 use Rattle.grade.specs.Limits.{head_size, book_limit, book_version, key_limit, code_limit, rule_size}
 use Rattle.grade.specs.Reader.{Parsed, fault, found, is_found, items_of, Reader, pair, times}
 use Rattle.grade.specs.Rule.{severity_of, severity_letter, kind_of, unused_zero, rule_of, rule_fits}
@@ -104,18 +102,18 @@ module _ (b : List ℕ) (small : Bytes b) where
 
 -- ---- the ten bytes of a rule
 
-severity_spelt : (x : ℕ) (severity : Severity) → severity_of x ≡ SeverityRead.Is severity → x ≡ severity_letter severity
+severity_spelt : (x : ℕ) (severity : Severity) → severity_of x ≡ Some severity → x ≡ severity_letter severity
 unfolding severity_of
 severity_spelt x severity =
-    cond_gave (eqb x 69) _ _ (SeverityRead.Is severity) (λ t h. eqb-true x 69 t ∙ ap severity_letter (same_severity Severity.Error h))
-    (cond_gave (eqb x 87) _ _ (SeverityRead.Is severity) (λ t h. eqb-true x 87 t ∙ ap severity_letter (same_severity Severity.Warning h))
-    (cond_gave (eqb x 73) _ _ (SeverityRead.Is severity) (λ t h. eqb-true x 73 t ∙ ap severity_letter (same_severity Severity.Informational h))
+    cond_gave (eqb x 69) _ _ (Some severity) (λ t h. eqb-true x 69 t ∙ ap severity_letter (same_severity Severity.Error h))
+    (cond_gave (eqb x 87) _ _ (Some severity) (λ t h. eqb-true x 87 t ∙ ap severity_letter (same_severity Severity.Warning h))
+    (cond_gave (eqb x 73) _ _ (Some severity) (λ t h. eqb-true x 73 t ∙ ap severity_letter (same_severity Severity.Informational h))
     (λ h. none h)))
   where
-    same_severity : (made : Severity) → SeverityRead.Is made ≡ SeverityRead.Is severity → made ≡ severity
+    same_severity : (made : Severity) → Some made ≡ Some severity → made ≡ severity
     same_severity made h = cc
 
-    none : SeverityRead.Fault ≡ SeverityRead.Is severity → x ≡ severity_letter severity
+    none : None ≡ Some severity → x ≡ severity_letter severity
     none h = let z : ◌≡◌ {A = ℕ} 0 1 = cc in absurd (omega arith)
 
 -- the kind's number and the last three bytes
@@ -123,14 +121,14 @@ module _ (number set low high : ℕ) (kind : Kind) (zero : unused_zero kind set 
   abbrev KindSpelt : Type 0
   KindSpelt = (number ≡ kind_byte kind) × (set ∷ low ∷ high ∷ [] ≡ last_bytes kind)
 
-  kind_case : (k : ℕ) (made : Kind) (rest : KindRead) → k ≡ kind_byte made → (unused_zero made set low high ≡ true → set ∷ low ∷ high ∷ [] ≡ last_bytes made) →
-      (rest ≡ KindRead.Is kind → KindSpelt) → cond (eqb number k) (KindRead.Is made) rest ≡ KindRead.Is kind → KindSpelt
-  kind_case k made rest e l g = cond_gave (eqb number k) (KindRead.Is made) rest (KindRead.Is kind) (λ u h. go (eqb-true number k u) h) g
+  kind_case : (k : ℕ) (made : Kind) (rest : Option Kind) → k ≡ kind_byte made → (unused_zero made set low high ≡ true → set ∷ low ∷ high ∷ [] ≡ last_bytes made) →
+      (rest ≡ Some kind → KindSpelt) → cond (eqb number k) (Some made) rest ≡ Some kind → KindSpelt
+  kind_case k made rest e l g = cond_gave (eqb number k) (Some made) rest (Some kind) (λ u h. go (eqb-true number k u) h) g
     where
-      go : number ≡ k → KindRead.Is made ≡ KindRead.Is kind → KindSpelt
+      go : number ≡ k → Some made ≡ Some kind → KindSpelt
       go u h = let q : made ≡ kind = cc in (u ∙ e ∙ ap kind_byte q, l (rw q zero) ∙ ap last_bytes q)
 
-  kind_spelt : kind_of number set low high ≡ KindRead.Is kind → KindSpelt
+  kind_spelt : kind_of number set low high ≡ Some kind → KindSpelt
   unfolding kind_of
   kind_spelt =
       kind_case 1 Kind.Required _ refl (λ t. nothing t)
@@ -147,7 +145,7 @@ module _ (number set low high : ℕ) (kind : Kind) (zero : unused_zero kind set 
           let v = and_both (eqb set 0) (eqb low 0) w.0 in
           rw (eqb-true set 0 v.0, eqb-true low 0 v.1, eqb-true high 0 w.1)
 
-      none : KindRead.Fault ≡ KindRead.Is kind → KindSpelt
+      none : None ≡ Some kind → KindSpelt
       none h = let z : ◌≡◌ {A = ℕ} 0 1 = cc in absurd (omega arith)
 
 -- a list as its elements
@@ -159,7 +157,7 @@ tab_self : (l : List ℕ) (n : ℕ) → length l ≡ n → l ≡ tab n (λ (k : 
 tab_self [] n h = rw (← h)
 tab_self (x ∷ l) n h = rw (← h) (ap (λ (xs : List ℕ). x ∷ xs) (tab_self l (length l) refl))
 
-rule_bytes_lem : (sets : ℕ) (ten : List ℕ) (r : Rule) → length ten ≡ rule_size → rule_of sets ten ≡ RuleRead.Is r → ten ≡ rule_bytes r
+rule_bytes_lem : (sets : ℕ) (ten : List ℕ) (r : Rule) → length ten ≡ rule_size → rule_of sets ten ≡ Some r → ten ≡ rule_bytes r
 rule_bytes_lem sets ten r l h =
     let m = rule-made sets ten r h in
     let p = place_limits sets r m.fits in

@@ -1,4 +1,5 @@
 -- What a section that `Holds` has: its rules by number, within their limits, and its sets. Assumes nothing.
+use Rattle.std.specs.Prelude.{Some}
 use Prim.Native.Nat.{ℕ, zero, suc, ◌+◌, ◌*◌, ◌<◌, ◌≤◌}
 use mathlib.Core.Path.{◌≡◌, refl, sym, ap, ◌∙◌}
 use mathlib.Core.Bool.{true, ◌&&◌}
@@ -15,7 +16,6 @@ use Rattle.grade.specs.declared.walk.Section.{Section}
 use Rattle.grade.specs.declared.rule.Kind.{Kind}
 use Rattle.grade.specs.declared.rule.Place.{Place}
 use Rattle.grade.specs.declared.rule.Rule.{Rule}
-use Rattle.grade.specs.declared.rule.RuleRead.{RuleRead}
 use Rattle.grade.specs.Limits.{rule_size, field_limit, component_limit}
 use Rattle.grade.specs.Reader.{found, is_found, items_of, times}
 use Rattle.grade.specs.Rule.{counted, name_of_letters, first_field, place_fits, kind_fits, rule_said, rule_of, rule_fits, no_rule}
@@ -43,7 +43,7 @@ module _ (b : List ℕ) (s : Section) (h : Holds b s) where
   module _ (i : ℕ) (k : i < s.rule_count) where
     -- the ten bytes of a rule
     pub its_bytes : (s.rules_at + rule_size * i + rule_size ≤ length b)
-        × (rule_of s.set_count (slice (s.rules_at + rule_size * i) (s.rules_at + rule_size * i + rule_size) b) ≡ RuleRead.Is (get_or (rules_in b s) i no_rule))
+        × (rule_of s.set_count (slice (s.rules_at + rule_size * i) (s.rules_at + rule_size * i + rule_size) b) ≡ Some (get_or (rules_in b s) i no_rule))
     its_bytes =
         let sets = s.set_count in
         let at = s.rules_at + rule_size * i in
@@ -53,7 +53,7 @@ module _ (b : List ℕ) (s : Section) (h : Holds b s) where
         (f.0, f.1)
 
     -- what they say
-    pub its_said : rule_said (slice (s.rules_at + rule_size * i) (s.rules_at + rule_size * i + rule_size) b) ≡ RuleRead.Is (get_or (rules_in b s) i no_rule)
+    pub its_said : rule_said (slice (s.rules_at + rule_size * i) (s.rules_at + rule_size * i + rule_size) b) ≡ Some (get_or (rules_in b s) i no_rule)
     its_said =
         let at = s.rules_at + rule_size * i in
         read_said s.set_count (slice at (at + rule_size) b) (get_or (rules_in b s) i no_rule) its_bytes.1

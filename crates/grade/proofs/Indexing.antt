@@ -1,4 +1,5 @@
 -- What indexing a book tells: which row, or where its sections start; and what a section is that is then found by the index. Assumes nothing.
+use Rattle.std.specs.Prelude.{Option, Some, None}
 use Prim.Native.Nat.{ℕ, ◌≤◌, ◌<◌}
 use native.Mathlib.Omega.{arith}
 use mathlib.Core.Path.{◌≡◌, refl, sym, ap, subst, ◌∙◌}
@@ -13,7 +14,6 @@ use Rattle.hl7.specs.Bytes.{within, is_in, distinct as apartly, all, among, begi
 use Rattle.hl7.specs.Refusals.{Told, told, Row, row, first_row, passes, numbers_of}
 use Rattle.hl7.proofs.Comparing.{and_both, all-at}
 use Rattle.hl7.proofs.Refusing.{rows_append, none-exactly}
-use Rattle.grade.specs.declared.walk.Next.{Next}
 use Rattle.grade.specs.declared.book.Indexed.{Indexed}
 use Rattle.grade.specs.declared.book.Opened.{Opened}
 use Rattle.grade.specs.Limits.{head_size, book_limit, book_version, section_limit}
@@ -64,12 +64,12 @@ module _ (b : List ℕ) where
       pub few-sections : get_or b 5 0 ≤ section_limit
       few-sections = leb-true (get_or b 5 0) section_limit (and_both (leb 1 (get_or b 5 0)) (leb (get_or b 5 0) section_limit) l).1
 
-      module _ (starts : List ℕ) (r : Next) (w : times (get_or b 5 0) (starting section) b 6 ≡ up_to (take (get_or b 5 0) starts) r) where
-        pub wrong_section : r ≡ Next.Fault → Tells starts Indexed.Malformed
+      module _ (starts : List ℕ) (r : Option ℕ) (w : times (get_or b 5 0) (starting section) b 6 ≡ up_to (take (get_or b 5 0) starts) r) where
+        pub wrong_section : r ≡ None → Tells starts Indexed.Malformed
         unfolding sections
         wrong_section e = at-fault (rw (le-leb 6 (length b) h, l, sections-say b (get_or b 5 0) 6, w, e))
 
-        module _ (end : ℕ) (e : r ≡ Next.At end) where
+        module _ (end : ℕ) (e : r ≡ Some end) where
           walked : times (get_or b 5 0) (starting section) b 6 ≡ found (take (get_or b 5 0) starts) end
           walked = w ∙ ap (up_to (take (get_or b 5 0) starts)) e
 

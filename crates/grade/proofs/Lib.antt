@@ -35,4 +35,5 @@ pub mod Samples
 pub mod BookSamples
 pub mod CalendarSamples
 pub mod ValueSamples
+pub mod Walking
 pub mod FindingSamples

@@ -1,4 +1,5 @@
 -- What a text, a set, a rule and a section that were read are made of. Assumes nothing.
+use Rattle.std.specs.Prelude.{Option, Some, None}
 use Prim.Native.Nat.{ℕ, ◌+◌, ◌-◌, ◌*◌, ◌<◌, ◌≤◌}
 use native.Mathlib.Nat.{add-zero}
 use native.Mathlib.Omega.{arith}
@@ -12,17 +13,15 @@ use lib.Seq.{slice, length-slice, get_or-drop, get_or-take}
 use Rattle.hl7.specs.Bytes.{within, all, same}
 use Rattle.hl7.proofs.Comparing.{and_both, same_lengths}
 use Rattle.grade.specs.declared.walk.Section.{Section}
-use Rattle.grade.specs.declared.walk.Next.{Next}
 use Rattle.grade.specs.declared.rule.Place.{Place}
-use Rattle.grade.specs.declared.rule.KindRead.{KindRead}
-use Rattle.grade.specs.declared.rule.SeverityRead.{SeverityRead}
 use Rattle.grade.specs.declared.rule.Rule.{Rule}
-use Rattle.grade.specs.declared.rule.RuleRead.{RuleRead}
 use Rattle.grade.specs.Limits.{head_size, section_limit, key_limit, rule_limit, rule_size, set_limit, code_limit, code_count_limit}
 use Rattle.grade.specs.Reader.{Parsed, found, is_found, items_of, check, times, byte, run, pair, two_bytes}
 use Rattle.grade.specs.Rule.{name_of_letters, severity_of, kind_of, unused_zero, place_of, no_rule, rule_with, rule_said, rule_fits, rule_within, rule_of, is_rule}
 use Rattle.grade.specs.Book.{plain, keys, text, section, rule_in, code_set, Contents, rule_read, distinct, nothing_after, sections}
 use Rattle.grade.specs.Standing.{end_of, mapped, text_end, text_at, TextFits, stands_at, contents_of, contents_at, site_at, starting, SetStands}
+use Rattle.grade.specs.declared.rule.Severity.{Severity}
+use Rattle.grade.specs.declared.rule.Kind.{Kind}
 use Rattle.grade.proofs.Readings.{then_found, found-same, check-found, byte-found, run-found, two_found, ended, is_found_lem, row_end, row_inside, row-found, starts-say}
 
 -- ---- texts
@@ -62,7 +61,7 @@ text_read limit b at letters end h =
     v.3
 
 -- a text ends within the book
-pub text-inside : (limit : ℕ) (b : List ℕ) (at end : ℕ) → end_of (text limit b at) ≡ Next.At end → end ≤ length b
+pub text-inside : (limit : ℕ) (b : List ℕ) (at end : ℕ) → end_of (text limit b at) ≡ Some end → end ≤ length b
 text-inside limit b at end h =
     let w = ended (text limit b at) end h in
     let t = text_read limit b at w.0 end w.1 in
@@ -103,38 +102,38 @@ set_is b at h =
 -- what makes a rule: what its bytes say, and that it is within its limits
 pub record RuleMade (sets : ℕ) (ten : List ℕ) (r : Rule) : Type 0 where
   pub place : place_of ten ≡ r.place
-  pub severity : severity_of (get_or ten 6 0) ≡ SeverityRead.Is r.severity
-  pub kind : kind_of (get_or ten 5 0) (get_or ten 7 0) (get_or ten 8 0) (get_or ten 9 0) ≡ KindRead.Is r.kind
+  pub severity : severity_of (get_or ten 6 0) ≡ Some r.severity
+  pub kind : kind_of (get_or ten 5 0) (get_or ten 7 0) (get_or ten 8 0) (get_or ten 9 0) ≡ Some r.kind
   pub fits : rule_fits sets r ≡ true
   pub zero : unused_zero r.kind (get_or ten 7 0) (get_or ten 8 0) (get_or ten 9 0) ≡ true
 
-with_made : (p : Place) (v : SeverityRead) (k : KindRead) (r : Rule) → rule_with p v k ≡ RuleRead.Is r →
-    (p ≡ r.place) × (v ≡ SeverityRead.Is r.severity) × (k ≡ KindRead.Is r.kind)
-with_made p (SeverityRead.Is severity) (KindRead.Is kind) r e =
+with_made : (p : Place) (v : Option Severity) (k : Option Kind) (r : Rule) → rule_with p v k ≡ Some r →
+    (p ≡ r.place) × (v ≡ Some r.severity) × (k ≡ Some r.kind)
+with_made p (Some severity) (Some kind) r e =
     let q : ◌≡◌ {A = Rule} (record { place = p; severity = severity; kind = kind }) r = cc in
-    (ap (λ (x : Rule). x.place) q, ap (λ (x : Rule). SeverityRead.Is x.severity) q, ap (λ (x : Rule). KindRead.Is x.kind) q)
-with_made p (SeverityRead.Is severity) KindRead.Fault r e = let z : ◌≡◌ {A = ℕ} 0 1 = cc in absurd (omega arith)
-with_made p SeverityRead.Fault k r e = let z : ◌≡◌ {A = ℕ} 0 1 = cc in absurd (omega arith)
+    (ap (λ (x : Rule). x.place) q, ap (λ (x : Rule). Some x.severity) q, ap (λ (x : Rule). Some x.kind) q)
+with_made p (Some severity) None r e = let z : ◌≡◌ {A = ℕ} 0 1 = cc in absurd (omega arith)
+with_made p None k r e = let z : ◌≡◌ {A = ℕ} 0 1 = cc in absurd (omega arith)
 
-within-made : (sets : ℕ) (ten : List ℕ) (x : RuleRead) (r : Rule) → rule_within sets ten x ≡ RuleRead.Is r →
-    (x ≡ RuleRead.Is r) × ((rule_fits sets r && unused_zero r.kind (get_or ten 7 0) (get_or ten 8 0) (get_or ten 9 0)) ≡ true)
-within-made sets ten (RuleRead.Is rule) r e =
+within-made : (sets : ℕ) (ten : List ℕ) (x : Option Rule) (r : Rule) → rule_within sets ten x ≡ Some r →
+    (x ≡ Some r) × ((rule_fits sets r && unused_zero r.kind (get_or ten 7 0) (get_or ten 8 0) (get_or ten 9 0)) ≡ true)
+within-made sets ten (Some rule) r e =
     go (rule_fits sets rule && unused_zero rule.kind (get_or ten 7 0) (get_or ten 8 0) (get_or ten 9 0)) refl e
   where
-    go : (t : Bool) → (rule_fits sets rule && unused_zero rule.kind (get_or ten 7 0) (get_or ten 8 0) (get_or ten 9 0)) ≡ t → cond t (RuleRead.Is rule) RuleRead.Fault ≡ RuleRead.Is r →
-        (RuleRead.Is rule ≡ RuleRead.Is r) × ((rule_fits sets r && unused_zero r.kind (get_or ten 7 0) (get_or ten 8 0) (get_or ten 9 0)) ≡ true)
+    go : (t : Bool) → (rule_fits sets rule && unused_zero rule.kind (get_or ten 7 0) (get_or ten 8 0) (get_or ten 9 0)) ≡ t → cond t (Some rule) None ≡ Some r →
+        (Some rule ≡ Some r) × ((rule_fits sets r && unused_zero r.kind (get_or ten 7 0) (get_or ten 8 0) (get_or ten 9 0)) ≡ true)
     go true h e =
         let q : rule ≡ r = cc in
         (e, rw (← q) h)
     go false h e = let z : ◌≡◌ {A = ℕ} 0 1 = cc in absurd (omega arith)
-within-made sets ten RuleRead.Fault r e = let z : ◌≡◌ {A = ℕ} 0 1 = cc in absurd (omega arith)
+within-made sets ten None r e = let z : ◌≡◌ {A = ℕ} 0 1 = cc in absurd (omega arith)
 
 -- a rule that was read is what its bytes say
-pub read_said : (sets : ℕ) (ten : List ℕ) (r : Rule) → rule_of sets ten ≡ RuleRead.Is r → rule_said ten ≡ RuleRead.Is r
+pub read_said : (sets : ℕ) (ten : List ℕ) (r : Rule) → rule_of sets ten ≡ Some r → rule_said ten ≡ Some r
 unfolding rule_of
 read_said sets ten r h = (within-made sets ten (rule_said ten) r h).0
 
-pub rule-made : (sets : ℕ) (ten : List ℕ) (r : Rule) → rule_of sets ten ≡ RuleRead.Is r → RuleMade sets ten r
+pub rule-made : (sets : ℕ) (ten : List ℕ) (r : Rule) → rule_of sets ten ≡ Some r → RuleMade sets ten r
 unfolding rule_of rule_said
 rule-made sets ten r h =
     let w = within-made sets ten (rule_said ten) r h in
@@ -143,7 +142,7 @@ rule-made sets ten r h =
     record { place = p.0; severity = p.1; kind = p.2; fits = t.0; zero = t.1 }
 
 -- and it is within its limits
-pub read_fits : (sets : ℕ) (ten : List ℕ) (r : Rule) → rule_of sets ten ≡ RuleRead.Is r → rule_fits sets r ≡ true
+pub read_fits : (sets : ℕ) (ten : List ℕ) (r : Rule) → rule_of sets ten ≡ Some r → rule_fits sets r ≡ true
 read_fits sets ten r h = (rule-made sets ten r h).fits
 
 slice_at : (b : List ℕ) (at n k : ℕ) → k < n → get_or (slice at (at + n) b) k 0 ≡ get_or b (at + k) 0
@@ -179,30 +178,30 @@ said-there b at =
     )
 
 -- so is the place of a rule
-pub place-there : (sets : ℕ) (b : List ℕ) (at : ℕ) (r : Rule) → rule_of sets (slice at (at + rule_size) b) ≡ RuleRead.Is r → place_at b at ≡ r.place
+pub place-there : (sets : ℕ) (b : List ℕ) (at : ℕ) (r : Rule) → rule_of sets (slice at (at + rule_size) b) ≡ Some r → place_at b at ≡ r.place
 place-there sets b at r h =
     (with_made (place_at b at) (severity_of (get_or b (at + 6) 0)) (kind_of (get_or b (at + 5) 0) (get_or b (at + 7) 0) (get_or b (at + 8) 0) (get_or b (at + 9) 0)) r
     (sym (said-there b at) ∙ read_said sets (slice at (at + rule_size) b) r h)).0
 
 -- and whether there is a rule
-pub rule-stands : (sets : ℕ) (b : List ℕ) (at : ℕ) (r : Rule) → rule_said (slice at (at + rule_size) b) ≡ RuleRead.Is r →
+pub rule-stands : (sets : ℕ) (b : List ℕ) (at : ℕ) (r : Rule) → rule_said (slice at (at + rule_size) b) ≡ Some r →
     (rule_fits sets r && unused_zero r.kind (get_or b (at + 7) 0) (get_or b (at + 8) 0) (get_or b (at + 9) 0)) ≡ is_rule (rule_of sets (slice at (at + rule_size) b))
 unfolding rule_of
 rule-stands sets b at r e =
     rw (e, slice_at b at rule_size 7 (lit< tt), slice_at b at rule_size 8 (lit< tt), slice_at b at rule_size 9 (lit< tt))
     (if_is (rule_fits sets r && unused_zero r.kind (get_or b (at + 7) 0) (get_or b (at + 8) 0) (get_or b (at + 9) 0)))
   where
-    if_is : (t : Bool) → t ≡ is_rule (cond t (RuleRead.Is r) RuleRead.Fault)
+    if_is : (t : Bool) → t ≡ is_rule (cond t (Some r) None)
     if_is true = refl
     if_is false = refl
 
-pub rule_faults : (sets : ℕ) (b : List ℕ) (at : ℕ) → rule_said (slice at (at + rule_size) b) ≡ RuleRead.Fault → false ≡ is_rule (rule_of sets (slice at (at + rule_size) b))
+pub rule_faults : (sets : ℕ) (b : List ℕ) (at : ℕ) → rule_said (slice at (at + rule_size) b) ≡ None → false ≡ is_rule (rule_of sets (slice at (at + rule_size) b))
 unfolding rule_of
 rule_faults sets b at e = rw e
 
 -- a rule that was found: its ten bytes stand in the book, and say it
 pub rule_found : (sets : ℕ) (b : List ℕ) (at : ℕ) (r : Rule) (e : ℕ) → rule_in sets b at ≡ found r e →
-    (at + rule_size ≤ length b) × (rule_of sets (slice at (at + rule_size) b) ≡ RuleRead.Is r) × (e ≡ at + rule_size)
+    (at + rule_size ≤ length b) × (rule_of sets (slice at (at + rule_size) b) ≡ Some r) × (e ≡ at + rule_size)
 unfolding rule_in
 rule_found sets b at r e h =
     let s = then_found (run rule_size b at) _ r e h in
@@ -210,9 +209,9 @@ rule_found sets b at r e h =
     let q = go (rule_of sets s.0) s.1 s.3 in
     (t.0, ap (rule_of sets) (sym t.1) ∙ q.0, q.1 ∙ t.2)
   where
-    go : (x : RuleRead) (m : ℕ) → rule_read x b m ≡ found r e → (x ≡ RuleRead.Is r) × (e ≡ m)
-    go (RuleRead.Is rule) m k = (cc, cc)
-    go RuleRead.Fault m k = let z : ◌≡◌ {A = ℕ} 0 1 = cc in absurd (omega arith)
+    go : (x : Option Rule) (m : ℕ) → rule_read x b m ≡ found r e → (x ≡ Some r) × (e ≡ m)
+    go (Some rule) m k = (cc, cc)
+    go None m k = let z : ◌≡◌ {A = ℕ} 0 1 = cc in absurd (omega arith)
 
 -- ---- sections
 

@@ -1,4 +1,5 @@
 -- Laws of the readers: where a row of readings ends, and what was read, from what its parts tell. Assumes nothing.
+use Rattle.std.specs.Prelude.{Some, None}
 use Prim.Native.Nat.{ℕ, zero, suc, ◌+◌, ◌-◌, ◌*◌, ◌<◌, ◌≤◌}
 use native.Mathlib.Nat.{not-suc-le-zero, le_of_suc-le-suc, mul-zero, mul-suc, add-zero}
 use native.Mathlib.Omega.{arith}
@@ -12,7 +13,6 @@ use lib.ListN.{length, get_or, take, set}
 use lib.Seq.{slice, take-suc-set}
 use Rattle.hl7.specs.Bytes.{all}
 use Rattle.grade.specs.Standing.{end_of, mapped, starting}
-use Rattle.grade.specs.declared.walk.Next.{Next}
 use Rattle.grade.specs.Reader.{Parsed, fault, found, is_found, items_of, Reader, and_then, check, byte, pair, two_bytes, run, times}
 
 -- what is given after a reading does not move its end
@@ -39,7 +39,7 @@ module _ {A B : Type 0} (p : Reader A) (q : Reader B) (f : A → B) (b : List �
 
 module _ {A : Type 0} where
   -- a reading that ends somewhere has found something there
-  pub ended : (r : Parsed A) (e : ℕ) → end_of r ≡ Next.At e → (a : A) × (r ≡ found a e)
+  pub ended : (r : Parsed A) (e : ℕ) → end_of r ≡ Some e → (a : A) × (r ≡ found a e)
   ended fault e h = let z : ◌≡◌ {A = ℕ} 0 1 = cc in absurd (omega arith)
   ended (found a after) e h = (a, cc)
 
@@ -47,12 +47,12 @@ module _ {A : Type 0} where
   is_found_lem fault h = absurd (false≢true h)
   is_found_lem (found a e) h = (a, e, refl)
 
-  pub faulted : (r : Parsed A) → end_of r ≡ Next.Fault → r ≡ fault
+  pub faulted : (r : Parsed A) → end_of r ≡ None → r ≡ fault
   faulted fault h = refl
   faulted (found a after) h = let z : ◌≡◌ {A = ℕ} 0 1 = cc in absurd (omega arith)
 
   module _ (p : Reader A) (b : List ℕ) where
-    pub times_none : (n at : ℕ) → n ≤ 0 → end_of (times n p b at) ≡ Next.At at
+    pub times_none : (n at : ℕ) → n ≤ 0 → end_of (times n p b at) ≡ Some at
     unfolding times
     times_none zero at h = refl
     times_none (suc n) at h = absurd (not-suc-le-zero h)
@@ -63,7 +63,7 @@ module _ {A : Type 0} where
     times_empty (suc n) at h = absurd (not-suc-le-zero h)
 
     -- the first of n ends at e: what follows is the other n - 1 from there
-    pub times-next : (n at e : ℕ) → 0 < n → end_of (p b at) ≡ Next.At e → end_of (times n p b at) ≡ end_of (times (n - 1) p b e)
+    pub times-next : (n at e : ℕ) → 0 < n → end_of (p b at) ≡ Some e → end_of (times n p b at) ≡ end_of (times (n - 1) p b e)
     unfolding times
     times-next zero at e h q = absurd (not-suc-le-zero h)
     times-next (suc n) at e h q =
@@ -72,7 +72,7 @@ module _ {A : Type 0} where
         rw (w.1, m) (end_given (times n p b e) (λ rest. w.0 ∷ rest))
 
     -- the first of n is a fault
-    pub times-fault : (n at : ℕ) → 0 < n → end_of (p b at) ≡ Next.Fault → end_of (times n p b at) ≡ Next.Fault
+    pub times-fault : (n at : ℕ) → 0 < n → end_of (p b at) ≡ None → end_of (times n p b at) ≡ None
     unfolding times
     times-fault zero at h q = absurd (not-suc-le-zero h)
     times-fault (suc n) at h q = rw (faulted (p b at) q)
@@ -210,7 +210,7 @@ module _ {A : Type 0} (p : Reader A) (b : List ℕ) where
 -- ---- a row by where its parts start
 
 module _ {A : Type 0} (p : Reader A) (b : List ℕ) where
-  pub start-found : (at end : ℕ) → end_of (p b at) ≡ Next.At end → starting p b at ≡ found at end
+  pub start-found : (at end : ℕ) → end_of (p b at) ≡ Some end → starting p b at ≡ found at end
   start-found at end h = ap (mapped (λ _. at)) (ended (p b at) end h).1
 
   -- each can be read where it starts
@@ -234,14 +234,14 @@ module _ {A : Type 0} (p : Reader A) (b : List ℕ) where
 
   -- a loop that notes them: one more, and all of them
   module _ (count i from : ℕ) (starts : List ℕ) {whole : Parsed (List ℕ)} (w : whole ≡ after (take i starts) (times (count - i) (starting p) b from)) where
-    pub noted_more : (end : ℕ) → i < count → i < length starts → end_of (p b from) ≡ Next.At end →
+    pub noted_more : (end : ℕ) → i < count → i < length starts → end_of (p b from) ≡ Some end →
         whole ≡ after (take (i + 1) (set starts i from)) (times (count - (i + 1)) (starting p) b end)
     noted_more end h k e =
         let q : take (i + 1) (set starts i from) ≡ take i starts ++ (from ∷ []) = rw (add-one, take-suc-set starts i from k) in
         let m : count - (i + 1) ≡ count - i - 1 = omega arith in
         w ∙ rw (q, m) (row_next (starting p) b (take i starts) (count - i) from end from (omega arith) (start-found from end e))
 
-    pub noted-fault : i < count → end_of (p b from) ≡ Next.Fault → whole ≡ fault
+    pub noted-fault : i < count → end_of (p b from) ≡ None → whole ≡ fault
     noted-fault h e = w ∙ row-fault (starting p) b (take i starts) (count - i) from (omega arith) (ap (mapped (λ _. from)) (faulted (p b from) e))
 
     pub noted-all : i ≡ count → whole ≡ found (take count starts) from

@@ -1,5 +1,5 @@
 -- To be believed. What a rule book is, read from its bytes (01, "The rule book"), and when it is refused (01, rows 7 to 9).
-use Rattle.std.specs.Prelude.{ℕ, Bool, true, cond, not, ◌&&◌, ◌||◌, List, [], ◌∷◌, map, eqb, leb, length}
+use Rattle.std.specs.Prelude.{ℕ, Bool, true, cond, not, ◌&&◌, ◌||◌, List, [], ◌∷◌, map, eqb, leb, length, Option, Some, None}
 use Prim.Native.Char.{code}
 use Rattle.hl7.specs.Text.{bytes}
 use Rattle.hl7.specs.Bytes.{within, all, same, among, begins}
@@ -7,7 +7,6 @@ use Rattle.grade.specs.Limits.{book_limit, head_size, book_version, section_limi
 use Rattle.grade.specs.Reader.{fault, found, is_found, items_of, Reader, ◌>>=◌, ◌>>◌, give, check, byte, pair, two_bytes, run, times}
 use Rattle.grade.specs.Rule.{rule_of}
 use Rattle.grade.specs.declared.rule.Rule.{Rule}
-use Rattle.grade.specs.declared.rule.RuleRead.{RuleRead}
 
 -- ---- keys, codes and sets
 
@@ -35,9 +34,9 @@ code_set = do
 
 -- ---- sections
 
-abbrev pub rule_read : RuleRead → Reader Rule
-rule_read (RuleRead.Is rule) b at = found rule at
-rule_read RuleRead.Fault b at = fault
+abbrev pub rule_read : Option Rule → Reader Rule
+rule_read (Some rule) b at = found rule at
+rule_read None b at = fault
 
 -- a rule has ten bytes; the section has so many sets
 unfoldable pub rule_in : ℕ → Reader Rule

@@ -1,5 +1,5 @@
 -- To be believed. A rule, and what its ten bytes say (01, "The rule book").
-use Rattle.std.specs.Prelude.{ℕ, suc, Bool, true, false, cond, ◌&&◌, ◌||◌, List, [], ◌∷◌, eqb, leb, get_or}
+use Rattle.std.specs.Prelude.{ℕ, suc, Bool, true, false, cond, ◌&&◌, ◌||◌, List, [], ◌∷◌, eqb, leb, get_or, Option, Some, None}
 use Prim.Native.Char.{code}
 use Rattle.hl7.specs.Text.{bytes}
 use Rattle.hl7.specs.Bytes.{within, same}
@@ -8,9 +8,6 @@ use Rattle.grade.specs.declared.rule.Severity.{Severity}
 use Rattle.grade.specs.declared.rule.Kind.{Kind}
 use Rattle.grade.specs.declared.rule.Place.{Place}
 use Rattle.grade.specs.declared.rule.Rule.{Rule}
-use Rattle.grade.specs.declared.rule.SeverityRead.{SeverityRead}
-use Rattle.grade.specs.declared.rule.KindRead.{KindRead}
-use Rattle.grade.specs.declared.rule.RuleRead.{RuleRead}
 
 -- ---- segments
 
@@ -89,12 +86,12 @@ place_fits p =
 -- ---- severity and kind
 
 -- E, W or I
-unfoldable pub severity_of : ℕ → SeverityRead
+unfoldable pub severity_of : ℕ → Option Severity
 severity_of letter =
-    cond (eqb letter (code "E")) (SeverityRead.Is Severity.Error)
-    (cond (eqb letter (code "W")) (SeverityRead.Is Severity.Warning)
-    (cond (eqb letter (code "I")) (SeverityRead.Is Severity.Informational)
-    SeverityRead.Fault))
+    cond (eqb letter (code "E")) (Some Severity.Error)
+    (cond (eqb letter (code "W")) (Some Severity.Warning)
+    (cond (eqb letter (code "I")) (Some Severity.Informational)
+    None))
 
 -- the letter that stands for a severity
 abbrev pub severity_letter : Severity → ℕ
@@ -103,15 +100,15 @@ severity_letter Severity.Warning = code "W"
 severity_letter Severity.Informational = code "I"
 
 -- the kind with a number, made of the rule's last three bytes: set number, low, high
-unfoldable pub kind_of : ℕ → ℕ → ℕ → ℕ → KindRead
+unfoldable pub kind_of : ℕ → ℕ → ℕ → ℕ → Option Kind
 kind_of number set low high =
-    cond (eqb number 1) (KindRead.Is Kind.Required)
-    (cond (eqb number 2) (KindRead.Is (Kind.Length low high))
-    (cond (eqb number 3) (KindRead.Is Kind.Number)
-    (cond (eqb number 4) (KindRead.Is Kind.Date)
-    (cond (eqb number 5) (KindRead.Is (Kind.Time low))
-    (cond (eqb number 6) (KindRead.Is (Kind.Code set))
-    KindRead.Fault)))))
+    cond (eqb number 1) (Some Kind.Required)
+    (cond (eqb number 2) (Some (Kind.Length low high))
+    (cond (eqb number 3) (Some Kind.Number)
+    (cond (eqb number 4) (Some Kind.Date)
+    (cond (eqb number 5) (Some (Kind.Time low))
+    (cond (eqb number 6) (Some (Kind.Code set))
+    None)))))
 
 -- those of the three that a kind does not use are 0
 abbrev pub unused_zero : Kind → ℕ → ℕ → ℕ → Bool
@@ -151,11 +148,11 @@ abbrev pub no_rule : Rule
 no_rule = record { place = record { segment = the_end; field = 0; component = 0 }; severity = Severity.Error; kind = Kind.Required }
 
 -- a place, a severity and a kind
-abbrev pub rule_with : Place → SeverityRead → KindRead → RuleRead
-rule_with place (SeverityRead.Is severity) (KindRead.Is kind) =
-    RuleRead.Is (record { place = place; severity = severity; kind = kind })
-rule_with place (SeverityRead.Is severity) KindRead.Fault = RuleRead.Fault
-rule_with place SeverityRead.Fault kind = RuleRead.Fault
+abbrev pub rule_with : Place → Option Severity → Option Kind → Option Rule
+rule_with place (Some severity) (Some kind) =
+    Some (record { place = place; severity = severity; kind = kind })
+rule_with place (Some severity) None = None
+rule_with place None kind = None
 
 -- segment name (3), field, component
 abbrev pub place_of : List ℕ → Place
@@ -163,22 +160,22 @@ place_of ten =
     record { segment = name_of_letters (get_or ten 0 0) (get_or ten 1 0) (get_or ten 2 0); field = get_or ten 3 0; component = get_or ten 4 0 }
 
 -- the place, then kind, severity, set number, low, high
-unfoldable pub rule_said : List ℕ → RuleRead
+unfoldable pub rule_said : List ℕ → Option Rule
 rule_said ten = rule_with (place_of ten) (severity_of (get_or ten 6 0)) (kind_of (get_or ten 5 0) (get_or ten 7 0) (get_or ten 8 0) (get_or ten 9 0))
 
 -- a rule within its limits, in a section with so many sets
 abbrev pub rule_fits : ℕ → Rule → Bool
 rule_fits sets rule = place_fits rule.place && kind_fits sets rule.kind
 
-abbrev pub rule_within : ℕ → List ℕ → RuleRead → RuleRead
-rule_within sets ten (RuleRead.Is rule) = cond (rule_fits sets rule && unused_zero rule.kind (get_or ten 7 0) (get_or ten 8 0) (get_or ten 9 0)) (RuleRead.Is rule) RuleRead.Fault
-rule_within sets ten RuleRead.Fault = RuleRead.Fault
+abbrev pub rule_within : ℕ → List ℕ → Option Rule → Option Rule
+rule_within sets ten (Some rule) = cond (rule_fits sets rule && unused_zero rule.kind (get_or ten 7 0) (get_or ten 8 0) (get_or ten 9 0)) (Some rule) None
+rule_within sets ten None = None
 
 -- what they say, where it is within its limits and the bytes that are not used are 0
-unfoldable pub rule_of : ℕ → List ℕ → RuleRead
+unfoldable pub rule_of : ℕ → List ℕ → Option Rule
 rule_of sets ten = rule_within sets ten (rule_said ten)
 
 -- a rule was read
-abbrev pub is_rule : RuleRead → Bool
-is_rule (RuleRead.Is rule) = true
-is_rule RuleRead.Fault = false
+abbrev pub is_rule : Option Rule → Bool
+is_rule (Some rule) = true
+is_rule None = false

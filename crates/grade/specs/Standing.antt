@@ -1,5 +1,5 @@
 -- Inner: only contracts inside the crates use these names; nothing here has to be believed. What the code's positions stand for.
-use Rattle.std.specs.Prelude.{ℕ, ◌+◌, ◌*◌, ◌<◌, ◌≤◌, ◌≡◌, Bool, true, false, cond, List, [], ◌∷◌, length, get_or, take}
+use Rattle.std.specs.Prelude.{ℕ, ◌+◌, ◌*◌, ◌<◌, ◌≤◌, ◌≡◌, Bool, true, false, cond, List, [], ◌∷◌, length, get_or, take, Option, Some, None}
 use Rattle.std.proofs.Math.Seq.{slice}
 use Rattle.hl7.specs.Bytes.{same}
 use Rattle.hl7.specs.Place.{delims_of}
@@ -12,7 +12,6 @@ use Rattle.grade.specs.Book.{plain, rule_in, code_set, Contents, section, malfor
 use Rattle.grade.specs.Header.{msh_of, header_of}
 use Rattle.grade.specs.Admission.{key_of, admit_rows, ten_rows, indexed_told, opened_told, admitted_told}
 use Rattle.grade.specs.declared.rule.Rule.{Rule}
-use Rattle.grade.specs.declared.walk.Next.{Next}
 use Rattle.grade.specs.declared.walk.Section.{Section}
 use Rattle.grade.specs.declared.lookup.Looked.{Looked}
 use Rattle.grade.specs.declared.book.Indexed.{Indexed}
@@ -33,14 +32,14 @@ letters_of name = letters_number (get_or (name_bytes name) 0 0) (get_or (name_by
 -- ---- reading
 
 -- where a reading ends
-abbrev pub end_of : {A : Type 0} → Parsed A → Next
-end_of fault = Next.Fault
-end_of (found a after) = Next.At after
+abbrev pub end_of : {A : Type 0} → Parsed A → Option ℕ
+end_of fault = None
+end_of (found a after) = Some after
 
 -- what was read up to there
-abbrev pub up_to : {A : Type 0} → A → Next → Parsed A
-up_to a Next.Fault = fault
-up_to a (Next.At end) = found a end
+abbrev pub up_to : {A : Type 0} → A → Option ℕ → Parsed A
+up_to a None = fault
+up_to a (Some end) = found a end
 
 -- the same reading, with another value
 abbrev pub mapped : {A B : Type 0} → (A → B) → Parsed A → Parsed B
@@ -159,9 +158,9 @@ sets_in b s = items_of (times s.set_count code_set b s.sets_at)
 pub record Holds (b : List ℕ) (s : Section) : Type 0 where
   pub few_rules : s.rule_count ≤ rule_limit
   pub few_sets : s.set_count ≤ set_limit
-  pub rules_end : end_of (times s.rule_count (rule_in s.set_count) b s.rules_at) ≡ Next.At s.sets_at
+  pub rules_end : end_of (times s.rule_count (rule_in s.set_count) b s.rules_at) ≡ Some s.sets_at
   pub sets_after : ℕ
-  pub sets_end : end_of (times s.set_count code_set b s.sets_at) ≡ Next.At sets_after
+  pub sets_end : end_of (times s.set_count code_set b s.sets_at) ≡ Some sets_after
 
 -- a set can be read at a position
 abbrev pub SetStands : List ℕ → ℕ → Type 0

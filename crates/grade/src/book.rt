@@ -10,7 +10,7 @@ ghost use Rattle.grade.specs.Standing.{up_to, text_at, TextFits, TellsPlain, sta
 
 use crate::limits::{BOOK_LIMIT, BOOK_VERSION, HEAD_SIZE, RULE_SIZE, SECTION_LIMIT};
 use crate::plain::PLAIN;
-use crate::walk::{Next, Section, pair_at, section_end, text_after, text_part};
+use crate::walk::{Section, pair_at, section_end, text_after, text_part};
 use hl7::bytes::{begins_with, same_bytes};
 
 #[derive(Clone, Copy)]
@@ -35,7 +35,7 @@ fn walk_sections(
     at: usize,
     count: usize,
     starts: &mut [usize],
-) -> Next
+) -> Option<usize>
     requires { TellsPlain table.now × (count ≤ length starts.old) }
     ensures { times count (starting section) book.now at ≡ up_to (take count starts.new) result }
 {
@@ -43,15 +43,15 @@ fn walk_sections(
     let mut i = 0;
     while i < count {
         match section_end(table, book, from) {
-            Next::At(end) => {
+            Some(end) => {
                 starts[i] = from;
                 from = end;
             }
-            Next::Fault => return Next::Fault,
+            None => return None,
         }
         i += 1;
     }
-    Next::At(from)
+    Some(from)
 }
 
 // The key is that of a section from a number on.
@@ -135,7 +135,7 @@ fn index_sections(book: &[u8], starts: &mut [usize]) -> Indexed
     }
     // made once, and lent: a constant is made anew wherever it is named
     let table = PLAIN;
-    let Next::At(end) = walk_sections(&table, book, HEAD_SIZE + 1, count, starts) else {
+    let Some(end) = walk_sections(&table, book, HEAD_SIZE + 1, count, starts) else {
         return Indexed::Malformed;
     };
     if end != book.len() {

@@ -7,10 +7,9 @@ ghost use Rattle.grade.specs.Book.{text, code_set};
 ghost use Rattle.grade.specs.Rule.{no_rule};
 ghost use Rattle.grade.specs.Standing.{end_of, TextFits, Looks, rules_in, Holds, SetStands, codes_at, NotedSets, Placed};
 ghost use Rattle.grade.specs.Linked.{Linked};
-ghost use Rattle.grade.specs.declared.walk.Next.{Next};
 
 use crate::limits::{LINKS, NAME_PLACES, RULE_SIZE, SET_PLACES};
-use crate::rule::{Rule, RuleRead, name_at, no_rule, rule_said};
+use crate::rule::{Rule, name_at, no_rule, rule_said};
 use crate::walk::{Section, pair_at, text_after, text_part};
 use hl7::bytes::{same_bytes, wide, wide16};
 
@@ -21,7 +20,7 @@ pub(crate) fn rule_named(book: &[u8], section: Section, i: usize, segment: u8) -
 {
     let rules_at = section.rules_at;
     let at = rules_at + RULE_SIZE * i;
-    let RuleRead::Is(rule) = rule_said(book, at, segment) else {
+    let Some(rule) = rule_said(book, at, segment) else {
         return no_rule();
     };
     rule
@@ -73,7 +72,7 @@ pub(crate) fn link_at(links: &[u16; LINKS], k: usize) -> usize
 // Where the codes that stand at a position end.
 fn codes_after(book: &[u8], at: usize, count: usize) -> usize
     requires { is_found (times count (text code_limit) book.now at) ≡ true }
-    ensures { end_of (times count (text code_limit) book.now at) ≡ Next.At result }
+    ensures { end_of (times count (text code_limit) book.now at) ≡ Some result }
 {
     let mut left = count;
     let mut from = at;
@@ -87,7 +86,7 @@ fn codes_after(book: &[u8], at: usize, count: usize) -> usize
 // Where the set that stands at a position ends.
 fn set_after(book: &[u8], at: usize) -> usize
     requires { SetStands book.now at }
-    ensures { end_of (code_set book.now at) ≡ Next.At result }
+    ensures { end_of (code_set book.now at) ≡ Some result }
 {
     codes_after(book, at + 2, pair_at(book, at))
 }

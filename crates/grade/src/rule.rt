@@ -40,25 +40,6 @@ pub struct Rule {
     pub kind: Kind,
 }
 
-// What reading a severity, a kind or a rule gives.
-#[derive(Clone, Copy)]
-pub enum SeverityRead {
-    Is(Severity),
-    Fault,
-}
-
-#[derive(Clone, Copy)]
-pub enum KindRead {
-    Is(Kind),
-    Fault,
-}
-
-#[derive(Clone, Copy)]
-pub enum RuleRead {
-    Is(Rule),
-    Fault,
-}
-
 // The ten names that count, each by its three letters as one number.
 const MSH: u32 = 0x4D5348;
 
@@ -143,14 +124,14 @@ pub fn place_fits(place: Place) -> bool
 }
 
 // The severity that a letter stands for.
-fn severity_of(letter: u8) -> SeverityRead
+fn severity_of(letter: u8) -> Option<Severity>
     ensures { result ≡ severity_of letter }
 {
     match letter {
-        b'E' => SeverityRead::Is(Severity::Error),
-        b'W' => SeverityRead::Is(Severity::Warning),
-        b'I' => SeverityRead::Is(Severity::Informational),
-        _ => SeverityRead::Fault,
+        b'E' => Some(Severity::Error),
+        b'W' => Some(Severity::Warning),
+        b'I' => Some(Severity::Informational),
+        _ => None,
     }
 }
 
@@ -165,17 +146,17 @@ pub fn severity_letter(severity: Severity) -> u8
 }
 
 // The kind with a number, made of the rule's last three bytes.
-fn kind_of(number: u8, set: u8, low: u8, high: u8) -> KindRead
+fn kind_of(number: u8, set: u8, low: u8, high: u8) -> Option<Kind>
     ensures { result ≡ kind_of number set low high }
 {
     match number {
-        1 => KindRead::Is(Kind::Required),
-        2 => KindRead::Is(Kind::Length { low, high }),
-        3 => KindRead::Is(Kind::Number),
-        4 => KindRead::Is(Kind::Date),
-        5 => KindRead::Is(Kind::Time { digits: low }),
-        6 => KindRead::Is(Kind::Code { set }),
-        _ => KindRead::Fault,
+        1 => Some(Kind::Required),
+        2 => Some(Kind::Length { low, high }),
+        3 => Some(Kind::Number),
+        4 => Some(Kind::Date),
+        5 => Some(Kind::Time { digits: low }),
+        6 => Some(Kind::Code { set }),
+        _ => None,
     }
 }
 
@@ -252,7 +233,7 @@ pub(crate) fn name_at(book: &[u8], at: usize) -> u8
 
 // The place, the severity and the kind that the ten bytes at a position say, whose name is known: with the name left to its callers it is small enough to
 // be inlined in both.
-pub(crate) fn rule_said(book: &[u8], at: usize, segment: u8) -> RuleRead
+pub(crate) fn rule_said(book: &[u8], at: usize, segment: u8) -> Option<Rule>
     requires { (at + rule_size ≤ length book.now) × (segment ≡ name_of_letters (get_or book.now at 0) (get_or book.now (at + 1) 0) (get_or book.now (at + 2) 0)) }
     ensures { result ≡ rule_said (slice at (at + rule_size) book.now) }
 {
@@ -261,13 +242,9 @@ pub(crate) fn rule_said(book: &[u8], at: usize, segment: u8) -> RuleRead
         field: book[at + 3],
         component: book[at + 4],
     };
-    let SeverityRead::Is(severity) = severity_of(book[at + 6]) else {
-        return RuleRead::Fault;
-    };
-    let KindRead::Is(kind) = kind_of(book[at + 5], book[at + 7], book[at + 8], book[at + 9]) else {
-        return RuleRead::Fault;
-    };
-    RuleRead::Is(Rule {
+    let severity = severity_of(book[at + 6])?;
+    let kind = kind_of(book[at + 5], book[at + 7], book[at + 8], book[at + 9])?;
+    Some(Rule {
         place,
         severity,
         kind,
@@ -279,7 +256,7 @@ pub(crate) fn rule_stands(book: &[u8], at: usize, sets: u8) -> bool
     requires { at + rule_size ≤ length book.now }
     ensures { result ≡ is_rule (rule_of sets (slice at (at + rule_size) book.now)) }
 {
-    let RuleRead::Is(rule) = rule_said(book, at, name_at(book, at)) else {
+    let Some(rule) = rule_said(book, at, name_at(book, at)) else {
         return false;
     };
     let place = rule.place;

@@ -9,12 +9,6 @@ ghost use Rattle.grade.specs.Limits.{code_limit};
 use crate::limits::{CODE_COUNT_LIMIT, CODE_LIMIT, KEY_LIMIT, RULE_LIMIT, RULE_SIZE, SET_LIMIT};
 use crate::rule::rule_stands;
 
-#[derive(Clone, Copy)]
-pub enum Next {
-    At(usize),
-    Fault,
-}
-
 // Where a section's rules and sets stand.
 #[derive(Clone, Copy)]
 pub struct Section {
@@ -73,7 +67,7 @@ pub fn text_after(book: &[u8], at: usize) -> usize
 }
 
 // A key or a code: a length byte, and as many plain bytes.
-fn text_end(table: &[bool; 256], book: &[u8], at: usize, limit: usize) -> Next
+fn text_end(table: &[bool; 256], book: &[u8], at: usize, limit: usize) -> Option<usize>
     requires { TellsPlain table.now }
     ensures { result ≡ end_of (text limit book.now at) }
 {
@@ -83,59 +77,41 @@ fn text_end(table: &[bool; 256], book: &[u8], at: usize, limit: usize) -> Next
         if (1 <= size) & (size <= limit) {
             if size <= book.len() - from {
                 if all_plain(table, text_part(book, at)) {
-                    return Next::At(from + size);
+                    return Some(from + size);
                 }
             }
         }
     }
-    Next::Fault
+    None
 }
 
-fn codes_end(table: &[bool; 256], book: &[u8], at: usize, count: usize) -> Next
+fn codes_end(table: &[bool; 256], book: &[u8], at: usize, count: usize) -> Option<usize>
     requires { TellsPlain table.now }
     ensures { result ≡ end_of (times count (text code_limit) book.now at) }
 {
-    let mut left = count;
-    let mut from = at;
-    while 0 < left {
-        match text_end(table, book, from, CODE_LIMIT) {
-            Next::At(end) => from = end,
-            Next::Fault => return Next::Fault,
-        }
-        left -= 1;
-    }
-    Next::At(from)
+    (0..count).try_fold(at, |from, _| text_end(table, book, from, CODE_LIMIT))
 }
 
-fn rule_end(book: &[u8], at: usize, sets: u8) -> Next
+fn rule_end(book: &[u8], at: usize, sets: u8) -> Option<usize>
     ensures { result ≡ end_of (rule_in sets book.now at) }
 {
     if at <= book.len() {
         if RULE_SIZE <= book.len() - at {
             if rule_stands(book, at, sets) {
-                return Next::At(at + RULE_SIZE);
+                return Some(at + RULE_SIZE);
             }
         }
     }
-    Next::Fault
+    None
 }
 
-fn rules_end(book: &[u8], at: usize, count: usize, sets: u8) -> Next
+fn rules_end(book: &[u8], at: usize, count: usize, sets: u8) -> Option<usize>
     ensures { result ≡ end_of (times count (rule_in sets) book.now at) }
 {
-    let mut left = count;
-    let mut from = at;
-    while 0 < left {
-        match rule_end(book, from, sets) {
-            Next::At(end) => from = end,
-            Next::Fault => return Next::Fault,
-        }
-        left -= 1;
-    }
-    Next::At(from)
+    (0..count).try_fold(at, |from, _| rule_end(book, from, sets))
 }
 
-fn set_end(table: &[bool; 256], book: &[u8], at: usize) -> Next
+fn set_end(table: &[bool; 256], book: &[u8], at: usize) -> Option<usize>
     requires { TellsPlain table.now }
     ensures { result ≡ end_of (code_set book.now at) }
 {
@@ -147,43 +123,30 @@ fn set_end(table: &[bool; 256], book: &[u8], at: usize) -> Next
             }
         }
     }
-    Next::Fault
+    None
 }
 
-fn sets_end(table: &[bool; 256], book: &[u8], at: usize, count: usize) -> Next
+fn sets_end(table: &[bool; 256], book: &[u8], at: usize, count: usize) -> Option<usize>
     requires { TellsPlain table.now }
     ensures { result ≡ end_of (times count code_set book.now at) }
 {
-    let mut sets = count;
-    let mut from = at;
-    while 0 < sets {
-        match set_end(table, book, from) {
-            Next::At(end) => from = end,
-            Next::Fault => return Next::Fault,
-        }
-        sets -= 1;
-    }
-    Next::At(from)
+    (0..count).try_fold(at, |from, _| set_end(table, book, from))
 }
 
 // A section, checked whole.
-pub(crate) fn section_end(table: &[bool; 256], book: &[u8], at: usize) -> Next
+pub(crate) fn section_end(table: &[bool; 256], book: &[u8], at: usize) -> Option<usize>
     requires { TellsPlain table.now }
     ensures { result ≡ end_of (section book.now at) }
 {
-    let Next::At(counts) = text_end(table, book, at, KEY_LIMIT) else {
-        return Next::Fault;
-    };
+    let counts = text_end(table, book, at, KEY_LIMIT)?;
     if book.len() - counts < 3 {
-        return Next::Fault;
+        return None;
     }
     let rule_count = pair_at(book, counts);
     let set_count = book[counts + 2];
     if !((rule_count <= RULE_LIMIT) & (set_count <= SET_LIMIT)) {
-        return Next::Fault;
+        return None;
     }
-    let Next::At(sets_at) = rules_end(book, counts + 3, rule_count, set_count) else {
-        return Next::Fault;
-    };
+    let sets_at = rules_end(book, counts + 3, rule_count, set_count)?;
     sets_end(table, book, sets_at, set_count as usize)
 }

@@ -25,7 +25,7 @@ pub returns-in_default : goal.returns-in_default
 returns-in_default c = wrong_section c.args.book.now (omega arith) (c.if-not-count.false) _ _ c.walk_sections.ensures c.in_default.is
 
 pub returns-then-end-book : goal.returns-then-end-book
-returns-then-end-book c = more_after c.args.book.now (omega arith) (c.if-not-count.false) _ _ c.walk_sections.ensures _ c.in-At.is c.if-end-book.true
+returns-then-end-book c = more_after c.args.book.now (omega arith) (c.if-not-count.false) _ _ c.walk_sections.ensures _ c.in-Some.is c.if-end-book.true
 
 pub slice_bounds-keys_distinct-end : goal.slice_bounds-keys_distinct-end
 slice_bounds-keys_distinct-end c = omega (arith, c.requires, c.walk_sections.auto.starts, few-sections c.args.book.now (omega arith) (c.if-not-count.false))
@@ -34,15 +34,15 @@ pub slice_bounds-keys_distinct-end-2 : goal.slice_bounds-keys_distinct-end-2
 slice_bounds-keys_distinct-end-2 c = sym (length-take-le _ _ (omega (arith, c.requires, c.walk_sections.auto.starts, few-sections c.args.book.now (omega arith) (c.if-not-count.false))))
 
 pub keys_distinct-requires : goal.keys_distinct-requires
-keys_distinct-requires c = keys_fit c.args.book.now (omega arith) (c.if-not-count.false) _ _ c.walk_sections.ensures _ c.in-At.is
+keys_distinct-requires c = keys_fit c.args.book.now (omega arith) (c.if-not-count.false) _ _ c.walk_sections.ensures _ c.in-Some.is
 
 pub returns-then-keys_distinct : goal.returns-then-keys_distinct
 returns-then-keys_distinct c =
     let few = few-sections c.args.book.now (omega arith) (c.if-not-count.false) in
-    all_indexed c.args.book.now (omega arith) (c.if-not-count.false) _ _ c.walk_sections.ensures _ c.in-At.is c.if-end-book.false
+    all_indexed c.args.book.now (omega arith) (c.if-not-count.false) _ _ c.walk_sections.ensures _ c.in-Some.is c.if-end-book.false
     (sym c.keys_distinct.ensures ∙ c.if-keys_distinct.true) (omega (arith, c.requires, c.walk_sections.auto.starts, few))
 
 pub returns-else-keys_distinct : goal.returns-else-keys_distinct
 returns-else-keys_distinct c =
-    key_twice c.args.book.now (omega arith) (c.if-not-count.false) _ _ c.walk_sections.ensures _ c.in-At.is c.if-end-book.false
+    key_twice c.args.book.now (omega arith) (c.if-not-count.false) _ _ c.walk_sections.ensures _ c.in-Some.is c.if-end-book.false
     (sym c.keys_distinct.ensures ∙ c.if-keys_distinct.false)

@@ -12,4 +12,4 @@ pub returns : goal.returns
 returns c =
     let a = c.args in
     rw (c.place_fits.ensures, c.kind_fits.ensures, c.unused_zero.ensures)
-    (rule-stands a.sets a.book.now a.at _ (sym c.rule_said.ensures ∙ c.in-Is.is))
+    (rule-stands a.sets a.book.now a.at _ (sym c.rule_said.ensures ∙ c.in-Some.is))

@@ -1,4 +1,5 @@
 -- `grade::walk::rule_end` meets its contract: a rule ends after its ten bytes where they say one. Assumes nothing.
+use Rattle.std.specs.Prelude.{Option, Some, None}
 use Prim.Native.Nat.{ℕ, ◌+◌, ◌≤◌}
 use mathlib.Core.Path.{◌≡◌, refl, sym, ap, ◌∙◌}
 use mathlib.Core.Bool.{Bool, cond}
@@ -11,30 +12,29 @@ use Rattle.grade.specs.Limits.{rule_size}
 use Rattle.grade.specs.Rule.{rule_of, is_rule}
 use Rattle.grade.specs.Standing.{end_of}
 use Rattle.grade.specs.Book.{rule_in, rule_read}
-use Rattle.grade.specs.declared.rule.RuleRead.{RuleRead}
-use Rattle.grade.specs.declared.walk.Next.{Next}
+use Rattle.grade.specs.declared.rule.Rule.{Rule}
 use Rattle.grade.proofs.walk.rule_end.Goals as goal
 
 -- the reading, by whether the ten bytes say a rule, over plain variables
 whole : (sets : ℕ) (b : List ℕ) (at : ℕ) (t : Bool) → at + rule_size ≤ length b → t ≡ is_rule (rule_of sets (slice at (at + rule_size) b)) →
-    cond t (Next.At (at + rule_size)) Next.Fault ≡ end_of (rule_in sets b at)
+    cond t (Some (at + rule_size)) None ≡ end_of (rule_in sets b at)
 unfolding rule_in
 whole sets b at t h e = rw (le-leb (at + rule_size) (length b) h, e) (go (rule_of sets (slice at (at + rule_size) b)))
   where
-    go : (r : RuleRead) → cond (is_rule r) (Next.At (at + rule_size)) Next.Fault ≡ end_of (rule_read r b (at + rule_size))
-    go (RuleRead.Is rule) = refl
-    go RuleRead.Fault = refl
+    go : (r : Option Rule) → cond (is_rule r) (Some (at + rule_size)) None ≡ end_of (rule_read r b (at + rule_size))
+    go (Some rule) = refl
+    go None = refl
 
 pub returns-then-rule_stands : goal.returns-then-rule_stands
 returns-then-rule_stands c =
     let a = c.args in
-    ap (λ (t : Bool). cond t (Next.At (a.at + rule_size)) Next.Fault) (sym c.if-rule_stands.true)
+    ap (λ (t : Bool). cond t (Some (a.at + rule_size)) None) (sym c.if-rule_stands.true)
     ∙ whole a.sets a.book.now a.at _ (omega arith) c.rule_stands.ensures
 
 pub returns-else-rule_stands : goal.returns-else-rule_stands
 returns-else-rule_stands c =
     let a = c.args in
-    ap (λ (t : Bool). cond t (Next.At (a.at + rule_size)) Next.Fault) (sym c.if-rule_stands.false)
+    ap (λ (t : Bool). cond t (Some (a.at + rule_size)) None) (sym c.if-rule_stands.false)
     ∙ whole a.sets a.book.now a.at _ (omega arith) c.rule_stands.ensures
 
 pub returns-else-book-at-ge-RULE_SIZE : goal.returns-else-book-at-ge-RULE_SIZE
