@@ -1,6 +1,6 @@
 -- Laws of `specs/Frame.antt`, in the words of the code: the counts, the frame segments, where they stand. Assumes nothing.
-use mathlib.Core.Path.{◌≡◌, refl, ap, ap₂, ◌∙◌}
-use mathlib.Core.Bool.{Bool, true, false, not, ◌&&◌, ◌||◌}
+use mathlib.Core.Path.{◌≡◌, refl, ap, ap₂, sym, ◌∙◌}
+use mathlib.Core.Bool.{Bool, true, false, not, ◌&&◌, ◌||◌, true≢false}
 use mathlib.Core.List.{List, [], ◌∷◌}
 use Prim.Native.Nat.{ℕ, ◌<◌, min}
 use native.Mathlib.Omega.{arith}
@@ -8,6 +8,7 @@ use native.Mathlib.Decide.{dec_lt}
 use lib.Dec.{eqb}
 use lib.ListN.{length, drop}
 use borrow.Author.Tests.{ne_eqb}
+use Rattle.std.specs.Prelude.{Option, is_some as is_there}
 use Rattle.hl7.specs.Text.{bytes}
 use Rattle.hl7.specs.Bytes.{is_digit, all}
 use Rattle.hl7.specs.Counted.{too_large}
@@ -19,11 +20,9 @@ use Rattle.hl7.specs.Refusals.{is_some, row_at, first_row, passes, first_of, wro
 use Rattle.hl7.specs.Spans.{between, Spans}
 use Rattle.hl7.specs.declared.cut.Span.{Span}
 use Rattle.hl7.specs.declared.place.Delims.{Delims}
-use Rattle.hl7.specs.declared.refusal.Found.{Found}
-use Rattle.hl7.specs.declared.refusal.Found.TheVariants.{At, Nothing}
 use Rattle.batchfile.specs.Messages.{lines_of, gathered, from_frame}
 use Rattle.batchfile.specs.Frame.{trailer_of, keeps_rows, is_segment, is_none, is_framed, is_count, count_in, is_counted}
-use Rattle.batchfile.specs.Walk.{lines_at, gathered_at, LineEnds, BodyEnds, IsNothing, Framing}
+use Rattle.batchfile.specs.Walk.{lines_at, gathered_at, LineEnds, BodyEnds, Framing}
 use Rattle.batchfile.specs.declared.frame.Body.{Body}
 use Rattle.batchfile.specs.declared.frame.Frame.{Frame}
 use Rattle.batchfile.proofs.Gathering.{lines_none}
@@ -45,17 +44,16 @@ pub counted_in : (d : Delims) (line : List ℕ) (n : ℕ) {seg : List ℕ} {span
 counted_in d line n is first r = r ∙ ap (is_count n) first.bytes ∙ ap (λ (s : List ℕ). is_count n (field_of d s 1).bytes) is
 
 -- ---- frame segments
-pub nothing-at : {found : Found} {at : ℕ} → found ≡ At at → IsNothing found false
-nothing-at e [] f = let z : ◌≡◌ {A = ℕ} 0 1 = cc in absurd (omega arith)
-nothing-at e (x ∷ l) f = refl
+none_asked : (positions : List ℕ) (r : Bool) {found : Option ℕ} → found ≡ first_of positions → is_there found ≡ not r → r ≡ not (is_some positions)
+none_asked [] true e f = refl
+none_asked [] false e f = absurd (true≢false (sym f ∙ ap is_there e))
+none_asked (x ∷ l) true e f = absurd (true≢false (sym (ap is_there e) ∙ f))
+none_asked (x ∷ l) false e f = refl
 
-pub nothing-there : {found : Found} → found ≡ Nothing → IsNothing found true
-nothing-there e [] f = refl
-nothing-there e (x ∷ l) f = let z : ◌≡◌ {A = ℕ} 0 1 = cc in absurd (omega arith)
-
-pub asked_rows : (d : Delims) (line : List ℕ) {byte seg : Found} {a b : Bool} → byte ≡ first_of (wrong_bytes 0 line) → IsNothing byte a → seg ≡ first_of (wrong_segments d 0 (cut carriage_return line)) → IsNothing seg b → (a && b) ≡ keeps_rows d line
+pub asked_rows : (d : Delims) (line : List ℕ) (a b : Bool) {byte seg : Option ℕ} → byte ≡ first_of (wrong_bytes 0 line) → is_there byte ≡ not a → seg ≡ first_of (wrong_segments d 0 (cut carriage_return line)) → is_there seg ≡ not b → (a && b) ≡ keeps_rows d line
 unfolding keeps_rows first_row
-asked_rows d line p a q b = ap₂ ◌&&◌ (a (wrong_bytes 0 line) p) (b (wrong_segments d 0 (cut carriage_return line)) q) ∙ both (wrong_bytes 0 line) (wrong_segments d 0 (cut carriage_return line))
+asked_rows d line a b p r q t =
+    ap₂ ◌&&◌ (none_asked (wrong_bytes 0 line) a p r) (none_asked (wrong_segments d 0 (cut carriage_return line)) b q t) ∙ both (wrong_bytes 0 line) (wrong_segments d 0 (cut carriage_return line))
   where
     both : (bytes segs : List ℕ) → (not (is_some bytes) && not (is_some segs)) ≡ passes (row_at 3 bytes ∷ row_at 5 segs ∷ [])
     both [] [] = refl

@@ -2,9 +2,7 @@
 -- What a walk over a file answers: where a segment, a message and the messages end, and what is left from there on. Assumes nothing.
 use Rattle.std.specs.Prelude.{ℕ, ◌-◌, ◌≤◌, ◌<◌, ◌≡◌, Bool, not, List, [], ◌∷◌, length, drop}
 use Rattle.hl7.specs.Cut.{part_at}
-use Rattle.hl7.specs.Refusals.{is_some, first_of}
 use Rattle.hl7.specs.Spans.{between}
-use Rattle.hl7.specs.declared.refusal.Found.{Found}
 use Rattle.batchfile.specs.Messages.{lines_of, Gathered, gathered, from_frame}
 use Rattle.batchfile.specs.Frame.{fhs_of, bhs_of, messages_in, trailer_of, bts_of, fts_of}
 use Rattle.batchfile.specs.declared.frame.Body.{Body}
@@ -48,10 +46,6 @@ pub record BodyEnds (f : List ℕ) (at : ℕ) (r : Body) : Type 0 where
   pub few : r.count ≤ r.end - at
 
 -- ---- the frame
--- nothing was found
-abbrev pub IsNothing : Found → Bool → Type 0
-IsNothing found r = (positions : List ℕ) → found ≡ first_of positions → r ≡ not (is_some positions)
-
 -- r says where the parts of a file stand, and how many messages it has
 pub record Framing (f : List ℕ) (r : Frame) : Type 0 where
   pub forward : (r.bhs ≤ r.start) × (r.start ≤ r.end) × (r.end ≤ r.fts) × (r.fts ≤ r.over) × (r.over ≤ length f)

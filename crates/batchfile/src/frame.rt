@@ -3,14 +3,14 @@ ghost use Rattle.std.specs.Prelude.{◌≡◌, ◌≤◌, ◌<◌, length};
 ghost use Rattle.hl7.specs.Counted.{too_large};
 ghost use Rattle.hl7.specs.Place.{delims_of};
 ghost use Rattle.batchfile.specs.Frame.{keeps_rows, is_segment, is_none, is_framed, is_count, count_in, is_counted};
-ghost use Rattle.batchfile.specs.Walk.{gathered_at, BodyEnds, IsNothing, Framing};
+ghost use Rattle.batchfile.specs.Walk.{gathered_at, BodyEnds, Framing};
 
 use crate::message::{is_frame, line_end};
 use hl7::bytes::{begins_with, pick};
 use hl7::delimiters::opens_with;
 use hl7::number::read_digits;
 use hl7::place::{Delims, field_span, is_msh, segment};
-use hl7::refusal::{Found, wrong_byte, wrong_segment};
+use hl7::refusal::{wrong_byte, wrong_segment};
 
 // Where the messages end, and how many there are.
 #[derive(Clone, Copy)]
@@ -69,20 +69,11 @@ pub(crate) fn frame_of(f: &[u8]) -> Frame
 }
 
 // ---- the shape
-fn is_nothing(found: Found) -> bool
-    ensures { IsNothing found result }
-{
-    match found {
-        Found::At(at) => false,
-        Found::Nothing => true,
-    }
-}
-
 // Whether a frame segment keeps rows 3 and 5.
 fn keeps_rows(d: Delims, line: &[u8]) -> bool
     ensures { result ≡ keeps_rows d line.now }
 {
-    is_nothing(wrong_byte(line)) & is_nothing(wrong_segment(d, line))
+    wrong_byte(line).is_none() & wrong_segment(d, line).is_none()
 }
 
 // Whether a segment is the frame segment of a name.

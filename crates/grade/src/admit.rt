@@ -15,7 +15,7 @@ use crate::header::{Header, header_of, msh_value};
 use crate::refusal::{Answer, of_reading, refused};
 use crate::walk::Section;
 use hl7::place::{Delims, MSH_PLACES, delims_of, note_fields, noted_field, segment};
-use hl7::refusal::{check, is_sound_reading};
+use hl7::refusal::check;
 
 // The first refusal that applies, or by what the message is graded.
 #[derive(Clone, Copy)]
@@ -78,7 +78,7 @@ pub fn admit_message(m: &[u8]) -> Answer
     ensures { paper result ≡ first_row (six_rows m.now) }
 {
     let reading = check(m);
-    if is_sound_reading(reading) {
+    if reading.is_ok() {
         admit_control(delims_of(m), segment(m, 1))
     } else {
         of_reading(reading)
@@ -91,7 +91,7 @@ pub(crate) fn admit(m: &[u8], book: &[u8], sections: &[usize], indexed: Indexed)
     ensures { Admits m.now book.now result }
 {
     let reading = check(m);
-    if is_sound_reading(reading) {
+    if reading.is_ok() {
         admit_msh(delims_of(m), segment(m, 1), book, sections, indexed)
     } else {
         Admitted::Refused(of_reading(reading))

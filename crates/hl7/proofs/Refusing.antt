@@ -11,17 +11,17 @@ use native.Mathlib.Decide.{dec_le}
 use lib.Dec.{eqb}
 use lib.ListN.{length, get_or, drop, length-drop, drop_of_length-le}
 use borrow.Author.Tests.{eq-eqb, ne_eqb, lt-ltb, le-ltb, eqb-true, ltb-false, not-false}
+use Rattle.std.specs.Prelude.{Option, Some, None, Result, Ok, Err, is_ok}
 use Rattle.hl7.specs.declared.place.Delims.{Delims}
-use Rattle.hl7.specs.declared.refusal.Found.TheVariants.{At, Nothing}
-use Rattle.hl7.specs.declared.refusal.Reading.{Reading}
-use Rattle.hl7.specs.declared.refusal.Reading.TheVariants.{Sound, Empty, TooLong, WrongByte, NoHeader, WrongSegment}
+use Rattle.hl7.specs.declared.refusal.Unreadable.{Unreadable}
+use Rattle.hl7.specs.declared.refusal.Unreadable.TheVariants.{Empty, TooLong, WrongByte, NoHeader, WrongSegment}
 use Rattle.hl7.specs.Text.{bytes}
 use Rattle.hl7.specs.Bytes.{is_in, distinct, all}
 use Rattle.hl7.specs.Cut.{ahead, cut, part_at, end_from, but_last}
 use Rattle.hl7.specs.Place.{delims_of, carriage_return, segments_of, segment_of, is_msh, nth_of, cut_unless, place}
 use Rattle.hl7.specs.Delimiters.{opens}
 use Rattle.hl7.specs.Spans.{between}
-use Rattle.hl7.specs.Refusals.{Told, told, Row, row, row_at, first_row, passes, numbers_of, apart, holds_at, First, message_limit, allowed, wrong_bytes, has_form, wrong_segments, form_rows, message_rows, first_of, is_some, reading_told, reads_sound, reading_of, is_sound, located}
+use Rattle.hl7.specs.Refusals.{Told, told, Row, row, row_at, first_row, passes, numbers_of, apart, holds_at, First, message_limit, allowed, wrong_bytes, has_form, wrong_segments, form_rows, message_rows, first_of, is_some, reading_told, reading_of, is_sound, located}
 use Rattle.hl7.proofs.Comparing.{rest_at, none_of, and_both, distinct_one}
 use Rattle.hl7.proofs.Cutting.{first, first-at, first-begins, cut-some, parts_more, parts_last}
 use Rattle.hl7.proofs.Delimiting.{Delimiting, opens-begins, opens_delimiting}
@@ -130,12 +130,12 @@ rows_append (r ∷ rows) more e = by r.holds (rows_append rows more (apart-less 
     by false ih = ih
 
 -- ---- a row for what stands at some positions
-pub position_some : (n at : ℕ) (positions : List ℕ) (rows : List Row) → At at ≡ first_of positions → first_row (row_at n positions ∷ rows) ≡ told n at
+pub position_some : (n at : ℕ) (positions : List ℕ) (rows : List Row) → Some at ≡ first_of positions → first_row (row_at n positions ∷ rows) ≡ told n at
 unfolding first_row
 position_some n at [] rows e = let z : ◌≡◌ {A = ℕ} 0 1 = cc in absurd (omega arith)
 position_some n at (x ∷ l) rows e = let same : at ≡ x = cc in ap (told n) (sym same)
 
-pub position_none : (n : ℕ) (positions : List ℕ) (rows : List Row) → Nothing ≡ first_of positions → first_row (row_at n positions ∷ rows) ≡ first_row rows
+pub position_none : (n : ℕ) (positions : List ℕ) (rows : List Row) → None ≡ first_of positions → first_row (row_at n positions ∷ rows) ≡ first_row rows
 unfolding first_row
 position_none n [] rows e = refl
 position_none n (x ∷ l) rows e = let z : ◌≡◌ {A = ℕ} 0 1 = cc in absurd (omega arith)
@@ -146,7 +146,7 @@ module _ (m : List ℕ) (i : ℕ) where
   unfolding wrong_bytes
   byte-right h t = ap (wrong_bytes i) (rest_at m i h) ∙ rw (t, add-one i)
 
-  pub byte_wrong : i < length m → allowed (get_or m i 0) ≡ false → first_of (wrong_bytes i (drop i m)) ≡ At i
+  pub byte_wrong : i < length m → allowed (get_or m i 0) ≡ false → first_of (wrong_bytes i (drop i m)) ≡ Some i
   unfolding wrong_bytes
   byte_wrong h t = ap (λ (l : List ℕ). first_of (wrong_bytes i l)) (rest_at m i h) ∙ rw t
 
@@ -175,10 +175,10 @@ module _ (d : Delims) (m : List ℕ) (at : ℕ) {end : ℕ} (found : end ≡ end
   pub segment-right : end < length m → has_form d (between m at end) ≡ true → wrong_segments d at (cut carriage_return (drop at m)) ≡ wrong_segments d (end + 1) (cut carriage_return (drop (end + 1) m))
   segment-right h t = segment_step h true t
 
-  pub segment_wrong : end < length m → has_form d (between m at end) ≡ false → first_of (wrong_segments d at (cut carriage_return (drop at m))) ≡ At at
+  pub segment_wrong : end < length m → has_form d (between m at end) ≡ false → first_of (wrong_segments d at (cut carriage_return (drop at m))) ≡ Some at
   segment_wrong h t = ap first_of (segment_step h false t)
 
-  pub segment_open : at < length m → length m ≤ end → first_of (wrong_segments d at (cut carriage_return (drop at m))) ≡ At at
+  pub segment_open : at < length m → length m ≤ end → first_of (wrong_segments d at (cut carriage_return (drop at m))) ≡ Some at
   unfolding wrong_segments
   segment_open h last = rw (parts_last carriage_return m at (omega arith), ne_eqb (length (drop at m)) 0 (λ e. omega (arith, e, length-drop at m)))
 
@@ -187,21 +187,21 @@ unfolding wrong_segments cut
 segments-over d m at h = rw (drop_of_length-le m h)
 
 -- ---- one answer
-reading_paper : (r : Reading) → reading_of (reading_told r) ≡ r
+reading_paper : (r : Result Unit Unreadable) → reading_of (reading_told r) ≡ r
 unfolding reading_of
-reading_paper Sound = refl
-reading_paper Empty = refl
-reading_paper TooLong = refl
-reading_paper (WrongByte at) = refl
-reading_paper NoHeader = refl
-reading_paper (WrongSegment start) = refl
+reading_paper (Ok tt) = refl
+reading_paper (Err Empty) = refl
+reading_paper (Err TooLong) = refl
+reading_paper (Err (WrongByte at)) = refl
+reading_paper (Err NoHeader) = refl
+reading_paper (Err (WrongSegment start)) = refl
 
 -- the contract of `check` fixes its answer
-pub reading_is : (m : List ℕ) {r : Reading} → reading_told r ≡ first_row (message_rows m) → r ≡ reading_of (first_row (message_rows m))
+pub reading_is : (m : List ℕ) {r : Result Unit Unreadable} → reading_told r ≡ first_row (message_rows m) → r ≡ reading_of (first_row (message_rows m))
 reading_is m {r} e = sym (reading_paper r) ∙ ap reading_of e
 
 -- any two answers that the contract of `check` allows are equal
-pub check_once : (m : List ℕ) {r q : Reading} → reading_told r ≡ first_row (message_rows m) → reading_told q ≡ first_row (message_rows m) → r ≡ q
+pub check_once : (m : List ℕ) {r q : Result Unit Unreadable} → reading_told r ≡ first_row (message_rows m) → reading_told q ≡ first_row (message_rows m) → r ≡ q
 check_once m e f = reading_is m e ∙ sym (reading_is m f)
 
 -- ---- rows 1 to 5
@@ -225,10 +225,10 @@ module _ (m : List ℕ) where
     unfolding first_row form_rows
     form_passed = rw e
 
-    pub form_wrong : {d : Delims} {start : ℕ} → d ≡ delims_of m → At start ≡ first_of (wrong_segments d 0 (cut carriage_return m)) → told 5 start ≡ first_row (form_rows m)
+    pub form_wrong : {d : Delims} {start : ℕ} → d ≡ delims_of m → Some start ≡ first_of (wrong_segments d 0 (cut carriage_return m)) → told 5 start ≡ first_row (form_rows m)
     form_wrong {d} {start} own f = sym (form_passed ∙ position_some 5 start (wrong_segments (delims_of m) 0 (cut carriage_return m)) [] (rw (← own) f))
 
-    pub form_sound : {d : Delims} → d ≡ delims_of m → Nothing ≡ first_of (wrong_segments d 0 (cut carriage_return m)) → told 0 0 ≡ first_row (form_rows m)
+    pub form_sound : {d : Delims} → d ≡ delims_of m → None ≡ first_of (wrong_segments d 0 (cut carriage_return m)) → told 0 0 ≡ first_row (form_rows m)
     unfolding first_row
     form_sound {d} own f = sym (form_passed ∙ position_none 5 (wrong_segments (delims_of m) 0 (cut carriage_return m)) [] (rw (← own) f))
 
@@ -246,24 +246,24 @@ module _ (m : List ℕ) where
       unfolding first_row message_rows
       lengths_passed = rw (ne_eqb (length m) 0 some, le-ltb message_limit (length m) short)
 
-      pub message-byte : {at : ℕ} → At at ≡ first_of (wrong_bytes 0 m) → told 3 at ≡ first_row (message_rows m)
+      pub message-byte : {at : ℕ} → Some at ≡ first_of (wrong_bytes 0 m) → told 3 at ≡ first_row (message_rows m)
       message-byte {at} f = sym (lengths_passed ∙ position_some 3 at (wrong_bytes 0 m) (form_rows m) f)
 
-      pub message_form : Nothing ≡ first_of (wrong_bytes 0 m) → first_row (form_rows m) ≡ first_row (message_rows m)
+      pub message_form : None ≡ first_of (wrong_bytes 0 m) → first_row (form_rows m) ≡ first_row (message_rows m)
       message_form f = sym (lengths_passed ∙ position_none 3 (wrong_bytes 0 m) (form_rows m) f)
 
 -- ---- sound messages
-reads_sound_lem : (r : Reading) → reads_sound r ≡ eqb (reading_told r).number 0
-reads_sound_lem Sound = refl
-reads_sound_lem Empty = refl
-reads_sound_lem TooLong = refl
-reads_sound_lem (WrongByte at) = refl
-reads_sound_lem NoHeader = refl
-reads_sound_lem (WrongSegment start) = refl
+read-ok : (r : Result Unit Unreadable) → is_ok r ≡ eqb (reading_told r).number 0
+read-ok (Ok tt) = refl
+read-ok (Err Empty) = refl
+read-ok (Err TooLong) = refl
+read-ok (Err (WrongByte at)) = refl
+read-ok (Err NoHeader) = refl
+read-ok (Err (WrongSegment start)) = refl
 
-pub sound-is : (m : List ℕ) (r : Reading) → reading_told r ≡ first_row (message_rows m) → reads_sound r ≡ is_sound m
+pub sound-is : (m : List ℕ) (r : Result Unit Unreadable) → reading_told r ≡ first_row (message_rows m) → is_ok r ≡ is_sound m
 unfolding is_sound
-sound-is m r e = reads_sound_lem r ∙ ap (λ (a : Told). eqb a.number 0) e
+sound-is m r e = read-ok r ∙ ap (λ (a : Told). eqb a.number 0) e
 
 -- none of rows 1 to 5 holds of a sound message
 pub sound_none : (m : List ℕ) → is_sound m ≡ true → (i : ℕ) → holds_at (message_rows m) i ≡ false

@@ -1,16 +1,14 @@
 -- To be believed. Refusals as a table: each row a condition, a number and a detail, tried in the paper's order. Rows 1 to 5 are about the message's bytes.
 -- Assumes nothing.
-use Rattle.std.specs.Prelude.{ℕ, suc, ◌+◌, ◌<◌, ◌≡◌, Bool, true, false, cond, not, ◌&&◌, ◌||◌, List, [], ◌∷◌, length, get_or, eqb, ltb}
+use Rattle.std.specs.Prelude.{ℕ, suc, ◌+◌, ◌<◌, ◌≡◌, Bool, true, false, cond, not, ◌&&◌, ◌||◌, List, [], ◌∷◌, Option, Some, None, Result, Ok, Err, length, get_or, eqb, ltb}
 use Rattle.hl7.specs.Text.{bytes}
 use Rattle.hl7.specs.Bytes.{within, is_digit, is_upper, distinct}
 use Rattle.hl7.specs.Cut.{cut, Piece}
 use Rattle.hl7.specs.Place.{delims_of, carriage_return, place}
 use Rattle.hl7.specs.Delimiters.{opens}
 use Rattle.hl7.specs.declared.place.Delims.{Delims}
-use Rattle.hl7.specs.declared.refusal.Found.{Found}
-use Rattle.hl7.specs.declared.refusal.Found.TheVariants.{At, Nothing}
-use Rattle.hl7.specs.declared.refusal.Reading.{Reading}
-use Rattle.hl7.specs.declared.refusal.Reading.TheVariants.{Sound, Empty, TooLong, WrongByte, NoHeader, WrongSegment}
+use Rattle.hl7.specs.declared.refusal.Unreadable.{Unreadable}
+use Rattle.hl7.specs.declared.refusal.Unreadable.TheVariants.{Empty, TooLong, WrongByte, NoHeader, WrongSegment}
 
 -- ---- tables of refusals
 -- an answer on paper: a number and a detail
@@ -101,33 +99,28 @@ unfoldable pub message_rows : List ℕ → List Row
 message_rows m = row 1 (eqb (length m) 0) ∷ row 2 (ltb message_limit (length m)) ∷ row_at 3 (wrong_bytes 0 m) ∷ form_rows m
 
 -- ---- the code's answers on paper
-abbrev pub first_of : List ℕ → Found
-first_of [] = Nothing
-first_of (x ∷ l) = At x
+abbrev pub first_of : List ℕ → Option ℕ
+first_of [] = None
+first_of (x ∷ l) = Some x
 
-abbrev pub reading_told : Reading → Told
-reading_told Sound = told 0 0
-reading_told Empty = told 1 0
-reading_told TooLong = told 2 0
-reading_told (WrongByte at) = told 3 at
-reading_told NoHeader = told 4 0
-reading_told (WrongSegment start) = told 5 start
+abbrev pub unreadable_told : Unreadable → Told
+unreadable_told Empty = told 1 0
+unreadable_told TooLong = told 2 0
+unreadable_told (WrongByte at) = told 3 at
+unreadable_told NoHeader = told 4 0
+unreadable_told (WrongSegment start) = told 5 start
 
-abbrev pub reads_sound : Reading → Bool
-reads_sound Sound = true
-reads_sound Empty = false
-reads_sound TooLong = false
-reads_sound (WrongByte at) = false
-reads_sound NoHeader = false
-reads_sound (WrongSegment start) = false
+abbrev pub reading_told : Result Unit Unreadable → Told
+reading_told (Ok read) = told 0 0
+reading_told (Err reason) = unreadable_told reason
 
 -- what a paper's answer about a message is in the code's words: the other way round
-unfoldable pub reading_of : Told → Reading
+unfoldable pub reading_of : Told → Result Unit Unreadable
 reading_of a =
-    cond (eqb a.number 0) Sound
-    (cond (eqb a.number 1) Empty
-    (cond (eqb a.number 2) TooLong
-    (cond (eqb a.number 3) (WrongByte a.detail) (cond (eqb a.number 4) NoHeader (WrongSegment a.detail)))))
+    cond (eqb a.number 0) (Ok tt)
+    (cond (eqb a.number 1) (Err Empty)
+    (cond (eqb a.number 2) (Err TooLong)
+    (cond (eqb a.number 3) (Err (WrongByte a.detail)) (cond (eqb a.number 4) (Err NoHeader) (Err (WrongSegment a.detail))))))
 
 -- ---- locating
 -- refusals 1 to 5 do not apply

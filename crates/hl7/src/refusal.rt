@@ -3,7 +3,7 @@ ghost use Rattle.std.specs.Prelude.{◌≡◌};
 ghost use Rattle.hl7.specs.Bytes.{is_upper, all};
 ghost use Rattle.hl7.specs.Cut.{cut};
 ghost use Rattle.hl7.specs.Place.{carriage_return};
-ghost use Rattle.hl7.specs.Refusals.{allowed, wrong_bytes, is_upper_or_digit, has_form, wrong_segments, form_rows, message_rows, first_row, first_of, reading_told, reads_sound, is_sound};
+ghost use Rattle.hl7.specs.Refusals.{allowed, wrong_bytes, is_upper_or_digit, has_form, wrong_segments, form_rows, message_rows, first_row, first_of, reading_told, is_sound};
 
 use crate::bytes::byte_at;
 use crate::cut::find_far;
@@ -12,21 +12,14 @@ use crate::place::{Delims, delims_of};
 
 const MESSAGE_LIMIT: usize = 32768;
 
-// What a message is on reading: sound, or which of refusals 1 to 5 it meets, with the position where the paper gives one.
-#[derive(Clone, Copy)]
-pub enum Reading {
-    Sound,
+// Which of refusals 1 to 5 a message meets, with the position where the paper gives one.
+#[derive(Clone, Copy, Debug, PartialEq, Eq)]
+pub enum Unreadable {
     Empty,
     TooLong,
     WrongByte(usize),
     NoHeader,
     WrongSegment(usize),
-}
-
-#[derive(Clone, Copy)]
-pub enum Found {
-    At(usize),
-    Nothing,
 }
 
 fn is_allowed(x: u8) -> bool
@@ -49,25 +42,25 @@ fn all_allowed(m: &[u8]) -> bool
 }
 
 // The first byte that is not allowed, one by one.
-fn first_wrong_byte(m: &[u8]) -> Found
+fn first_wrong_byte(m: &[u8]) -> Option<usize>
     ensures { result ≡ first_of (wrong_bytes 0 m.now) }
 {
     let mut i = 0;
     while i < m.len() {
         if !is_allowed(m[i]) {
-            return Found::At(i);
+            return Some(i);
         }
         i += 1;
     }
-    Found::Nothing
+    None
 }
 
 // The first byte that is not allowed; it is looked for only where there is one.
-pub fn wrong_byte(m: &[u8]) -> Found
+pub fn wrong_byte(m: &[u8]) -> Option<usize>
     ensures { result ≡ first_of (wrong_bytes 0 m.now) }
 {
     if all_allowed(m) {
-        return Found::Nothing;
+        return None;
     }
     first_wrong_byte(m)
 }
@@ -95,7 +88,7 @@ fn has_form(d: Delims, seg: &[u8]) -> bool
 }
 
 // Where the first segment of wrong form starts, or the last, if it has no CR.
-pub fn wrong_segment(d: Delims, m: &[u8]) -> Found
+pub fn wrong_segment(d: Delims, m: &[u8]) -> Option<usize>
     ensures { result ≡ first_of (wrong_segments d 0 (cut carriage_return m.now)) }
 {
     let mut at = 0;
@@ -103,58 +96,43 @@ pub fn wrong_segment(d: Delims, m: &[u8]) -> Found
         let end = find_far(m, b'\r', at);
         if end < m.len() {
             if !has_form(d, &m[at..end]) {
-                return Found::At(at);
+                return Some(at);
             }
             at = end + 1;
         } else {
-            return Found::At(at);
+            return Some(at);
         }
     }
-    Found::Nothing
+    None
 }
 
 // Rows 4 and 5.
-fn check_form(m: &[u8]) -> Reading
+fn check_form(m: &[u8]) -> Result<(), Unreadable>
     ensures { reading_told result ≡ first_row (form_rows m.now) }
 {
-    if opens_with(m, b"MSH") {
-        match wrong_segment(delims_of(m), m) {
-            Found::At(start) => Reading::WrongSegment(start),
-            Found::Nothing => Reading::Sound,
-        }
-    } else {
-        Reading::NoHeader
+    if !opens_with(m, b"MSH") {
+        return Err(Unreadable::NoHeader);
+    }
+    match wrong_segment(delims_of(m), m) {
+        Some(start) => Err(Unreadable::WrongSegment(start)),
+        None => Ok(()),
     }
 }
 
 // Whether a message can be read, or which of refusals 1 to 5 it meets.
-pub fn check(m: &[u8]) -> Reading
+pub fn check(m: &[u8]) -> Result<(), Unreadable>
     ensures { reading_told result ≡ first_row (message_rows m.now) }
 {
     let n = m.len();
     if n == 0 {
-        return Reading::Empty;
+        return Err(Unreadable::Empty);
     }
     if MESSAGE_LIMIT < n {
-        return Reading::TooLong;
+        return Err(Unreadable::TooLong);
     }
     match wrong_byte(m) {
-        Found::At(at) => Reading::WrongByte(at),
-        Found::Nothing => check_form(m),
-    }
-}
-
-// Whether a reading is that of a sound message.
-pub fn is_sound_reading(reading: Reading) -> bool
-    ensures { result ≡ reads_sound reading }
-{
-    match reading {
-        Reading::Sound => true,
-        Reading::Empty => false,
-        Reading::TooLong => false,
-        Reading::WrongByte(at) => false,
-        Reading::NoHeader => false,
-        Reading::WrongSegment(start) => false,
+        Some(at) => Err(Unreadable::WrongByte(at)),
+        None => check_form(m),
     }
 }
 
@@ -162,5 +140,5 @@ pub fn is_sound_reading(reading: Reading) -> bool
 pub(crate) fn is_sound(m: &[u8]) -> bool
     ensures { result ≡ is_sound m.now }
 {
-    is_sound_reading(check(m))
+    check(m).is_ok()
 }

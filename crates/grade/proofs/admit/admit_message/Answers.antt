@@ -6,14 +6,14 @@ use Rattle.grade.proofs.Admitting.{six_sound, six_refused}
 use Rattle.grade.proofs.admit.admit_message.Goals as goal
 
 pub admit_control-requires : goal.admit_control-requires
-admit_control-requires c = ap is_msh c.segment.ensures.bytes ∙ sound-msh _ (sym (sound-is _ c.check-reading.result c.check-reading.ensures) ∙ sym c.is_sound_reading.ensures ∙ c.if-is_sound_reading.true)
+admit_control-requires c = ap is_msh c.segment.ensures.bytes ∙ sound-msh _ (sym (sound-is _ c.check-reading.result c.check-reading.ensures) ∙ sym c.is_ok.ensures.value ∙ c.if-is_ok.true)
 
-pub returns-then-is_sound_reading : goal.returns-then-is_sound_reading
-returns-then-is_sound_reading c =
-    six_sound _ (sym (sound-is _ c.check-reading.result c.check-reading.ensures) ∙ sym c.is_sound_reading.ensures ∙ c.if-is_sound_reading.true)
+pub returns-then-is_ok : goal.returns-then-is_ok
+returns-then-is_ok c =
+    six_sound _ (sym (sound-is _ c.check-reading.result c.check-reading.ensures) ∙ sym c.is_ok.ensures.value ∙ c.if-is_ok.true)
     c.delims_of.ensures c.segment.ensures.bytes c.admit_control.ensures
 
-pub returns-else-is_sound_reading : goal.returns-else-is_sound_reading
-returns-else-is_sound_reading c =
-    six_refused _ (sym (sound-is _ c.check-reading.result c.check-reading.ensures) ∙ sym c.is_sound_reading.ensures ∙ c.if-is_sound_reading.false)
+pub returns-else-is_ok : goal.returns-else-is_ok
+returns-else-is_ok c =
+    six_refused _ (sym (sound-is _ c.check-reading.result c.check-reading.ensures) ∙ sym c.is_ok.ensures.value ∙ c.if-is_ok.false)
     (c.of_reading.ensures ∙ c.check-reading.ensures)

@@ -10,8 +10,8 @@ returns-then-n-eq0 c = message_empty _ c.if-n-eq0.true
 pub returns-then-n-gt-MESSAGE_LIMIT : goal.returns-then-n-gt-MESSAGE_LIMIT
 returns-then-n-gt-MESSAGE_LIMIT c = message-long _ c.if-n-eq0.false c.if-n-gt-MESSAGE_LIMIT.true
 
-pub returns-in-At : goal.returns-in-At
-returns-in-At c = message-byte _ (λ e. omega (arith, e)) (omega arith) (cc)
+pub returns-in-Some : goal.returns-in-Some
+returns-in-Some c = message-byte _ (λ e. omega (arith, e)) (omega arith) (cc)
 
-pub returns-in-Nothing : goal.returns-in-Nothing
-returns-in-Nothing c = c.check_form.ensures ∙ message_form _ (λ e. omega (arith, e)) (omega arith) (cc)
+pub returns-in-None : goal.returns-in-None
+returns-in-None c = c.check_form.ensures ∙ message_form _ (λ e. omega (arith, e)) (omega arith) (cc)

@@ -2,11 +2,11 @@
 use Rattle.hl7.proofs.Refusing.{form_none, form_wrong, form_sound}
 use Rattle.hl7.proofs.refusal.check_form.Goals as goal
 
-pub returns-in-At : goal.returns-in-At
-returns-in-At c = form_wrong _ (cc) c.delims_of.ensures (cc)
+pub returns-then-not-opens_with : goal.returns-then-not-opens_with
+returns-then-not-opens_with c = form_none _ (cc)
 
-pub returns-in-Nothing : goal.returns-in-Nothing
-returns-in-Nothing c = form_sound _ (cc) c.delims_of.ensures (cc)
+pub returns-in-Some : goal.returns-in-Some
+returns-in-Some c = form_wrong _ (cc) c.delims_of.ensures (cc)
 
-pub returns-else-opens_with : goal.returns-else-opens_with
-returns-else-opens_with c = form_none _ (cc)
+pub returns-in-None : goal.returns-in-None
+returns-in-None c = form_sound _ (cc) c.delims_of.ensures (cc)

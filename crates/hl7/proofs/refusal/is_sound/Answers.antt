@@ -4,4 +4,4 @@ use Rattle.hl7.proofs.Refusing.{sound-is}
 use Rattle.hl7.proofs.refusal.is_sound.Goals as goal
 
 pub returns : goal.returns
-returns c = c.is_sound_reading.ensures ∙ sound-is _ c.check.result c.check.ensures
+returns c = c.is_ok.ensures.value ∙ sound-is _ c.check.result c.check.ensures
