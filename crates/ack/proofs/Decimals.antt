@@ -2,7 +2,7 @@
 use mathlib.Core.Path.{◌≡◌, sym, ap, ◌∙◌}
 use mathlib.Core.Logic.{⊎_elim}
 use mathlib.Core.List.{[], ◌∷◌, ◌++◌}
-use Prim.Native.Nat.{ℕ, zero, suc, ◌+◌, ◌-◌, ◌/◌, ◌%◌, ◌^◌, ◌≤◌, ◌<◌, zero-le}
+use Prim.Native.Nat.{ℕ, zero, suc, ◌+◌, ◌-◌, ◌*◌, ◌/◌, ◌%◌, ◌^◌, ◌≤◌, ◌<◌, zero-le}
 use native.Mathlib.Nat.{pow-suc, one-le-pow}
 use native.Mathlib.Omega.{arith}
 use lib.Dec.{lit<, lit≤}
@@ -64,8 +64,9 @@ count (suc k) j n low high =
 pub one_digit : (n : ℕ) → n < 10 → (1 ≡ length (decimal n)) × (1 ≤ 20)
 one_digit n h = (ap length (sym (decimal-small n h)), lit≤ tt)
 
-pub digits : (k n : ℕ) → k ≤ 19 → 10 ^ k ≤ n → n < 10 ^ suc k → (suc k ≡ length (decimal n)) × (suc k ≤ 20)
+pub digits : (k n : ℕ) → k < 20 → 10 ^ k ≤ n → n < 10 * 10 ^ k → (1 + k ≡ length (decimal n)) × (1 + k ≤ 20)
 unfolding decimal
 digits k n few low high =
     let all : suc (k + (19 - k)) ≡ 20 = omega arith in
-    (sym (rw all at (count k (19 - k) n low high)), omega arith)
+    let whole : length (decimal n) ≡ suc k = rw all at (count k (19 - k) n low (omega (arith, pow-suc 10 k, high))) in
+    (omega (arith, whole), omega arith)

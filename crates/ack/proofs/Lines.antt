@@ -91,7 +91,7 @@ line-ends mark part parts = ap (λ (l : List ℕ). part ++ l) (ends parts) ∙ s
     ends [] = refl
     ends (p ∷ ps) = ap (λ (l : List ℕ). mark ∷ l) (ap (λ (l : List ℕ). p ++ l) (ends ps) ∙ sym (append_assoc p (marked mark ps) (carriage_return ∷ [])))
 
-pub msh_pieces : (d : Delims) (msh stamp : List ℕ) {control w : ℕ} → w ≡ control →
+pub msh_pieces : (d : Delims) (msh stamp : List ℕ) (control : ℕ) →
     own d (bytes "MSH|^~\\&")
     ++ ((d.bar ∷ copied d msh 5)
     ++ ((d.bar ∷ copied d msh 6)
@@ -99,12 +99,12 @@ pub msh_pieces : (d : Delims) (msh stamp : List ℕ) {control w : ℕ} → w ≡
     ++ ((d.bar ∷ copied d msh 4)
     ++ ((d.bar ∷ stamp)
     ++ (own d (bytes "||ACK^V04^ACK")
-    ++ ((d.bar ∷ decimal w)
+    ++ ((d.bar ∷ decimal control)
     ++ ((d.bar ∷ copied d msh 11)
     ++ own d (bytes "|2.5.1|||NE|NE|||||Z23^CDCPHINVS\r")))))))))
     ≡ ended (msh_line d msh stamp control)
 unfolding msh_line with_end own_byte
-msh_pieces d msh stamp e = rw e (line-ends d.bar (bytes "MSH") _)
+msh_pieces d msh stamp control = line-ends d.bar (bytes "MSH") _
 
 -- ---- the ACK
 each-ended : (d : Delims) (findings : List Finding) → flat_map ended (map (err_line d) findings) ≡ errs d findings
@@ -118,12 +118,10 @@ unfolding ack_bytes heading flat_map
 ack-is d msh stamp control findings =
     rw (each-ended d findings) (sym (append_assoc (ended (msh_line d msh stamp control)) (ended (msa_line d msh (verdict findings))) (errs d findings)))
 
--- ---- a byte by the message's own delimiters, in the code's words, which asks for the last of the five first
-pub own_asked : (d : Delims) (x : ℕ) {last fourth third second first : ℕ}
-    → last ≡ cond (eqb x (code "&")) d.ampersand x → fourth ≡ cond (eqb x (code "\\")) d.backslash last → third ≡ cond (eqb x (code "~")) d.tilde fourth
-    → second ≡ cond (eqb x (code "^")) d.caret third → first ≡ cond (eqb x (code "|")) d.bar second → first ≡ own_byte d x
+-- ---- a byte by the message's own delimiters: none of the five stands for itself
+pub own_other : (d : Delims) (x : ℕ) → (x ≡ code "|" → ⊥) → (x ≡ code "^" → ⊥) → (x ≡ code "~" → ⊥) → (x ≡ code "\\" → ⊥) → (x ≡ code "&" → ⊥) → x ≡ own_byte d x
 unfolding own_byte
-own_asked d x e f g h i = rw (i, h, g, f, e)
+own_other d x a b c e f = rw (ne_eqb x (code "|") a, ne_eqb x (code "^") b, ne_eqb x (code "~") c, ne_eqb x (code "\\") e, ne_eqb x (code "&") f)
 
 -- ---- with the standard delimiters a text stands as it is
 kept_byte : (x c : ℕ) {other : ℕ} → other ≡ x → cond (eqb x c) c other ≡ x

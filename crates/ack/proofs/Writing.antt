@@ -9,6 +9,8 @@ use native.Mathlib.Nat.{add-zero, zero-add, add-suc, suc-add}
 use native.Mathlib.Numerals.{add-one}
 use lib.ListN.{length, get_or, set, take, drop, length-append, length-set, take-append-drop}
 use lib.Seq.{sets, sets-eq, take-suc, take_all, length-take-le, set_out}
+use borrow.Rule.Slice.PartMut.{put_mid}
+use Rattle.std.proofs.lemmas.Slice.{put_mid-paste}
 use Rattle.ack.specs.Splice.{splice, limit, Wrote}
 
 pub lt_or_ge : (a b : ℕ) → (a < b) ⊎ (b ≤ a)
@@ -80,6 +82,22 @@ module _ (o xs : List ℕ) (at : ℕ) where
 
   pub wrote-front : {out : List ℕ} {next : ℕ} (n : ℕ) → length o < limit → n ≡ min (length xs) (length o - at) → out ≡ splice o at (take n xs) → next ≡ min (at + length xs) limit → Wrote o at xs out next
   wrote-front n room fits stored ends = record { room = room; holds = stored ∙ splice-rest n fits; ends = ends }
+
+-- the same by one copy of what fits, or by none where nothing does
+pub wrote_copied : (o xs ys : List ℕ) (at n next : ℕ) → length o < limit → 0 < n → n ≡ min (length xs) (length o - at) → ys ≡ take n xs → next ≡ min (at + length xs) limit → Wrote o at xs (put_mid at (at + n - at) o ys) next
+wrote_copied o xs ys at n next room some fits e ends =
+    let k : at + n - at ≡ n = omega arith in
+    let long : length (take n xs) ≡ n = length-take-le n xs (omega arith) in
+    wrote-front o xs at n room fits
+    (put_mid-paste at (at + n - at) o ys (take n xs) n e (sym k) (sym long)
+    ∙ ap (λ (l : List ℕ). take at o ++ l ++ drop (at + n) o) (take_all n (take n xs) (omega (arith, long)))
+    ∙ ap (λ (j : ℕ). take at o ++ take n xs ++ drop (at + j) o) (sym long)
+    ∙ sym (splice-fits o at (take n xs) (omega (arith, long))))
+    ends
+
+pub wrote_nowhere : (o xs : List ℕ) (at n next : ℕ) → length o < limit → n ≡ 0 → n ≡ min (length xs) (length o - at) → next ≡ min (at + length xs) limit → Wrote o at xs o next
+unfolding splice
+wrote_nowhere o xs at n next room none fits ends = wrote-front o xs at 0 room (omega arith) refl ends
 
 -- ---- writes, one after the other
 pub wrote-length : {o p xs : List ℕ} {a b : ℕ} → Wrote o a xs p b → length p ≡ length o

@@ -10,29 +10,22 @@ ghost use Rattle.ack.specs.Pieces.{heading};
 use crate::output::{advanced, fitting, put, put_byte, put_field, put_number};
 use grade::finding::Finding;
 use grade::rule::letters_of;
-use hl7::bytes::{wide, wide16, wide32};
 use hl7::delimiters::is_standard;
 use hl7::place::{Delims, noted_field};
 
-// One byte or the other, without a branch.
-fn choose(test: bool, yes: u8, otherwise: u8) -> u8
-    ensures { result ≡ cond test yes otherwise }
-{
-    if test {
-        return yes;
-    }
-    otherwise
-}
-
 // The message's own delimiter for each of the standard five.
+#[tactic(auto, unfolding(crate::specs::Layout::own_byte))]
 fn own_byte(d: Delims, x: u8) -> u8
     ensures { result ≡ own_byte d x }
 {
-    let last = choose(x == b'&', d.ampersand, x);
-    let fourth = choose(x == b'\\', d.backslash, last);
-    let third = choose(x == b'~', d.tilde, fourth);
-    let second = choose(x == b'^', d.caret, third);
-    choose(x == b'|', d.bar, second)
+    match x {
+        b'|' => d.bar,
+        b'^' => d.caret,
+        b'~' => d.tilde,
+        b'\\' => d.backslash,
+        b'&' => d.ampersand,
+        _ => x,
+    }
 }
 
 // A text, byte by byte with the message's own delimiters.
@@ -41,10 +34,8 @@ fn put_translated(out: &mut [u8], at: usize, d: Delims, text: &[u8]) -> usize
 {
     let next = advanced(at, text.len());
     let n = fitting(out.len(), at, text.len());
-    let mut i = 0;
-    while i < n {
-        out[at + i] = own_byte(d, text[i]);
-        i += 1;
+    for (i, byte) in text[..n].iter().enumerate() {
+        out[at + i] = own_byte(d, *byte);
     }
     next
 }
@@ -82,7 +73,7 @@ pub fn put_component(out: &mut [u8], at: usize, caret: u8, component: u8) -> usi
     if component == 0 {
         return put(out, at, b"");
     }
-    put_number(out, at, caret, wide(component))
+    put_number(out, at, caret, component as usize)
 }
 
 // ERR-2's field, repetition and component, where the finding is about a value.
@@ -92,8 +83,8 @@ fn put_value(out: &mut [u8], at: usize, caret: u8, finding: Finding) -> usize
     if finding.field == 0 {
         return put(out, at, b"");
     }
-    let a = put_number(out, at, caret, wide(finding.field));
-    let b = put_number(out, a, caret, wide32(finding.repetition));
+    let a = put_number(out, at, caret, finding.field as usize);
+    let b = put_number(out, a, caret, finding.repetition as usize);
     put_component(out, b, caret, finding.component)
 }
 
@@ -105,7 +96,7 @@ fn put_place(out: &mut [u8], at: usize, caret: u8, finding: Finding) -> usize
         return put(out, at, b"");
     }
     let a = put_name(out, at, finding.name);
-    let b = put_number(out, a, caret, wide32(finding.ordinal));
+    let b = put_number(out, a, caret, finding.ordinal as usize);
     put_value(out, b, caret, finding)
 }
 
@@ -136,7 +127,7 @@ pub(crate) fn put_err(out: &mut [u8], at: usize, d: Delims, finding: Finding) ->
     let h = put_code(out, g, d, finding.code);
     let i = put_byte(out, h, d.bar);
     let j = put_byte(out, i, finding.severity);
-    let k = put_number(out, j, d.bar, wide16(finding.rule));
+    let k = put_number(out, j, d.bar, finding.rule as usize);
     put_own(out, k, d, b"^^L\r")
 }
 
@@ -178,7 +169,7 @@ fn put_msh(
     let f = put_copy(out, e, d, msh, starts, count, 4);
     let g = put_field(out, f, d.bar, stamp);
     let h = put_own(out, g, d, b"||ACK^V04^ACK");
-    let i = put_number(out, h, d.bar, wide32(control));
+    let i = put_number(out, h, d.bar, control as usize);
     let j = put_copy(out, i, d, msh, starts, count, 11);
     put_own(out, j, d, b"|2.5.1|||NE|NE|||||Z23^CDCPHINVS\r")
 }
@@ -225,5 +216,11 @@ pub(crate) fn put_heading(
 pub(crate) fn letter_of(header: bool, fault: bool) -> u8
     ensures { result ≡ letter header fault }
 {
-    choose(header, b'R', choose(fault, b'E', b'A'))
+    if header {
+        b'R'
+    } else if fault {
+        b'E'
+    } else {
+        b'A'
+    }
 }

@@ -10,7 +10,6 @@ ghost use Rattle.ack.specs.Pieces.{heading};
 use crate::output::decimal_length;
 use grade::finding::Finding;
 use grade::rule::letters_of;
-use hl7::bytes::{wide, wide16, wide32};
 use hl7::place::{Delims, noted_field};
 
 // How long a field of the message's own MSH is.
@@ -34,7 +33,7 @@ pub(crate) fn heading_length(
     ensures { (second : ℕ) → result ≡ length (heading d msh.now stamp.now control second) }
 {
     69 + stamp.len()
-        + decimal_length(wide32(control))
+        + decimal_length(control as usize)
         + copy_length(d, msh, starts, count, 3)
         + copy_length(d, msh, starts, count, 4)
         + copy_length(d, msh, starts, count, 5)
@@ -50,7 +49,7 @@ fn component_length(component: u8) -> usize
     if component == 0 {
         return 0;
     }
-    1 + decimal_length(wide(component))
+    1 + decimal_length(component as usize)
 }
 
 // How long ERR-2 is from its field on.
@@ -60,8 +59,8 @@ fn value_length(finding: Finding) -> usize
     if finding.field == 0 {
         return 0;
     }
-    2 + decimal_length(wide(finding.field))
-        + decimal_length(wide32(finding.repetition))
+    2 + decimal_length(finding.field as usize)
+        + decimal_length(finding.repetition as usize)
         + component_length(finding.component)
 }
 
@@ -79,7 +78,7 @@ fn place_length(finding: Finding) -> usize
     if finding.name == 0 {
         return 0;
     }
-    1 + name_length(finding.name) + decimal_length(wide32(finding.ordinal)) + value_length(finding)
+    1 + name_length(finding.name) + decimal_length(finding.ordinal as usize) + value_length(finding)
 }
 
 // How long ERR-3 is.
@@ -103,5 +102,5 @@ fn code_length(code: u16) -> usize
 pub(crate) fn err_length(finding: Finding) -> usize
     ensures { ((d : Delims) → result ≡ length (ended (err_line d finding))) × (result ≤ 160) }
 {
-    13 + place_length(finding) + code_length(finding.code) + decimal_length(wide16(finding.rule))
+    13 + place_length(finding) + code_length(finding.code) + decimal_length(finding.rule as usize)
 }

@@ -12,26 +12,14 @@ pub(crate) fn advanced(at: usize, count: usize) -> usize
     requires { count < limit }
     ensures { result ≡ min (at + count) limit }
 {
-    if at < LIMIT {
-        let next = at + count;
-        if next < LIMIT { next } else { LIMIT }
-    } else {
-        LIMIT
-    }
+    at.saturating_add(count).min(LIMIT)
 }
 
 // How many of so many bytes lie within an output of this length, from at on.
 pub(crate) fn fitting(length: usize, at: usize, count: usize) -> usize
     ensures { result ≡ min count («length» - at) }
 {
-    if length <= at {
-        return 0;
-    }
-    if count < length - at {
-        count
-    } else {
-        length - at
-    }
+    count.min(length.saturating_sub(at))
 }
 
 // One byte.
@@ -51,10 +39,8 @@ pub fn put(out: &mut [u8], at: usize, bytes: &[u8]) -> usize
 {
     let next = advanced(at, bytes.len());
     let n = fitting(out.len(), at, bytes.len());
-    let mut i = 0;
-    while i < n {
-        out[at + i] = bytes[i];
-        i += 1;
+    if 0 < n {
+        out[at..at + n].copy_from_slice(&bytes[..n]);
     }
     next
 }
@@ -95,49 +81,12 @@ pub fn put_number(out: &mut [u8], at: usize, mark: u8, n: usize) -> usize
     put_decimal(out, next, n)
 }
 
-// How many digits n has, by all that a number may have.
-fn long_length(n: usize) -> usize
-    ensures { (result ≡ length (decimal n)) × (result ≤ 20) }
-{
-    match n {
-        0..=9 => 1,
-        10..=99 => 2,
-        100..=999 => 3,
-        1000..=9999 => 4,
-        10000..=99999 => 5,
-        100000..=999999 => 6,
-        1000000..=9999999 => 7,
-        10000000..=99999999 => 8,
-        100000000..=999999999 => 9,
-        1000000000..=9999999999 => 10,
-        10000000000..=99999999999 => 11,
-        100000000000..=999999999999 => 12,
-        1000000000000..=9999999999999 => 13,
-        10000000000000..=99999999999999 => 14,
-        100000000000000..=999999999999999 => 15,
-        1000000000000000..=9999999999999999 => 16,
-        10000000000000000..=99999999999999999 => 17,
-        100000000000000000..=999999999999999999 => 18,
-        1000000000000000000..=9999999999999999999 => 19,
-        _ => 20,
-    }
-}
-
-// How many digits n has: nearly every number is short.
+// How many digits n has: nearly every number has one.
 pub(crate) fn decimal_length(n: usize) -> usize
     ensures { (result ≡ length (decimal n)) × (result ≤ 20) }
 {
     if n < 10 {
         return 1;
     }
-    if n < 100 {
-        return 2;
-    }
-    if n < 1000 {
-        return 3;
-    }
-    if n < 10000 {
-        return 4;
-    }
-    long_length(n)
+    1 + n.ilog10() as usize
 }

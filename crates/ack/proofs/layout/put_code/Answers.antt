@@ -1,5 +1,6 @@
 -- `ack::layout::put_code` meets its contract: each arm writes its own text. Assumes nothing.
-use mathlib.Core.Path.{sym, ap}
+use mathlib.Core.Path.{◌≡◌, sym, ap}
+use mathlib.Core.List.{[]}
 use Rattle.ack.specs.Layout.{own_byte, own, code_text}
 use Rattle.ack.proofs.Lines.{code_other}
 use Rattle.ack.proofs.Writing.{wrote_as}
@@ -39,6 +40,5 @@ returns-in-203 c = rw c.in-203.is c.put_own-in-203.ensures
 
 pub returns-in_default : goal.returns-in_default
 returns-in_default c =
-    let others = c.in_default.in_default-own.rest in
-    wrote_as c.put.ensures
-    (ap (own _) (sym (code_other _ others.0.0.0.0.0.0.0.1 others.0.0.0.0.0.0.1 others.0.0.0.0.0.1 others.0.0.0.0.1 others.0.0.0.1 others.0.0.1 others.0.1 others.1)))
+    let none : code_text c.args.code ≡ [] = search code_other in
+    wrote_as c.put.ensures (ap (own c.args.d) (sym none))

@@ -7,4 +7,4 @@ pub returns-then-component-eq0 : goal.returns-then-component-eq0
 returns-then-component-eq0 c = wrote_as c.put.ensures (component-none _ _ c.if-component-eq0.true)
 
 pub returns : goal.returns
-returns c = wrote_as c.put_number.ensures (cc (component-some _ _ c.if-component-eq0.false))
+returns c = wrote_as c.put_number.ensures (component-some _ _ c.if-component-eq0.false)

@@ -16,7 +16,7 @@ returns c =
     then c.put_byte-j.ensures
     then c.put_number-k.ensures
     then c.put_own.ensures)
-    (simp (append_assoc, append-nil, c.wide16.ensures))
+    (simp (append_assoc, append-nil))
 
 pub shape_of-out : goal.shape_of-out
 shape_of-out c = wrote-length (returns c)

@@ -20,7 +20,7 @@ returns c =
     then c.put_number-i.ensures
     then c.put_copy-j.ensures
     then c.put_own.ensures)
-    (msh_pieces _ _ _ c.wide32.ensures)
+    (msh_pieces _ _ _ _)
 
 pub shape_of-out : goal.shape_of-out
 shape_of-out c = wrote-length (returns c)

@@ -12,4 +12,4 @@ returns c =
     (c.put_name-a.ensures
     then c.put_number-b.ensures
     then c.put_value.ensures)
-    (rw c.wide32.ensures (place-some _ _ c.if-finding-eq0.false))
+    (place-some _ _ c.if-finding-eq0.false)

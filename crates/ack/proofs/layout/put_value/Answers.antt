@@ -12,4 +12,4 @@ returns c =
     (c.put_number-a.ensures
     then c.put_number-b.ensures
     then c.put_component.ensures)
-    (rw (c.wide.ensures.0, c.wide32.ensures) (value-some _ _ c.if-finding-eq0.false))
+    (value-some _ _ c.if-finding-eq0.false)

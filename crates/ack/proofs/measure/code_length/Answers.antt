@@ -1,5 +1,6 @@
 -- `ack::measure::code_length` meets its contract. Assumes nothing.
-use mathlib.Core.Path.{sym, ap}
+use mathlib.Core.Path.{◌≡◌, sym, ap}
+use mathlib.Core.List.{[]}
 use lib.Dec.{lit≤}
 use lib.ListN.{length}
 use Rattle.ack.specs.Layout.{code_text}
@@ -41,5 +42,5 @@ returns-in-203 c = (rw c.in-203.is, lit≤ tt)
 pub returns-in_default : goal.returns-in_default
 unfolding code_text
 returns-in_default c =
-    let others = c.in_default.in_default-own.rest in
-    (ap length (sym (code_other _ others.0.0.0.0.0.0.0.1 others.0.0.0.0.0.0.1 others.0.0.0.0.0.1 others.0.0.0.0.1 others.0.0.0.1 others.0.0.1 others.0.1 others.1)), lit≤ tt)
+    let none : code_text c.args.code ≡ [] = search code_other in
+    (ap length (sym none), lit≤ tt)

@@ -1,6 +1,6 @@
 -- `ack::measure::heading_length` meets its contract. Assumes nothing.
 use native.Mathlib.Omega.{arith}
-use Rattle.ack.proofs.Sizes.{heading-whole, decimal_as}
+use Rattle.ack.proofs.Sizes.{heading-whole}
 use Rattle.ack.proofs.measure.heading_length.Goals as goal
 
 pub returns : goal.returns
@@ -11,7 +11,6 @@ returns c =
       arith,
       heading-whole a.d a.msh.now a.stamp.now a.control second,
       c.decimal_length.ensures.0,
-      decimal_as c.wide32.ensures,
       c.copy_length.ensures.0,
       c.copy_length-2.ensures.0,
       c.copy_length-3.ensures.0,
