@@ -12,7 +12,6 @@ use Rattle.grade.specs.Limits.{segment_count, name_places}
 use Rattle.grade.specs.Rule.{the_end, msh, counted}
 use Rattle.grade.specs.Order.{out_of_order, table_of, table_says}
 use Rattle.grade.specs.Book.{plain}
-use Rattle.grade.specs.Standing.{TellsPlain}
 use Rattle.grade.proofs.Naming.{counted_bounds}
 
 -- a function's values at the k numbers from n, by place
@@ -41,7 +40,7 @@ by-table table follows right =
     at before name false p q d = rw p
 
 -- the table of plain bytes has one entry for each
-pub tells-plain : (table : List Bool) → table ≡ map plain (count_from 0 256) → TellsPlain table
+pub tells-plain : (table : List Bool) → table ≡ map plain (count_from 0 256) → (x : ℕ) → x < 256 → get_or table x false ≡ plain x
 tells-plain table right x h =
     let e : 0 + x ≡ x = omega arith in
     ap (λ (t : List Bool). get_or t x false) right ∙ at_count plain false 0 256 x h ∙ ap plain e

@@ -35,5 +35,7 @@ pub mod Samples
 pub mod BookSamples
 pub mod CalendarSamples
 pub mod ValueSamples
+pub mod Coding
+pub mod Starting
 pub mod Walking
 pub mod FindingSamples

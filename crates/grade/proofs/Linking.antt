@@ -90,11 +90,6 @@ linked-none rules n e = record {
   past = λ k h l. get_or-replicate link_limit k n 0 l ∙ e;
 }
 
-pub linked-all : (rules : List Rule) (i : ℕ) (links : List ℕ) → i ≤ 0 → length links ≡ link_limit → LinkedFrom rules i links → Linked rules links
-linked-all rules i links h sized w =
-    let start : i ≡ 0 = omega arith in
-    record { first = λ name l. w.first name l ∙ ap (λ (k : ℕ). next_about name k (drop k rules)) start; after = λ j l. w.after j (omega arith) l; past = w.past; sized = sized }
-
 -- rule i takes the place of the first one of its name, which becomes its next one
 module _ (rules : List Rule) (i k name : ℕ) (links : List ℕ) (more : k ≡ i + 1) (inside : i < length rules) (room : name_places + i < length links)
     (named : name ≡ segment_of_rule rules i) (small : name < name_places) (w : LinkedFrom rules k links) where

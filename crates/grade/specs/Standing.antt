@@ -8,12 +8,13 @@ use Rattle.hl7.specs.declared.place.Delims.{Delims}
 use Rattle.grade.specs.Rule.{name_bytes}
 use Rattle.grade.specs.Limits.{head_size, rule_limit, rule_size, set_limit}
 use Rattle.grade.specs.Reader.{Parsed, fault, found, is_found, items_of, Reader, and_then, pair, times}
-use Rattle.grade.specs.Book.{plain, rule_in, code_set, Contents, section, malformed, other_version}
+use Rattle.grade.specs.Book.{rule_in, code_set, Contents, section, malformed, other_version}
 use Rattle.grade.specs.Header.{msh_of, header_of}
 use Rattle.grade.specs.Admission.{key_of, admit_rows, ten_rows, indexed_told, opened_told, admitted_told}
 use Rattle.grade.specs.declared.rule.Rule.{Rule}
 use Rattle.grade.specs.declared.walk.Section.{Section}
-use Rattle.grade.specs.declared.lookup.Looked.{Looked}
+use Rattle.std.specs.declared.ops.ControlFlow.{ControlFlow}
+use Rattle.std.specs.declared.ops.ControlFlow.TheVariants.{Break, Continue}
 use Rattle.grade.specs.declared.book.Indexed.{Indexed}
 use Rattle.grade.specs.declared.book.Opened.{Opened}
 use Rattle.grade.specs.declared.admit.Admitted.{Admitted}
@@ -51,10 +52,6 @@ starting p b at = mapped (λ _. at) (p b at)
 
 -- ---- texts
 
--- a table tells of each byte whether it is plain
-abbrev pub TellsPlain : List Bool → Type 0
-TellsPlain table = (x : ℕ) → x < 256 → get_or table x false ≡ plain x
-
 -- where a text ends whose length byte stands at a position
 abbrev pub text_end : List ℕ → ℕ → ℕ
 text_end b at = at + 1 + get_or b at 0
@@ -69,9 +66,9 @@ pub record TextFits (b : List ℕ) (at : ℕ) : Type 0 where
   pub ends : text_end b at ≤ length b
 
 -- a look at it tells that it is the value, or else where it ends
-abbrev pub Looks : List ℕ → ℕ → List ℕ → Looked → Type 0
-Looks b at value Looked.Same = same value (text_at b at) ≡ true
-Looks b at value (Looked.After next) = (same value (text_at b at) ≡ false) × (next ≡ text_end b at)
+abbrev pub Looks : List ℕ → ℕ → List ℕ → ControlFlow (Unit {0}) ℕ → Type 0
+Looks b at value (Break _) = same value (text_at b at) ≡ true
+Looks b at value (Continue next) = (same value (text_at b at) ≡ false) × (next ≡ text_end b at)
 
 -- ---- sections
 

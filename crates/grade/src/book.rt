@@ -6,10 +6,9 @@ ghost use Rattle.grade.specs.Limits.{head_size, section_limit};
 ghost use Rattle.grade.specs.Reader.{is_found, times};
 ghost use Rattle.grade.specs.Book.{section, distinct, head_right, sections};
 ghost use Rattle.grade.specs.Admission.{book_rows};
-ghost use Rattle.grade.specs.Standing.{up_to, text_at, TextFits, TellsPlain, stands_at, site_at, starting, site_of, site_in, IndexesBy, Indexes, OpensBook};
+ghost use Rattle.grade.specs.Standing.{up_to, text_at, TextFits, stands_at, site_at, starting, site_of, site_in, IndexesBy, Indexes, OpensBook};
 
 use crate::limits::{BOOK_LIMIT, BOOK_VERSION, HEAD_SIZE, RULE_SIZE, SECTION_LIMIT};
-use crate::plain::PLAIN;
 use crate::walk::{Section, pair_at, section_end, text_after, text_part};
 use hl7::bytes::{begins_with, same_bytes};
 
@@ -29,56 +28,39 @@ pub enum Opened {
 }
 
 // Reads count sections, and notes where each starts.
-fn walk_sections(
-    table: &[bool; 256],
-    book: &[u8],
-    at: usize,
-    count: usize,
-    starts: &mut [usize],
-) -> Option<usize>
-    requires { TellsPlain table.now × (count ≤ length starts.old) }
+fn walk_sections(book: &[u8], at: usize, count: usize, starts: &mut [usize]) -> Option<usize>
+    requires { count ≤ length starts.old }
     ensures { times count (starting section) book.now at ≡ up_to (take count starts.new) result }
 {
     let mut from = at;
-    let mut i = 0;
-    while i < count {
-        match section_end(table, book, from) {
-            Some(end) => {
-                starts[i] = from;
-                from = end;
-            }
-            None => return None,
-        }
-        i += 1;
+    for i in 0..count {
+        let end = section_end(book, from)?;
+        starts[i] = from;
+        from = end;
     }
     Some(from)
 }
 
-// The key is that of a section from a number on.
-fn is_among(book: &[u8], starts: &[usize], key: &[u8], from: usize) -> bool
+// The key is that of a section.
+fn is_among(book: &[u8], starts: &[usize], key: &[u8]) -> bool
     requires { (k : ℕ) → k < length starts.now → TextFits book.now (get_or starts.now k 0) }
-    ensures { result ≡ among key.now (map (text_at book.now) (drop from starts.now)) }
+    ensures { result ≡ among key.now (map (text_at book.now) starts.now) }
 {
-    let mut i = from;
-    while i < starts.len() {
-        if same_bytes(key, text_part(book, starts[i])) {
-            return true;
-        }
-        i += 1;
-    }
-    false
+    starts
+        .iter()
+        .any(|at| same_bytes(key, text_part(book, *at)))
 }
 
 fn keys_distinct(book: &[u8], starts: &[usize]) -> bool
     requires { (k : ℕ) → k < length starts.now → TextFits book.now (get_or starts.now k 0) }
     ensures { result ≡ distinct (map (text_at book.now) starts.now) }
 {
-    let mut i = 0;
-    while i < starts.len() {
-        if is_among(book, starts, text_part(book, starts[i]), i + 1) {
+    let mut rest = starts;
+    while let Some((at, later)) = rest.split_first() {
+        if is_among(book, later, text_part(book, *at)) {
             return false;
         }
-        i += 1;
+        rest = later;
     }
     true
 }
@@ -89,8 +71,8 @@ pub fn site_at(book: &[u8], at: usize) -> Section
     ensures { result ≡ site_at book.now at }
 {
     let counts = text_after(book, at);
-    let rule_count = pair_at(book, counts);
     let rules_at = counts + 3;
+    let rule_count = pair_at(book, counts);
     Section {
         rules_at,
         rule_count,
@@ -104,15 +86,13 @@ fn find_section(book: &[u8], starts: &[usize], key: &[u8]) -> Opened
     requires { all (stands_at book.now) starts.now ≡ true }
     ensures { OpensBook (row 9 (not (among key.now (map (text_at book.now) starts.now))) ∷ []) (site_of book.now key.now starts.now) result }
 {
-    let mut i = 0;
-    while i < starts.len() {
-        let start = starts[i];
-        if same_bytes(key, text_part(book, start)) {
-            return Opened::At(site_at(book, start));
-        }
-        i += 1;
+    match starts
+        .iter()
+        .find(|at| same_bytes(key, text_part(book, **at)))
+    {
+        Some(at) => Opened::At(site_at(book, *at)),
+        None => Opened::NoSection,
     }
-    Opened::NoSection
 }
 
 fn head_right(book: &[u8]) -> bool
@@ -133,9 +113,7 @@ fn index_sections(book: &[u8], starts: &mut [usize]) -> Indexed
     if !((1 <= count) & (count <= SECTION_LIMIT)) {
         return Indexed::Malformed;
     }
-    // made once, and lent: a constant is made anew wherever it is named
-    let table = PLAIN;
-    let Some(end) = walk_sections(&table, book, HEAD_SIZE + 1, count, starts) else {
+    let Some(end) = walk_sections(book, HEAD_SIZE + 1, count, starts) else {
         return Indexed::Malformed;
     };
     if end != book.len() {

@@ -4,7 +4,7 @@ const Y: bool = true;
 const N: bool = false;
 
 // Which bytes are plain: 0x21 to 0x7E but five.
-pub(crate) const PLAIN: [bool; 256] = [
+pub(crate) static PLAIN: [bool; 256] = [
     N, // 0x00
     N, N, N, N, N, N, N, N, N, N, N, N, N, N, N, N, // 0x10
     N, N, N, N, N, N, N, N, N, N, N, N, N, N, N, N, // 0x20

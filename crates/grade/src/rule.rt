@@ -3,19 +3,19 @@ ghost use Rattle.std.specs.Prelude.{◌≡◌, ◌+◌, ◌<◌, ◌≤◌, leng
 ghost use Rattle.std.proofs.Math.Seq.{slice};
 ghost use Rattle.grade.specs.Limits.{rule_size};
 ghost use Rattle.grade.specs.Standing.{letters_number, letters_of};
-ghost use Rattle.grade.specs.Rule.{name_of_letters, first_field, place_fits, severity_of, severity_letter, kind_of, unused_zero, time_digits, kind_fits, error_code, no_rule, rule_said, rule_of, is_rule};
+ghost use Rattle.grade.specs.Rule.{name_of_letters, first_field, place_fits, severity_of, severity_letter, kind_of, unused_zero, time_digits, kind_fits, error_code, rule_said, rule_of, is_rule};
 
 use crate::limits::{COMPONENT_LIMIT, FIELD_LIMIT, SEGMENT_COUNT};
 use hl7::bytes::is_within;
 
-#[derive(Clone, Copy)]
+#[derive(Clone, Copy, PartialEq, Eq)]
 pub enum Severity {
     Error,
     Warning,
     Informational,
 }
 
-#[derive(Clone, Copy)]
+#[derive(Clone, Copy, PartialEq, Eq)]
 pub enum Kind {
     Required,
     Length { low: u8, high: u8 },
@@ -26,14 +26,14 @@ pub enum Kind {
 }
 
 // A segment's name by its number: 1 to 10 the names that count, 11 any other; 0 is the message's end, which has none.
-#[derive(Clone, Copy)]
+#[derive(Clone, Copy, PartialEq, Eq)]
 pub struct Place {
     pub segment: u8,
     pub field: u8,
     pub component: u8,
 }
 
-#[derive(Clone, Copy)]
+#[derive(Clone, Copy, PartialEq, Eq)]
 pub struct Rule {
     pub place: Place,
     pub severity: Severity,
@@ -205,21 +205,6 @@ pub(crate) fn error_code(kind: Kind) -> u16
         Kind::Date => 102,
         Kind::Time { digits: _ } => 102,
         Kind::Code { set: _ } => 103,
-    }
-}
-
-// Stands for a rule where there is none.
-pub(crate) fn no_rule() -> Rule
-    ensures { result ≡ no_rule }
-{
-    Rule {
-        place: Place {
-            segment: 0,
-            field: 0,
-            component: 0,
-        },
-        severity: Severity::Error,
-        kind: Kind::Required,
     }
 }
 

@@ -2,11 +2,12 @@
 ghost use Rattle.std.specs.Prelude.{◌≡◌, ◌+◌, ◌*◌, ◌≤◌, length};
 ghost use Rattle.hl7.specs.Bytes.{all};
 ghost use Rattle.grade.specs.Reader.{pair, times};
-ghost use Rattle.grade.specs.Standing.{end_of, text_end, text_at, TextFits, TellsPlain};
+ghost use Rattle.grade.specs.Standing.{end_of, text_end, text_at, TextFits};
 ghost use Rattle.grade.specs.Book.{plain, text, code_set, rule_in, section};
 ghost use Rattle.grade.specs.Limits.{code_limit};
 
 use crate::limits::{CODE_COUNT_LIMIT, CODE_LIMIT, KEY_LIMIT, RULE_LIMIT, RULE_SIZE, SET_LIMIT};
+use crate::plain::PLAIN;
 use crate::rule::rule_stands;
 
 // Where a section's rules and sets stand.
@@ -18,31 +19,21 @@ pub struct Section {
     pub set_count: u8,
 }
 
-fn pair_of(high: u8, low: u8) -> usize
-    ensures { result ≡ high * 256 + low }
-{
-    (high as usize) * 256 + (low as usize)
-}
-
 // Two bytes, the high one first.
 pub fn pair_at(book: &[u8], at: usize) -> usize
     requires { at + 2 ≤ length book.now }
     ensures { result ≡ pair book.now at }
 {
-    pair_of(book[at], book[at + 1])
+    usize::from(book[at]) * 256 + usize::from(book[at + 1])
 }
 
 // Whether every byte is plain by the table: no early exit, which would cost more than it saves.
-fn all_plain(table: &[bool; 256], letters: &[u8]) -> bool
-    requires { TellsPlain table.now }
+fn all_plain(letters: &[u8]) -> bool
     ensures { result ≡ all plain letters.now }
 {
     let mut every = true;
-    let mut i = 0;
-    while i < letters.len() {
-        let x = letters[i] as usize;
-        every = every & table[x];
-        i += 1;
+    for x in letters {
+        every = every & PLAIN[usize::from(*x)];
     }
     every
 }
@@ -52,10 +43,7 @@ pub fn text_part(book: &[u8], at: usize) -> &[u8]
     requires { TextFits book.now at }
     ensures { result.now ≡ text_at book.now at }
 {
-    let size = book[at] as usize;
-    let from = at + 1;
-    let end = from + size;
-    &book[from..end]
+    &book[at + 1..text_after(book, at)]
 }
 
 // Where that text ends.
@@ -63,46 +51,34 @@ pub fn text_after(book: &[u8], at: usize) -> usize
     requires { TextFits book.now at }
     ensures { result ≡ text_end book.now at }
 {
-    at + 1 + (book[at] as usize)
+    at + 1 + usize::from(book[at])
 }
 
 // A key or a code: a length byte, and as many plain bytes.
-fn text_end(table: &[bool; 256], book: &[u8], at: usize, limit: usize) -> Option<usize>
-    requires { TellsPlain table.now }
+fn text_end(book: &[u8], at: usize, limit: usize) -> Option<usize>
     ensures { result ≡ end_of (text limit book.now at) }
 {
-    if at < book.len() {
-        let size = book[at] as usize;
-        let from = at + 1;
-        if (1 <= size) & (size <= limit) {
-            if size <= book.len() - from {
-                if all_plain(table, text_part(book, at)) {
-                    return Some(from + size);
-                }
-            }
-        }
+    let size = usize::from(*book.get(at)?);
+    if !((1 <= size) & (size <= limit)) {
+        return None;
     }
-    None
+    let end = at + 1 + size;
+    all_plain(book.get(at + 1..end)?).then_some(end)
 }
 
-fn codes_end(table: &[bool; 256], book: &[u8], at: usize, count: usize) -> Option<usize>
-    requires { TellsPlain table.now }
+fn codes_end(book: &[u8], at: usize, count: usize) -> Option<usize>
     ensures { result ≡ end_of (times count (text code_limit) book.now at) }
 {
-    (0..count).try_fold(at, |from, _| text_end(table, book, from, CODE_LIMIT))
+    (0..count).try_fold(at, |from, _| text_end(book, from, CODE_LIMIT))
 }
 
 fn rule_end(book: &[u8], at: usize, sets: u8) -> Option<usize>
     ensures { result ≡ end_of (rule_in sets book.now at) }
 {
-    if at <= book.len() {
-        if RULE_SIZE <= book.len() - at {
-            if rule_stands(book, at, sets) {
-                return Some(at + RULE_SIZE);
-            }
-        }
+    if book.len().saturating_sub(at) < RULE_SIZE {
+        return None;
     }
-    None
+    rule_stands(book, at, sets).then_some(at + RULE_SIZE)
 }
 
 fn rules_end(book: &[u8], at: usize, count: usize, sets: u8) -> Option<usize>
@@ -111,34 +87,30 @@ fn rules_end(book: &[u8], at: usize, count: usize, sets: u8) -> Option<usize>
     (0..count).try_fold(at, |from, _| rule_end(book, from, sets))
 }
 
-fn set_end(table: &[bool; 256], book: &[u8], at: usize) -> Option<usize>
-    requires { TellsPlain table.now }
+fn set_end(book: &[u8], at: usize) -> Option<usize>
     ensures { result ≡ end_of (code_set book.now at) }
 {
-    if at <= book.len() {
-        if 2 <= book.len() - at {
-            let count = pair_at(book, at);
-            if (1 <= count) & (count <= CODE_COUNT_LIMIT) {
-                return codes_end(table, book, at + 2, count);
-            }
-        }
+    if book.len().saturating_sub(at) < 2 {
+        return None;
     }
-    None
+    let count = pair_at(book, at);
+    if !((1 <= count) & (count <= CODE_COUNT_LIMIT)) {
+        return None;
+    }
+    codes_end(book, at + 2, count)
 }
 
-fn sets_end(table: &[bool; 256], book: &[u8], at: usize, count: usize) -> Option<usize>
-    requires { TellsPlain table.now }
+fn sets_end(book: &[u8], at: usize, count: usize) -> Option<usize>
     ensures { result ≡ end_of (times count code_set book.now at) }
 {
-    (0..count).try_fold(at, |from, _| set_end(table, book, from))
+    (0..count).try_fold(at, |from, _| set_end(book, from))
 }
 
 // A section, checked whole.
-pub(crate) fn section_end(table: &[bool; 256], book: &[u8], at: usize) -> Option<usize>
-    requires { TellsPlain table.now }
+pub(crate) fn section_end(book: &[u8], at: usize) -> Option<usize>
     ensures { result ≡ end_of (section book.now at) }
 {
-    let counts = text_end(table, book, at, KEY_LIMIT)?;
+    let counts = text_end(book, at, KEY_LIMIT)?;
     if book.len() - counts < 3 {
         return None;
     }
@@ -148,5 +120,5 @@ pub(crate) fn section_end(table: &[bool; 256], book: &[u8], at: usize) -> Option
         return None;
     }
     let sets_at = rules_end(book, counts + 3, rule_count, set_count)?;
-    sets_end(table, book, sets_at, set_count as usize)
+    sets_end(book, sets_at, usize::from(set_count))
 }

@@ -1,71 +1,54 @@
--- `grade::book::find_section` meets its contract, by the invariant that stands beside this. Assumes nothing.
-use Prim.Native.Nat.{ℕ, ◌+◌, ◌<◌, ◌≤◌}
-use mathlib.Core.Path.{◌≡◌, sym, ◌∙◌, ap}
-use mathlib.Core.Bool.{true, false, not}
-use mathlib.Core.List.{List, [], ◌∷◌, map}
+-- `grade::book::find_section` meets its contract: `find` looks for the key among the texts at the positions. Assumes nothing.
+use Prim.Native.Nat.{ℕ, ◌<◌}
+use borrow.Author.Rules.{rules}
+use borrow.Author.Tests.{tests}
 use native.Mathlib.Omega.{arith}
-use lib.ListN.{length, drop, get_or}
-use Rattle.grade.specs.declared.walk.Section.{Section}
-use Rattle.grade.specs.declared.book.Opened.{Opened}
-use Rattle.hl7.specs.Bytes.{all, same, among}
-use Rattle.hl7.specs.Refusals.{row, first_row}
-use Rattle.grade.specs.Standing.{text_at, stands_at, site_at, site_of, OpensBook}
-use Rattle.hl7.proofs.Comparing.{rest_at, among_done, among_stop, among_more, all-at}
+use mathlib.Core.Path.{◌≡◌, sym, ap, ◌∙◌}
+use mathlib.Core.Bool.{true}
+use mathlib.Core.List.{List}
+use lib.ListN.{length, get_or}
+use denote.Ref.{Bor}
+use Rattle.std.specs.Option.{option_map}
+use Rattle.std.proofs.lemmas.Iterator.{YieldsList-from_slice}
+use Rattle.std.proofs.lemmas.Iterator.Search.{find_from_yields_List}
+use Rattle.hl7.specs.Bytes.{all, same}
+use Rattle.hl7.specs.Refusals.{first_row}
+use Rattle.hl7.proofs.Comparing.{all-at}
+use Rattle.grade.specs.Standing.{text_at, TextFits, stands_at}
 use Rattle.grade.proofs.Parts.{stands-key}
-use Rattle.grade.proofs.Opening.{Remains, opens-refused, opens_at}
+use Rattle.grade.proofs.Opening.{opens-refused, opens_at}
+use Rattle.grade.proofs.Starting.{serves_from_slice, sought, unsought}
 use Rattle.grade.proofs.book.find_section.Goals as goal
 
--- over plain variables: the section at number i is the one, or is passed, or there is none left
-module _ (b key starts : List ℕ) (i : ℕ) (w : Remains b key starts i) where
-  abbrev Finds : Opened → Type 0
-  Finds = OpensBook (row 9 (not (among key (map (text_at b) starts))) ∷ []) (site_of b key starts)
+texts_fit : (b starts : List ℕ) → all (stands_at b) starts ≡ true → (k : ℕ) → k < length starts → TextFits b (get_or starts k 0)
+texts_fit b starts stands k h = (stands-key b _ (all-at (stands_at b) starts k stands h)).0
 
-  hit : i < length starts → (s : Section) → same key (text_at b (get_or starts i 0)) ≡ true → s ≡ site_at b (get_or starts i 0) → Finds (Opened.At s)
-  unfolding first_row site_of
-  hit h s e f =
-      let is = sym w.0 ∙ among_stop (text_at b) starts i key h e in
-      let this : site_of b key (drop i starts) ≡ site_at b (get_or starts i 0) = ap (site_of b key) (rest_at starts i h) ∙ rw e in
-      opens_at (rw is) (f ∙ sym this ∙ w.1)
-
-  passed : i < length starts → same key (text_at b (get_or starts i 0)) ≡ false → Remains b key starts (i + 1)
-  unfolding site_of
-  passed h e =
-      let later : site_of b key (drop i starts) ≡ site_of b key (drop (i + 1) starts) = ap (site_of b key) (rest_at starts i h) ∙ rw e in
-      (among_more (text_at b) starts i key h e ∙ w.0, sym later ∙ w.1)
-
-  none : length starts ≤ i → Finds Opened.NoSection
-  unfolding first_row
-  none h = let is = sym w.0 ∙ among_done (text_at b) starts i key h in opens-refused (rw is) (λ e. omega (arith, e))
-
-here : (b starts : List ℕ) (i : ℕ) → i < length starts → all (stands_at b) starts ≡ true → stands_at b (get_or starts i 0) ≡ true
-here b starts i h stands = all-at (stands_at b) starts i stands h
-
-pub text_part-requires : goal.text_part-requires
-text_part-requires c =
-    let a = c.args in
-    (stands-key a.book.now _ (here a.book.now a.starts.now c.loop-i.i (omega arith) c.requires)).0
+pub find-requires-clause-callable : goal.find-requires-clause-callable
+find-requires-clause-callable c = serves_from_slice (TextFits c.args.book.now) (λ x q r. search rules) (λ x h. search rules) (rw c.iter.ensures.rest (texts_fit c.args.book.now c.args.starts.now c.requires))
 
 pub site_at-requires : goal.site_at-requires
 site_at-requires c =
     let a = c.args in
-    here a.book.now a.starts.now c.loop-i.i (omega arith) c.requires
+    (sought a.book.now a.key.now a.starts.now c.in-Some.at.now c.requires
+    (sym (find_from_yields_List (λ at. same a.key.now (text_at a.book.now at)) _ _ c.find.result c.find.ensures.ran (YieldsList-from_slice a.starts.now cc) (λ x b q k. search (rules, tests)))
+    ∙ ap (option_map (λ (at : Bor ℕ). at.now)) c.in-Some.is)).stands
 
-pub returns-then-same_bytes : goal.returns-then-same_bytes
-returns-then-same_bytes c =
+pub returns-in-Some : goal.returns-in-Some
+unfolding first_row
+returns-in-Some c =
     let a = c.args in
-    let l = c.loop-i in
-    let t = rw c.text_part.ensures at (sym c.same_bytes.ensures ∙ c.if-same_bytes.true) in
-    hit a.book.now a.key.now a.starts.now l.i l.invariant (omega arith) _ t c.site_at.ensures
+    let w =
+    sought a.book.now a.key.now a.starts.now c.in-Some.at.now c.requires
+    (sym (find_from_yields_List (λ at. same a.key.now (text_at a.book.now at)) _ _ c.find.result c.find.ensures.ran (YieldsList-from_slice a.starts.now cc) (λ x b q k. search (rules, tests)))
+    ∙ ap (option_map (λ (at : Bor ℕ). at.now)) c.in-Some.is) in
+    opens_at (rw w.there) (c.site_at.ensures ∙ sym w.site)
 
-pub loop-i-preserved : goal.loop-i-preserved
-loop-i-preserved c =
+pub returns-in-None : goal.returns-in-None
+unfolding first_row
+returns-in-None c =
     let a = c.args in
-    let l = c.loop-i in
-    let t = rw c.text_part.ensures at (sym c.same_bytes.ensures ∙ c.if-same_bytes.false) in
-    passed a.book.now a.key.now a.starts.now l.i l.invariant (omega arith) t
-
-pub returns : goal.returns
-returns c =
-    let a = c.args in
-    let l = c.loop-i in
-    none a.book.now a.key.now a.starts.now l.i l.invariant (omega arith)
+    let none =
+    unsought a.book.now a.key.now a.starts.now
+    (sym (find_from_yields_List (λ at. same a.key.now (text_at a.book.now at)) _ _ c.find.result c.find.ensures.ran (YieldsList-from_slice a.starts.now cc) (λ x b q k. search (rules, tests)))
+    ∙ ap (option_map (λ (at : Bor ℕ). at.now)) c.in-None.is) in
+    opens-refused (rw none) (λ e. omega (arith, e))

@@ -1,9 +1,7 @@
 -- `grade::book::index_sections` meets its contract: at each exit the tests and the calls' answers say what the readers of `sections` did. Assumes nothing.
-use mathlib.Core.Path.{refl, sym, ◌∙◌}
+use mathlib.Core.Path.{sym, ◌∙◌}
 use native.Mathlib.Omega.{arith}
 use lib.Seq.{length-take-le}
-use Rattle.grade.specs.Strict.{count_from}
-use Rattle.grade.proofs.Following.{tells-plain}
 use Rattle.grade.proofs.Indexing.{no_count, wrong_count, few-sections, wrong_section, keys_fit, more_after, key_twice, all_indexed}
 use Rattle.grade.proofs.book.index_sections.Goals as goal
 
@@ -16,10 +14,8 @@ overflow_cast-count c = omega (arith, c.shared_slice_known-2-1.given 5)
 pub returns-then-not-count : goal.returns-then-not-count
 returns-then-not-count c = wrong_count _ (omega arith) (c.if-not-count.true)
 
--- the table has an entry for each byte: `refl` is the test of all of them
 pub walk_sections-requires : goal.walk_sections-requires
-unfolding count_from
-walk_sections-requires c = (tells-plain _ refl, omega (arith, c.requires, few-sections c.args.book.now (omega arith) (c.if-not-count.false)))
+walk_sections-requires c = omega (arith, c.requires, few-sections c.args.book.now (omega arith) (c.if-not-count.false))
 
 pub returns-in_default : goal.returns-in_default
 returns-in_default c = wrong_section c.args.book.now (omega arith) (c.if-not-count.false) _ _ c.walk_sections.ensures c.in_default.is

@@ -1,31 +1,18 @@
--- `grade::book::is_among` meets its contract, by the invariant that stands beside this. Assumes nothing.
-use mathlib.Core.Path.{sym, ◌∙◌}
-use native.Mathlib.Omega.{arith}
-use Rattle.grade.specs.Standing.{text_at}
-use Rattle.hl7.proofs.Comparing.{among_done, among_stop, among_more}
+-- `grade::book::is_among` meets its contract: `any` looks for the key among the texts at the positions. Assumes nothing.
+use borrow.Author.Rules.{rules}
+use borrow.Author.Tests.{tests}
+use mathlib.Core.Path.{◌∙◌}
+use Rattle.hl7.specs.Bytes.{same}
+use Rattle.std.proofs.lemmas.Iterator.{YieldsList-from_slice}
+use Rattle.std.proofs.lemmas.Iterator.Search.{any_from_yields_List}
+use Rattle.grade.specs.Standing.{text_at, TextFits}
+use Rattle.grade.proofs.Starting.{serves_from_slice, any_among}
 use Rattle.grade.proofs.book.is_among.Goals as goal
 
-pub text_part-requires : goal.text_part-requires
-text_part-requires c = c.requires c.loop-i.i (omega arith)
-
-pub returns-then-same_bytes : goal.returns-then-same_bytes
-returns-then-same_bytes c =
-    let a = c.args in
-    let l = c.loop-i in
-    sym (among_stop (text_at a.book.now) a.starts.now l.i a.key.now (omega arith)
-    (rw (← c.text_part.ensures) (sym c.same_bytes.ensures ∙ c.if-same_bytes.true)))
-    ∙ l.invariant
-
-pub loop-i-preserved : goal.loop-i-preserved
-loop-i-preserved c =
-    let a = c.args in
-    let l = c.loop-i in
-    among_more (text_at a.book.now) a.starts.now l.i a.key.now (omega arith)
-    (rw (← c.text_part.ensures) (sym c.same_bytes.ensures ∙ c.if-same_bytes.false))
-    ∙ l.invariant
+pub any-requires-clause-callable : goal.any-requires-clause-callable
+any-requires-clause-callable c = serves_from_slice (TextFits c.args.book.now) (λ x q r. search rules) (λ x h. search rules) (rw c.iter.ensures.rest c.requires)
 
 pub returns : goal.returns
 returns c =
-    let a = c.args in
-    let l = c.loop-i in
-    sym (among_done (text_at a.book.now) a.starts.now l.i a.key.now (omega arith)) ∙ l.invariant
+    any_from_yields_List (λ at. same c.args.key.now (text_at c.args.book.now at)) _ _ c.any.result c.any.ensures.ran (YieldsList-from_slice c.args.starts.now cc) (λ x b q k. search (rules, tests))
+    ∙ any_among (text_at c.args.book.now) c.args.key.now c.args.starts.now

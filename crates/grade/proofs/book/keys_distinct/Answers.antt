@@ -1,54 +1,49 @@
 -- `grade::book::keys_distinct` meets its contract, by the invariant that stands beside this. Assumes nothing.
-use Prim.Native.Nat.{ℕ, ◌+◌, ◌<◌, ◌≤◌}
-use mathlib.Core.Path.{◌≡◌, sym, ◌∙◌}
-use mathlib.Core.Bool.{true, false}
-use mathlib.Core.List.{List, map}
+use Prim.Native.Nat.{ℕ, suc, ◌<◌}
 use native.Mathlib.Omega.{arith}
-use lib.ListN.{length, get_or, drop}
-use Rattle.grade.specs.Book.{distinct}
-use Rattle.grade.specs.Standing.{text_at}
+use mathlib.Core.Path.{◌≡◌, refl, sym, ap, subst, ◌∙◌}
+use mathlib.Core.Bool.{true, false}
+use mathlib.Core.List.{List, [], ◌∷◌, map}
+use lib.ListN.{length, get_or}
 use Rattle.hl7.specs.Bytes.{among}
-use Rattle.hl7.proofs.Comparing.{from_done, from_step}
+use Rattle.grade.specs.Book.{distinct}
+use Rattle.grade.specs.Standing.{text_at, TextFits}
 use Rattle.grade.proofs.book.keys_distinct.Goals as goal
 
--- the texts at the positions, from number i on, over plain variables
-module _ (f : ℕ → List ℕ) (l : List ℕ) (i : ℕ) where
-  none : length l ≤ i → distinct (map f (drop i l)) ≡ true
-  unfolding distinct
-  none h = rw (from_done f l i h)
+-- the texts at the positions that are left, over plain variables
+module _ (b : List ℕ) (x : ℕ) (later rest : List ℕ) (is : rest ≡ x ∷ later) where
+  still-fit : ((k : ℕ) → k < length rest → TextFits b (get_or rest k 0)) → (k : ℕ) → k < length later → TextFits b (get_or later k 0)
+  still-fit h k l =
+      let long : suc k < length rest = omega (arith, ap length is) in
+      subst (λ (v : List ℕ). TextFits b (get_or v (suc k) 0)) is (h (suc k) long)
 
-  repeated : i < length l → among (f (get_or l i 0)) (map f (drop (i + 1) l)) ≡ true → distinct (map f (drop i l)) ≡ false
+  repeated : among (text_at b x) (map (text_at b) later) ≡ true → distinct (map (text_at b) rest) ≡ false
   unfolding distinct
-  repeated h e = rw (from_step f l i h, e)
+  repeated e = rw (is, e)
 
-  passed : i < length l → among (f (get_or l i 0)) (map f (drop (i + 1) l)) ≡ false → distinct (map f (drop (i + 1) l)) ≡ distinct (map f (drop i l))
+  passed : among (text_at b x) (map (text_at b) later) ≡ false → distinct (map (text_at b) later) ≡ distinct (map (text_at b) rest)
   unfolding distinct
-  passed h e = rw (from_step f l i h, e)
+  passed e = rw (is, e)
 
-pub text_part-requires : goal.text_part-requires
-text_part-requires c = c.requires c.loop-i.i (omega arith)
+none : (b rest : List ℕ) → length rest ≡ 0 → distinct (map (text_at b) rest) ≡ true
+unfolding distinct
+none b [] h = refl
+none b (x ∷ rest) h = absurd (omega (arith, h))
 
 pub is_among-requires : goal.is_among-requires
-is_among-requires c = c.requires
+is_among-requires c = still-fit c.args.book.now c.in-Some.at.now _ _ c.in-Some.ensures.cases.0 c.loop-at.invariant.0
 
 pub returns-then-is_among : goal.returns-then-is_among
 returns-then-is_among c =
-    let a = c.args in
-    let l = c.loop-i in
-    sym (repeated (text_at a.book.now) a.starts.now l.i (omega arith)
-    (rw (← c.text_part.ensures) (sym c.is_among.ensures ∙ c.if-is_among.true)))
-    ∙ l.invariant
+    sym (repeated c.args.book.now c.in-Some.at.now _ _ c.in-Some.ensures.cases.0 (rw c.text_part.ensures at (sym c.is_among.ensures ∙ c.if-is_among.true)))
+    ∙ c.loop-at.invariant.1
 
-pub loop-i-preserved : goal.loop-i-preserved
-loop-i-preserved c =
-    let a = c.args in
-    let l = c.loop-i in
-    passed (text_at a.book.now) a.starts.now l.i (omega arith)
-    (rw (← c.text_part.ensures) (sym c.is_among.ensures ∙ c.if-is_among.false))
-    ∙ l.invariant
+pub loop-at-preserved : goal.loop-at-preserved
+loop-at-preserved c = (
+  still-fit c.args.book.now c.in-Some.at.now _ _ c.in-Some.ensures.cases.0 c.loop-at.invariant.0,
+  passed c.args.book.now c.in-Some.at.now _ _ c.in-Some.ensures.cases.0 (rw c.text_part.ensures at (sym c.is_among.ensures ∙ c.if-is_among.false))
+      ∙ c.loop-at.invariant.1,
+)
 
 pub returns : goal.returns
-returns c =
-    let a = c.args in
-    let l = c.loop-i in
-    sym (none (text_at a.book.now) a.starts.now l.i (omega arith)) ∙ l.invariant
+returns c = sym (none c.args.book.now c.loop-at.rest.now c.in_default.ensures.cases) ∙ c.loop-at.invariant.1

@@ -1,7 +1,7 @@
 -- `grade::book::walk_sections` meets its contract: the starts noted so far, put before those of the sections that are left, are all the starts. Assumes nothing.
-use Prim.Native.Nat.{◌-◌, ◌≤◌}
+use Prim.Native.Nat.{◌-◌}
 use mathlib.Core.Path.{◌≡◌}
-use lib.ListN.{length, take}
+use lib.ListN.{take}
 use Rattle.grade.specs.Reader.{times}
 use Rattle.grade.specs.Book.{section}
 use Rattle.grade.specs.Standing.{starting}
@@ -9,7 +9,4 @@ use Rattle.grade.proofs.Readings.{after}
 use Rattle.grade.proofs.book.walk_sections.Given as goal
 
 abbrev pub invariant-loop-i : goal.invariant-loop-i
-invariant-loop-i l = (l.i ≤ l.count) × (length l.starts ≡ length l.initial.starts) × (times l.count (starting section) l.book l.at ≡ after (take l.i l.starts) (times (l.count - l.i) (starting section) l.book l.from))
-
-abbrev pub decreases-loop-i : goal.decreases-loop-i
-decreases-loop-i l = l.count - l.i
+invariant-loop-i l = times l.count (starting section) l.book l.at ≡ after (take l.i l.starts) (times (l.count - l.i) (starting section) l.book l.from)

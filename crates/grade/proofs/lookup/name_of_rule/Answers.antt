@@ -8,10 +8,8 @@ use Rattle.grade.proofs.Naming.{counted_bounds}
 use Rattle.grade.proofs.Holding.{its_bytes, its_name, rule_fits_lem, place_limits}
 use Rattle.grade.proofs.lookup.name_of_rule.Goals as goal
 
-pub overflow_add-at : goal.overflow_add-at
-overflow_add-at c =
-    let w = its_bytes c.args.book.now c.args.section c.requires.0 c.args.i c.requires.1 in
-    omega (arith, w.0)
+pub overflow_add-section : goal.overflow_add-section
+overflow_add-section c = omega (arith, (its_bytes c.args.book.now c.args.section c.requires.0 c.args.i c.requires.1).0)
 
 pub name_at-requires : goal.name_at-requires
 name_at-requires c = (its_bytes c.args.book.now c.args.section c.requires.0 c.args.i c.requires.1).0
@@ -19,5 +17,5 @@ name_at-requires c = (its_bytes c.args.book.now c.args.section c.requires.0 c.ar
 pub returns : goal.returns
 returns c =
     let rule = get_or (rules_in c.args.book.now c.args.section) c.args.i no_rule in
-    let named = c.wide.ensures.0 ∙ c.name_at.ensures ∙ its_name c.args.book.now c.args.section c.requires.0 c.args.i c.requires.1 in
+    let named = c.name_at.ensures ∙ its_name c.args.book.now c.args.section c.requires.0 c.args.i c.requires.1 in
     (named, omega (arith, named, counted_bounds rule.place.segment (place_limits c.args.section.set_count rule (rule_fits_lem c.args.book.now c.args.section c.requires.0 c.args.i c.requires.1)).segment))

@@ -41,7 +41,6 @@ zeros (suc n) (suc k) = zeros n k
 
 pub loop-i-init : goal.loop-i-init
 loop-i-init c = (
-  omega arith,
   c.requires.1,
   refl,
   starts-found c.args.book.now c.args.at c.args.count c.requires.0,
@@ -56,18 +55,17 @@ pub set_after-from-requires : goal.set_after-from-requires
 set_after-from-requires c =
     let a = c.args in
     let l = c.loop-i in
-    stands a.book.now (take l.i l.places) (a.count - l.i) l.from (omega arith) (sym (ap is_found l.invariant.4) ∙ l.invariant.3)
+    stands a.book.now (take l.i l.places) (a.count - l.i) l.from (omega arith) (sym (ap is_found l.invariant.3) ∙ l.invariant.2)
 
 pub loop-i-preserved : goal.loop-i-preserved
 loop-i-preserved c =
     let a = c.args in
     let l = c.loop-i in (
-      omega arith,
-      l.invariant.1,
-      length-set l.places l.i l.from ∙ l.invariant.2,
-      l.invariant.3,
-      noted_more code_set a.book.now a.count l.i l.from l.places l.invariant.4 _ (omega arith) (omega arith) c.set_after-from.ensures,
-      kept l.places l.i l.from l.invariant.5,
+      l.invariant.0,
+      length-set l.places l.i l.from ∙ l.invariant.1,
+      l.invariant.2,
+      noted_more code_set a.book.now a.count l.i l.from l.places l.invariant.3 _ (omega arith) (omega arith) c.set_after-from.ensures,
+      kept l.places l.i l.from l.invariant.4,
     )
 
 pub returns : goal.returns
@@ -75,7 +73,7 @@ returns c =
     let a = c.args in
     let l = c.loop-i in
     record {
-      sized = l.invariant.2;
-      starts = sym (ap items_of (noted-all code_set a.book.now a.count l.i l.from l.places l.invariant.4 (omega arith)));
-      past = λ k h. l.invariant.5 k (omega arith);
+      sized = l.invariant.1;
+      starts = sym (ap items_of (noted-all code_set a.book.now a.count l.i l.from l.places l.invariant.3 (omega arith)));
+      past = λ k h. l.invariant.4 k (omega arith);
     }

@@ -12,9 +12,6 @@ use Rattle.grade.proofs.Readings.{after}
 use Rattle.grade.proofs.lookup.note_sets.Given as goal
 
 abbrev pub invariant-loop-i : goal.invariant-loop-i
-invariant-loop-i l = (l.i ≤ l.count) × (l.count ≤ set_limit) × (length l.places ≡ set_limit) × (is_found (times l.count (starting code_set) l.book l.at) ≡ true)
+invariant-loop-i l = (l.count ≤ set_limit) × (length l.places ≡ set_limit) × (is_found (times l.count (starting code_set) l.book l.at) ≡ true)
     × (times l.count (starting code_set) l.book l.at ≡ after (take l.i l.places) (times (l.count - l.i) (starting code_set) l.book l.from))
     × ((k : ℕ) → l.i ≤ k → get_or l.places k 0 ≡ 0)
-
-abbrev pub decreases-loop-i : goal.decreases-loop-i
-decreases-loop-i l = l.count - l.i

@@ -5,7 +5,7 @@ use Rattle.grade.proofs.Holding.{sets_read_lem}
 use Rattle.grade.proofs.lookup.sets_of.Goals as goal
 
 pub note_sets-requires : goal.note_sets-requires
-note_sets-requires c = (ap is_found (sets_read_lem c.args.book.now c.args.section c.requires), c.requires.few_sets)
+note_sets-requires c = rw c.from.ensures (ap is_found (sets_read_lem c.args.book.now c.args.section c.requires), c.requires.few_sets)
 
 pub returns : goal.returns
-returns c = c.note_sets.ensures
+returns c = rw c.from.ensures at c.note_sets.ensures

@@ -2,14 +2,10 @@
 -- Assumes nothing.
 use mathlib.Core.Path.{◌≡◌}
 use mathlib.Core.Bool.{◌&&◌}
-use Prim.Native.Nat.{◌-◌}
-use lib.ListN.{length, drop}
+use lib.ListN.{drop}
 use Rattle.hl7.specs.Bytes.{all}
 use Rattle.grade.specs.Book.{plain}
 use Rattle.grade.proofs.walk.all_plain.Given as goal
 
-abbrev pub invariant-loop-i : goal.invariant-loop-i
-invariant-loop-i l = all plain l.letters ≡ l.every && all plain (drop l.i l.letters)
-
-abbrev pub decreases-loop-i : goal.decreases-loop-i
-decreases-loop-i l = length l.letters - l.i
+abbrev pub invariant-loop-x : goal.invariant-loop-x
+invariant-loop-x l = all plain l.letters ≡ l.every && all plain (drop l.x-index l.letters)

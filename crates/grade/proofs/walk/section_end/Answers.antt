@@ -100,14 +100,11 @@ returns-in_err-sets_at c =
     let key = sym c.text_end.ensures ∙ c.in_ok-counts.was in
     c.from_residual-in_err-sets_at.ensures ∙ sym (bad-rules b a.at counts key c.pair_at-rule_count.result c.pair_at-rule_count.ensures (omega (arith, text-inside key_limit b a.at counts key)) (c.if-not-rule_count-set_count.false) (sym c.rules_end.ensures ∙ c.in_err-sets_at.was))
 
-pub overflow_cast-set_count : goal.overflow_cast-set_count
-overflow_cast-set_count c = omega (arith, c.shared_slice_known-2-1.given (c.in_ok-counts.counts + 2))
-
 pub returns : goal.returns
 returns c =
     let a = c.args in
     let b = a.book.now in
     let counts = c.in_ok-counts.counts in
     let key = sym c.text_end.ensures ∙ c.in_ok-counts.was in
-    c.sets_end.ensures
+    rw c.from.ensures at c.sets_end.ensures
     ∙ sym (whole b a.at counts key c.pair_at-rule_count.result c.pair_at-rule_count.ensures (omega (arith, text-inside key_limit b a.at counts key)) (c.if-not-rule_count-set_count.false) _ (sym c.rules_end.ensures ∙ c.in_ok-sets_at.was))

@@ -6,30 +6,20 @@ use lib.ListN.{length}
 use Rattle.grade.specs.Book.{code_set}
 use Rattle.grade.proofs.walk.set_end.Goals as goal
 
-pub returns-then-count : goal.returns-then-count
+pub returns-then-saturating_sub-lt2 : goal.returns-then-saturating_sub-lt2
 unfolding code_set
-returns-then-count c =
+returns-then-saturating_sub-lt2 c =
     let a = c.args in
-    let b = a.book.now in
-    rw (le-leb (a.at + 2) (length b) (omega arith), ← c.pair_at-count.ensures, c.if-count.true) c.codes_end.ensures
+    rw (lt-leb (a.at + 2) (length a.book.now) (omega (arith, c.saturating_sub.ensures)))
 
-pub returns-else-count : goal.returns-else-count
+pub returns-then-not-count : goal.returns-then-not-count
 unfolding code_set
-returns-else-count c =
+returns-then-not-count c =
     let a = c.args in
-    let b = a.book.now in
-    rw (le-leb (a.at + 2) (length b) (omega arith), ← c.pair_at-count.ensures, c.if-count.false)
+    rw (le-leb (a.at + 2) (length a.book.now) (omega (arith, c.saturating_sub.ensures)), ← c.pair_at-count.ensures, c.if-not-count.true)
 
-pub returns-else-book-at-ge2 : goal.returns-else-book-at-ge2
+pub returns : goal.returns
 unfolding code_set
-returns-else-book-at-ge2 c =
+returns c =
     let a = c.args in
-    let b = a.book.now in
-    rw (lt-leb (a.at + 2) (length b) (omega arith))
-
-pub returns-else-at-book : goal.returns-else-at-book
-unfolding code_set
-returns-else-at-book c =
-    let a = c.args in
-    let b = a.book.now in
-    rw (lt-leb (a.at + 2) (length b) (omega arith))
+    rw (le-leb (a.at + 2) (length a.book.now) (omega (arith, c.saturating_sub.ensures)), ← c.pair_at-count.ensures, c.if-not-count.false) c.codes_end.ensures

@@ -1,48 +1,61 @@
 -- `grade::walk::text_end` meets its contract: at each exit the tests say what the readers of `text` did. Assumes nothing.
-use Prim.Native.Nat.{◌+◌}
-use mathlib.Core.Path.{sym, ◌∙◌}
+use Prim.Native.Nat.{ℕ, ◌+◌, ◌<◌, ◌≤◌}
+use mathlib.Core.Path.{◌≡◌, ap, ◌∙◌}
+use mathlib.Core.Bool.{Bool, true, false, ◌&&◌}
+use mathlib.Core.List.{List}
 use native.Mathlib.Omega.{arith}
 use borrow.Author.Tests.{le-leb, lt-leb}
+use lib.Dec.{leb}
 use lib.ListN.{length, get_or}
-use Rattle.grade.specs.Book.{text}
+use lib.Seq.{slice}
+use Rattle.std.specs.Prelude.{None}
+use Rattle.std.specs.Bool.{then_some}
+use Rattle.hl7.specs.Bytes.{all}
+use Rattle.hl7.proofs.Comparing.{part_slice}
+use Rattle.grade.specs.Book.{plain, text}
+use Rattle.grade.specs.Standing.{end_of}
 use Rattle.grade.proofs.walk.text_end.Goals as goal
 
-pub overflow_cast-size : goal.overflow_cast-size
-overflow_cast-size c = omega (arith, c.shared_slice_known-then-at-book-1.given c.args.at)
+-- over plain variables: there is no length byte, or one of a size, which is out of the limits, or past the end, or is followed by so many letters
+module _ (limit : ℕ) (b : List ℕ) (at : ℕ) where
+  past : length b ≤ at → None ≡ end_of (text limit b at)
+  unfolding text
+  past h = rw (lt-leb (at + 1) (length b) (omega arith))
 
-pub returns-then-all_plain : goal.returns-then-all_plain
-unfolding text
-returns-then-all_plain c =
-    let a = c.args in
-    let b = a.book.now in
-    let p = rw c.text_part.ensures at (sym c.all_plain.ensures ∙ c.if-all_plain.true) in
-    rw (le-leb (a.at + 1) (length b) (omega arith), c.if-size-limit.true, le-leb (a.at + 1 + get_or b a.at 0) (length b) (omega arith), p)
+  module _ (size : ℕ) (h : at < length b) (is : size ≡ get_or b at 0) where
+    over-limit : (leb 1 size && leb size limit) ≡ false → None ≡ end_of (text limit b at)
+    unfolding text
+    over-limit l = rw (le-leb (at + 1) (length b) (omega arith), ← is, l)
 
-pub returns-else-all_plain : goal.returns-else-all_plain
-unfolding text
-returns-else-all_plain c =
-    let a = c.args in
-    let b = a.book.now in
-    let p = rw c.text_part.ensures at (sym c.all_plain.ensures ∙ c.if-all_plain.false) in
-    rw (le-leb (a.at + 1) (length b) (omega arith), c.if-size-limit.true, le-leb (a.at + 1 + get_or b a.at 0) (length b) (omega arith), p)
+    module _ (l : (leb 1 size && leb size limit) ≡ true) where
+      too-long : length b < at + 1 + size → None ≡ end_of (text limit b at)
+      unfolding text
+      too-long k = rw (le-leb (at + 1) (length b) (omega arith), ← is, l, lt-leb (at + 1 + size) (length b) k)
 
-pub returns-else-size-book : goal.returns-else-size-book
-unfolding text
-returns-else-size-book c =
-    let a = c.args in
-    let b = a.book.now in
-    rw (le-leb (a.at + 1) (length b) (omega arith), c.if-size-limit.true, lt-leb (a.at + 1 + get_or b a.at 0) (length b) (omega arith))
+      whole : (t : Bool) → at + 1 + size ≤ length b → t ≡ all plain (slice (at + 1) (at + 1 + size) b) → then_some t (at + 1 + size) ≡ end_of (text limit b at)
+      unfolding text
+      whole true k e = rw (le-leb (at + 1) (length b) (omega arith), ← is, l, le-leb (at + 1 + size) (length b) k, ← e)
+      whole false k e = rw (le-leb (at + 1) (length b) (omega arith), ← is, l, le-leb (at + 1 + size) (length b) k, ← e)
 
-pub returns-else-size-limit : goal.returns-else-size-limit
-unfolding text
-returns-else-size-limit c =
-    let a = c.args in
-    let b = a.book.now in
-    rw (le-leb (a.at + 1) (length b) (omega arith), c.if-size-limit.false)
+pub returns-in_err-get : goal.returns-in_err-get
+returns-in_err-get c = c.from_residual.ensures ∙ past c.args.limit c.args.book.now c.args.at c.in_err-get.ensures.lookup.3
 
-pub returns-else-at-book : goal.returns-else-at-book
-unfolding text
-returns-else-at-book c =
-    let a = c.args in
-    let b = a.book.now in
-    rw (lt-leb (a.at + 1) (length b) (omega arith))
+pub returns-then-not-size-limit : goal.returns-then-not-size-limit
+returns-then-not-size-limit c =
+    let k = c.in_ok-get.ensures.lookup.3 in
+    over-limit c.args.limit c.args.book.now c.args.at c.from-size.result k.0 (c.from-size.ensures ∙ k.1 0) c.if-not-size-limit.true
+
+pub returns-in_err-get-2 : goal.returns-in_err-get-2
+returns-in_err-get-2 c =
+    let k = c.in_ok-get.ensures.lookup.3 in
+    c.from_residual-in_err-get-2.ensures
+    ∙ too-long c.args.limit c.args.book.now c.args.at c.from-size.result k.0 (c.from-size.ensures ∙ k.1 0) c.if-not-size-limit.false (omega (arith, c.in_err-get-2.ensures.lookup.0))
+
+pub returns : goal.returns
+returns c =
+    let b = c.args.book.now in
+    let end = c.args.at + 1 + c.from-size.result in
+    let k = c.in_ok-get.ensures.lookup.3 in
+    let j = c.in_ok-get-2.ensures.lookup.0 in
+    c.then_some.ensures
+    ∙ whole c.args.limit b c.args.at c.from-size.result k.0 (c.from-size.ensures ∙ k.1 0) c.if-not-size-limit.false _ j.1 (c.all_plain.ensures ∙ ap (all plain) (j.2 ∙ part_slice b (c.args.at + 1) end (omega arith)))
