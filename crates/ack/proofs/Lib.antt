@@ -1,3 +1,4 @@
+pub mod Adding
 pub mod Writing
 pub mod Decimals
 pub mod Lines

@@ -1,8 +1,8 @@
 -- The ERRs of lists of findings, one after the other, and the loop that writes them from sheet to sheet. Assumes nothing.
-use mathlib.Core.Path.{◌≡◌, refl, sym, ap, ap₂, subst, ◌∙◌}
+use mathlib.Core.Path.{◌≡◌, refl, sym, ap, ap₂, ◌∙◌}
 use mathlib.Core.Bool.{Bool, true, false, cond, ◌||◌, or-false}
 use mathlib.Core.List.{List, [], ◌∷◌, ◌++◌, map, flat_map, append-nil, append_assoc}
-use Prim.Native.Nat.{ℕ, zero, suc, ◌+◌, ◌≤◌, ◌<◌, min}
+use Prim.Native.Nat.{ℕ, zero, suc, ◌+◌, ◌≤◌, ◌<◌}
 use Rattle.std.proofs.lemmas.List.{take_more}
 use Prim.Native.Char.{code}
 use native.Mathlib.Omega.{arith}
@@ -27,12 +27,13 @@ use Rattle.grade.specs.declared.sheet.Sheet.{Sheet}
 use Rattle.grade.specs.declared.step.Terms.{Terms}
 use Rattle.grade.proofs.Heading.{checks}
 use Rattle.grade.proofs.Sheets.{none-to_come}
-use Rattle.ack.specs.Splice.{Wrote, limit}
+use Rattle.ack.specs.Splice.{Wrote}
 use Rattle.ack.specs.Layout.{verdict, err_line, ended}
 use Rattle.ack.specs.Pieces.{errs, Puts}
-use Rattle.ack.specs.declared.errs.Put.{Put}
+use Rattle.ack.specs.Output.{Adds}
+use Rattle.ack.specs.declared.output.Output.{Output}
+use Rattle.ack.proofs.Adding.{◌next◌, adds_as, adds_none}
 use Rattle.ack.proofs.Sizes.{errs-short}
-use Rattle.ack.proofs.Writing.{◌then◌, wrote_as, wrote_none, wrote-length}
 
 pub errs-append : (d : Delims) (l k : List Finding) → errs d l ++ errs d k ≡ errs d (l ++ k)
 unfolding errs flat_map
@@ -40,18 +41,16 @@ errs-append d [] k = refl
 errs-append d (f ∷ l) k = append_assoc (ended (err_line d f)) (errs d l) (errs d k) ∙ ap (λ (t : List ℕ). ended (err_line d f) ++ t) (errs-append d l k)
 
 -- before the first of them, and after one more
-pub errs-begun : (d : Delims) (list : List Finding) {o : List ℕ} {at : ℕ} → length o < limit → at ≤ limit → Wrote o at (errs d (take 0 list)) o at
+pub errs-begun : (d : Delims) (list : List Finding) (o : Output) → Adds o (errs d (take 0 list)) o
 unfolding errs flat_map
-errs-begun d list {o} {at} room near =
-    let kept : min at limit ≡ at = omega arith in
-    subst (Wrote o at [] o) kept (wrote_none o at room)
+errs-begun d list o = adds_none o refl
 
-pub errs_more : (d : Delims) (list : List Finding) (i : ℕ) {o now mid : List ℕ} {from at next : ℕ} (none : Finding) → i < length list
-    → Wrote o from (errs d (take i list)) now at → Wrote now at (ended (err_line d (get_or list i none))) mid next → Wrote o from (errs d (take (i + 1) list)) mid next
+pub errs_more : (d : Delims) (list : List Finding) (i : ℕ) {o now mid : Output} (none : Finding) → i < length list
+    → Adds o (errs d (take i list)) now → Adds now (ended (err_line d (get_or list i none))) mid → Adds o (errs d (take (i + 1) list)) mid
 unfolding errs flat_map
 errs_more d list i none less before one =
     let f = get_or list i none in
-    wrote_as (before then one)
+    adds_as (before next one)
     (ap (λ (t : List ℕ). errs d (take i list) ++ t) (sym (append-nil (ended (err_line d f)))) ∙ errs-append d (take i list) (f ∷ []) ∙ ap (errs d) (sym (take_more list i none less)))
 
 -- ---- ERRs that were written from the start on: where they end is how long they are
@@ -119,45 +118,41 @@ unfolding has
 ended-told m b s e told = sym (or-false s.fault) ∙ ap (λ (l : List Finding). s.fault || has is_fault l) (sym (none-to_come m b s e)) ∙ told
 
 -- ---- from sheet to sheet: whatever writes the ERRs of what is left has written those of the whole
-module _ (m b : List ℕ) (first : Sheet) (o : List ℕ) (from : ℕ) where
-  pub record Putting (sheet : Sheet) (now : List ℕ) (at : ℕ) : Type 0 where
+module _ (m b : List ℕ) (first : Sheet) (o : Output) where
+  pub record Putting (sheet : Sheet) (now : Output) : Type 0 where
     pub sheeted : Sheeted m b sheet
     pub whole : sheet.brief ≡ false
     pub same : sheet.by ≡ first.by
-    pub room : length now < limit
-    pub near : at ≤ limit
-    pub left : (after : List ℕ) (r : ℕ) → Wrote now at (errs first.by.d (all_from m b sheet)) after r → Wrote o from (errs first.by.d (all_from m b first)) after r
+    pub left : (after : Output) → Adds now (errs first.by.d (all_from m b sheet)) after → Adds o (errs first.by.d (all_from m b first)) after
     pub told : (sheet.fault || has is_fault (to_come m b sheet)) ≡ (first.fault || has is_fault (to_come m b first))
 
-  pub putting_start : Sheeted m b first → first.brief ≡ false → length o < limit → from ≤ limit → Putting first o from
-  putting_start h whole room near = record { sheeted = h; whole = whole; same = refl; room = room; near = near; left = λ after r w. w; told = refl }
+  pub putting_start : Sheeted m b first → first.brief ≡ false → Putting first o
+  putting_start h whole = record { sheeted = h; whole = whole; same = refl; left = λ after w. w; told = refl }
 
-  module _ {sheet : Sheet} {now mid : List ℕ} {at next : ℕ} (h : Putting sheet now at) (one : Wrote now at (errs first.by.d (held sheet)) mid next) where
-    pub putting_more : {r : Sheet} → Gets m b sheet.by sheet.brief sheet.fault (to_come m b sheet) r → Putting r mid next
+  module _ {sheet : Sheet} {now mid : Output} (h : Putting sheet now) (one : Adds now (errs first.by.d (held sheet)) mid) where
+    pub putting_more : {r : Sheet} → Gets m b sheet.by sheet.brief sheet.fault (to_come m b sheet) r → Putting r mid
     putting_more {r} w = record {
       sheeted = w.sheeted;
       whole = w.briefly ∙ h.whole;
       same = w.same ∙ h.same;
-      room = omega (arith, wrote-length one, h.room);
-      near = omega (arith, one.ends);
-      left = λ after end more.
-          h.left after end (wrote_as (one then more) (errs-append first.by.d (held sheet) (all_from m b r) ∙ ap (λ (l : List Finding). errs first.by.d (held sheet ++ l)) (sym (w.all h.whole))));
+      left = λ after more.
+          h.left after (adds_as (one next more) (errs-append first.by.d (held sheet) (all_from m b r) ∙ ap (λ (l : List Finding). errs first.by.d (held sheet ++ l)) (sym (w.all h.whole))));
       told = w.told ∙ h.told;
     }
 
-    pub putting_over : sheet.ended ≡ true → Puts m b first o from mid (record { at = next; fault = sheet.fault })
+    pub putting_over : sheet.ended ≡ true → Puts m b first o mid sheet.fault
     putting_over e =
         let none = none-to_come m b sheet e in
         let all : held sheet ≡ all_from m b sheet = sym (append-nil (held sheet)) ∙ ap (λ (l : List Finding). held sheet ++ l) (sym none) in
         record {
-          wrote = h.left mid next (wrote_as one (ap (errs first.by.d) all));
+          wrote = h.left mid (adds_as one (ap (errs first.by.d) all));
           told = ended-told m b sheet e h.told;
         }
 
 -- ---- from the first sheet on, these are the ERRs of all findings
-module _ (m b : List ℕ) (by : Terms) (all : List Finding) {first : Sheet} (g : Gets m b by false false all first) {o p : List ℕ} {at : ℕ} {r : Put} (w : Puts m b first o at p r) where
-  pub put_all : Wrote o at (errs by.d all) p r.at
-  put_all = wrote_as w.wrote (ap₂ (λ (t : Terms) (l : List Finding). errs t.d l) g.same (sym (g.all refl)))
+module _ (m b : List ℕ) (by : Terms) (all : List Finding) {first : Sheet} (g : Gets m b by false false all first) {o p : Output} {fault : Bool} (w : Puts m b first o p fault) where
+  pub put_all : Adds o (errs by.d all) p
+  put_all = adds_as w.wrote (ap₂ (λ (t : Terms) (l : List Finding). errs t.d l) g.same (sym (g.all refl)))
 
-  pub put_told : r.fault ≡ has is_fault all
+  pub put_told : fault ≡ has is_fault all
   put_told = w.told ∙ g.told

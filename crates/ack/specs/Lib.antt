@@ -6,3 +6,4 @@ pub mod Lamp
 pub mod Records
 pub mod Pieces
 pub mod Drafts
+pub mod Output

@@ -12,6 +12,7 @@ ghost use Rattle.ack.specs.Answers.{answer_of, Gives};
 use crate::errs::put_errs;
 use crate::layout::{letter_of, put_heading};
 use crate::measure::heading_length;
+use crate::output::Output;
 use grade::admit::{Admitted, admit_stamped};
 use grade::book::Indexed;
 use grade::header::any_wrong;
@@ -35,7 +36,11 @@ fn answer_listed(
 {
     let first = first_sheet(false, by, m, book);
     let mut none = [0u8; 0];
-    let measured = put_errs(&mut none, 0, m, book, first);
+    let mut measured = Output {
+        bytes: &mut none,
+        at: 0,
+    };
+    let fault = put_errs(&mut measured, m, book, first);
     let d = by.d;
     let mut starts = [0usize; MSH_PLACES];
     let count = note_fields(d, msh, &mut starts);
@@ -46,12 +51,13 @@ fn answer_listed(
             detail: need,
         };
     }
-    let second = letter_of(any_wrong(by.header), measured.fault);
-    let at = put_heading(out, 0, d, msh, &starts, count, stamp, control, second);
-    let written = put_errs(out, at, m, book, first);
+    let second = letter_of(any_wrong(by.header), fault);
+    let mut ack = Output { bytes: out, at: 0 };
+    put_heading(&mut ack, d, msh, &starts, count, stamp, control, second);
+    put_errs(&mut ack, m, book, first);
     Answer {
         number: 0,
-        detail: written.at,
+        detail: ack.at,
     }
 }
 

@@ -2,6 +2,7 @@
 // dropped and counted all the same; and none has a `requires`, so that a caller has nothing to show.
 ghost use Rattle.std.specs.Prelude.{◌≡◌, ◌∷◌, [], ◌+◌, ◌-◌, ◌<◌, ◌≤◌, min, length};
 ghost use Rattle.ack.specs.Splice.{Wrote, limit};
+ghost use Rattle.ack.specs.Output.{Adds};
 ghost use Rattle.ack.specs.Decimal.{decimal, digit};
 
 // No index of an output reaches this one.
@@ -79,6 +80,57 @@ pub fn put_number(out: &mut [u8], at: usize, mark: u8, n: usize) -> usize
 {
     let next = put_byte(out, at, mark);
     put_decimal(out, next, n)
+}
+
+// An output that the caller lends, and where in it the next byte goes.
+#[derive(Drop)]
+pub struct Output<'a> {
+    pub bytes: &'a mut [u8],
+    pub at: usize,
+}
+
+impl Output<'_> {
+    // One byte.
+    pub fn put_byte(&mut self, byte: u8)
+        ensures { Adds self.old (byte ∷ []) self.new }
+    {
+        self.at = put_byte(self.bytes, self.at, byte);
+    }
+
+    // All of bytes.
+    pub fn put(&mut self, bytes: &[u8])
+        ensures { Adds self.old bytes.now self.new }
+    {
+        self.at = put(self.bytes, self.at, bytes);
+    }
+
+    // n in decimal notation.
+    fn put_decimal(&mut self, n: usize)
+        ensures { Adds self.old (decimal n) self.new }
+    {
+        if n < 10 {
+            self.put_byte(48 + n as u8);
+        } else {
+            self.put_decimal(n / 10);
+            self.put_byte(48 + (n % 10) as u8);
+        }
+    }
+
+    // A mark, and then all of bytes.
+    pub fn put_field(&mut self, mark: u8, bytes: &[u8])
+        ensures { Adds self.old (mark ∷ bytes.now) self.new }
+    {
+        self.put_byte(mark);
+        self.put(bytes);
+    }
+
+    // A mark, and n in decimal notation.
+    pub fn put_number(&mut self, mark: u8, n: usize)
+        ensures { Adds self.old (mark ∷ decimal n) self.new }
+    {
+        self.put_byte(mark);
+        self.put_decimal(n);
+    }
 }
 
 // How many digits n has: nearly every number has one.

@@ -12,10 +12,10 @@ ghost use Rattle.ack.specs.Splice.{limit, Wrote};
 ghost use Rattle.ack.specs.Records.{write_records, write_from, blank};
 ghost use Rattle.ack.specs.Drafts.{weightless, weighed_by, weigh_all, looked_at, Drafts, Fronts};
 
-use crate::errs::put_finding;
+use crate::errs::put_each;
 use crate::layout::{letter_of, put_heading};
 use crate::measure::{err_length, heading_length};
-use crate::output::advanced;
+use crate::output::{Output, advanced};
 use grade::admit::admit_message;
 use grade::date::is_stamp;
 use grade::finding::Finding;
@@ -103,14 +103,12 @@ fn put_records(out: &mut [u8], from: usize, d: Delims, table: &[Finding], count:
     requires { (from ≤ limit) × (length out.old < limit) × (count ≤ length table.now) }
     ensures { Wrote out.old from (errs d (take count table.now)) out.new result }
 {
-    let mut at = from;
-    let mut i: usize = 0;
-    while i < count {
-        let finding = recorded(table, i);
-        at = put_finding(out, at, d, finding);
-        i += 1;
-    }
-    at
+    let mut ack = Output {
+        bytes: out,
+        at: from,
+    };
+    put_each(&mut ack, d, &table[..count]);
+    ack.at
 }
 
 // Row 11, or the length of the ACK: its heading's, and what its ERRs have.
@@ -193,7 +191,18 @@ fn put_front(out: &mut [u8], m: &[u8], stamp: &[u8], control: u32, draft: Draft)
     let msh = segment(m, 1);
     let mut starts = [0usize; MSH_PLACES];
     let count = note_fields(d, msh, &mut starts);
-    put_heading(out, 0, d, msh, &starts, count, stamp, control, draft.letter)
+    let mut ack = Output { bytes: out, at: 0 };
+    put_heading(
+        &mut ack,
+        d,
+        msh,
+        &starts,
+        count,
+        stamp,
+        control,
+        draft.letter,
+    );
+    ack.at
 }
 
 // Writes the ACK to a message from the first so many records of a table, by the stated count: number 0 and the ACK's length, or the first of refusals 1 to 6, 13, 10

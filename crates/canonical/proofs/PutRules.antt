@@ -31,11 +31,11 @@ component-said n = by (eqb n 0)
     by true = refl
     by false = ap (λ (l : List ℕ). code "." ∷ l) (append-nil (decimal n))
 
-pub place-written : (place : Place) {field : ℕ} {o p q r s : List ℕ} {at b c d e : ℕ} → field ≡ place.field
-    → Wrote o at (32 ∷ []) p b → Wrote p b (name_bytes place.segment) q c → Wrote q c (code "-" ∷ decimal field) r d → Wrote r d (marked (code ".") (component_parts place.component)) s e
+pub place-written : (place : Place) {field : ℕ} {o p s : List ℕ} {at b e : ℕ} → field ≡ place.field
+    → Wrote o at (32 ∷ []) p b → Wrote p b (name_bytes place.segment ++ ((code "-" ∷ decimal field) ++ marked (code ".") (component_parts place.component))) s e
     → Wrote o at (32 ∷ place_word place) s e
 unfolding place_word
-place-written place e u v w x = wrote_as (u then v then w then x) (rw (e, component-said place.component))
+place-written place e u v = wrote_as (u then v) (rw (e, component-said place.component))
 
 -- two numbers
 pub range_written : (low high : ℕ) {o p q : List ℕ} {at b c : ℕ} → Wrote o at (32 ∷ decimal low) p b → Wrote p b (32 ∷ decimal high) q c → Wrote o at (marked 32 (decimal low ∷ decimal high ∷ [])) q c

@@ -16,7 +16,7 @@ ghost use Rattle.canonical.specs.Shown.{line_bytes, printed, set_name, code_line
 ghost use Rattle.canonical.specs.Showing.{names_from, pin_bytes, line_of_rule};
 
 use ack::layout::{put_component, put_name};
-use ack::output::{put, put_byte, put_number};
+use ack::output::{Output, put, put_byte, put_number};
 use booktext::cell::spot_number;
 use booktext::told::{Told, tell};
 use grade::book::{Indexed, index_book, site_at};
@@ -131,9 +131,14 @@ pub fn put_place(out: &mut [u8], at: usize, place: Place) -> usize
     ensures { Wrote out.old at (32 ∷ place_word place) out.new result }
 {
     let second = put_byte(out, at, b' ');
-    let third = put_name(out, second, place.segment);
-    let fourth = put_number(out, third, b'-', place.field as usize);
-    put_component(out, fourth, b'.', place.component)
+    let mut word = Output {
+        bytes: out,
+        at: second,
+    };
+    put_name(&mut word, place.segment);
+    word.put_number(b'-', place.field as usize);
+    put_component(&mut word, b'.', place.component);
+    word.at
 }
 
 pub fn put_kind(out: &mut [u8], at: usize, kind: Kind) -> usize

@@ -3,7 +3,7 @@ use mathlib.Core.Path.{◌≡◌, sym, ap}
 use mathlib.Core.List.{[]}
 use Rattle.ack.specs.Layout.{own_byte, own, code_text}
 use Rattle.ack.proofs.Lines.{code_other}
-use Rattle.ack.proofs.Writing.{wrote_as}
+use Rattle.ack.proofs.Adding.{adds_none}
 use Rattle.ack.proofs.layout.put_code.Goals as goal
 
 pub returns-in-100 : goal.returns-in-100
@@ -41,4 +41,4 @@ returns-in-203 c = rw c.in-203.is c.put_own-in-203.ensures
 pub returns-in_default : goal.returns-in_default
 returns-in_default c =
     let none : code_text c.args.code ≡ [] = search code_other in
-    wrote_as c.put.ensures (ap (own c.args.d) (sym none))
+    adds_none _ (ap (own c.args.d) (sym none))

@@ -2,7 +2,9 @@
 use mathlib.Core.Path.{refl, ap, ◌∙◌}
 use native.Mathlib.Omega.{arith}
 use Rattle.hl7.specs.Place.{is_msh}
+use borrow.Author.Rules.{rules}
 use Rattle.ack.proofs.Writing.{wrote-length}
+use Rattle.ack.proofs.Adding.{wrote_lent}
 use Rattle.ack.proofs.write.put_front.Goals as goal
 
 pub returns-then-draft-gt0 : goal.returns-then-draft-gt0
@@ -16,16 +18,11 @@ put_heading-requires c =
       room = omega (arith, c.note_fields-count.auto.starts);
     }
 
-pub shape_of-out : goal.shape_of-out
-shape_of-out c = wrote-length c.put_heading.ensures
-
 pub returns : goal.returns
 returns c =
-    let wrote = c.put_heading.ensures in
-    let first = c.segment-msh.ensures.bytes in
     record {
-      near = omega (arith, wrote.ends);
-      same = wrote-length wrote;
+      near = omega (arith, (c.put_heading.ensures.wrote (omega arith) (omega arith)).ends);
+      same = wrote-length (wrote_lent c.put_heading.ensures (omega arith) (omega arith) (search rules));
       none = λ some. absurd (some (omega (arith, c.if-draft-gt0.false)));
-      front = λ _. rw first at wrote;
+      front = λ _. rw (← c.segment-msh.ensures.bytes) (wrote_lent c.put_heading.ensures (omega arith) (omega arith) (search rules));
     }

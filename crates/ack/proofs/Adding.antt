@@ -1,0 +1,45 @@
+-- The laws of `Adds`: one write after the other. Assumes nothing.
+use mathlib.Core.Path.{◌≡◌, refl, sym, subst, ◌∙◌}
+use mathlib.Core.List.{List, [], ◌∷◌, ◌++◌}
+use Prim.Native.Nat.{ℕ, ◌+◌, ◌<◌, ◌≤◌, min}
+use native.Mathlib.Omega.{arith}
+use lib.ListN.{length}
+use Rattle.ack.specs.Splice.{limit, Wrote}
+use Rattle.ack.specs.Output.{Adds}
+use Rattle.ack.specs.declared.output.Output.{Output}
+use Rattle.ack.proofs.Writing.{◌then◌, wrote_as, wrote_none, wrote-length, wrote_over}
+
+-- two writes, one after the other
+infixr 40 ◌next◌
+pub ◌next◌ : {o p q : Output} {xs ys : List ℕ} → Adds o xs p → Adds p ys q → Adds o (xs ++ ys) q
+f next g = record {
+  same = g.same ∙ f.same;
+  wrote = λ near room.
+      let first = f.wrote near room in
+      first then g.wrote (omega (arith, first.ends)) (omega (arith, wrote-length first));
+}
+
+-- the same, where the first is one byte
+pub adds_byte : {o p q : Output} {x : ℕ} {ys : List ℕ} → Adds o (x ∷ []) p → Adds p ys q → Adds o (x ∷ ys) q
+adds_byte f g = f next g
+
+-- the same bytes under another name
+pub adds_as : {o p : Output} {xs ys : List ℕ} → Adds o xs p → xs ≡ ys → Adds o ys p
+adds_as f e = record { same = f.same; wrote = λ near room. wrote_as (f.wrote near room) e }
+
+-- nothing
+pub adds_none : (o : Output) {xs : List ℕ} → [] ≡ xs → Adds o xs o
+adds_none o e = record {
+  same = refl;
+  wrote = λ near room.
+      let kept : min o.at limit ≡ o.at = omega arith in
+      wrote_as (subst (Wrote o.bytes.now o.at [] o.bytes.now) kept (wrote_none o.bytes.now o.at room)) e;
+}
+
+-- past the end it is counted alone
+pub adds_over : (o : Output) (xs : List ℕ) (n to : ℕ) → length o.bytes.now ≤ o.at → n ≡ length xs → to ≡ min (o.at + n) limit → Adds o xs (record o { at = to })
+adds_over o xs n to past long ends = record { same = refl; wrote = λ near room. wrote_over o.bytes.now xs o.at n to room past long ends }
+
+-- what was lent, once it is given back
+pub wrote_lent : {o p : Output} {xs after : List ℕ} → Adds o xs p → o.at ≤ limit → length o.bytes.now < limit → after ≡ p.bytes.now → Wrote o.bytes.now o.at xs after p.at
+wrote_lent {o} {p} {xs} f near room back = subst (λ (l : List ℕ). Wrote o.bytes.now o.at xs l p.at) (sym back) (f.wrote near room)
