@@ -95,6 +95,7 @@ fn find_section(book: &[u8], starts: &[usize], key: &[u8]) -> Opened
     }
 }
 
+#[tactic(auto, unfolding(crate::specs::Book::head_right))]
 fn head_right(book: &[u8]) -> bool
     ensures { result ≡ head_right book.now }
 {

@@ -9,20 +9,12 @@ use crate::date::{is_date, is_time};
 use crate::lookup::has_code;
 use crate::rule::{Kind, Rule};
 use crate::value::{has_length, is_number};
-use hl7::bytes::wide;
 use hl7::place::{Delims, component};
 
 pub(crate) fn is_required(kind: Kind) -> bool
     ensures { result ≡ is_required kind }
 {
-    match kind {
-        Kind::Required => true,
-        Kind::Length { low: _, high: _ } => false,
-        Kind::Number => false,
-        Kind::Date => false,
-        Kind::Time { digits: _ } => false,
-        Kind::Code { set: _ } => false,
-    }
+    matches!(kind, Kind::Required)
 }
 
 // Whether bytes count as a value: they are neither none nor exactly two quotes.
@@ -44,14 +36,15 @@ fn does_fit(kind: Kind, value: &[u8], book: &[u8], codes: usize) -> bool
 {
     match kind {
         Kind::Required => true,
-        Kind::Length { low, high } => has_length(value, wide(low), wide(high)),
+        Kind::Length { low, high } => has_length(value, usize::from(low), usize::from(high)),
         Kind::Number => is_number(value),
         Kind::Date => is_date(value),
-        Kind::Time { digits } => is_time(value, wide(digits)),
-        Kind::Code { set: _ } => has_code(book, codes, value),
+        Kind::Time { digits } => is_time(value, usize::from(digits)),
+        Kind::Code { .. } => has_code(book, codes, value),
     }
 }
 
+#[tactic(auto, unfolding(crate::specs::Broken::broken))]
 fn is_broken(kind: Kind, value: &[u8], book: &[u8], codes: usize) -> bool
     requires { CodesStand book.now kind codes }
     ensures { result ≡ broken kind (codes_at book.now codes) value.now }
@@ -63,6 +56,7 @@ fn is_broken(kind: Kind, value: &[u8], book: &[u8], codes: usize) -> bool
 }
 
 // Whether a kind is about a repetition of which so many came before.
+#[tactic(auto, unfolding(crate::specs::Broken::judges))]
 fn is_judged(kind: Kind, passed: u32) -> bool
     ensures { result ≡ judges kind passed }
 {
@@ -81,7 +75,6 @@ pub(crate) fn breaks_rule(
     requires { CodesStand book.now rule.kind codes }
     ensures { result ≡ breaks_by book.now rule codes passed (value_in d false rule rep.now) }
 {
-    let kind = rule.kind;
-    let value = component(d, rep, false, wide(rule.place.component));
-    is_judged(kind, passed) & is_broken(kind, value, book, codes)
+    let value = component(d, rep, false, usize::from(rule.place.component));
+    is_judged(rule.kind, passed) & is_broken(rule.kind, value, book, codes)
 }

@@ -65,7 +65,7 @@ const NTE: u32 = 0x4E5445;
 fn letters(a: u8, b: u8, c: u8) -> u32
     ensures { result ≡ letters_number a b c }
 {
-    (a as u32) * 65536 + (b as u32) * 256 + (c as u32)
+    u32::from(a) * 65536 + u32::from(b) * 256 + u32::from(c)
 }
 
 // The number of the name with these three letters.
@@ -88,6 +88,7 @@ pub fn name_of_letters(a: u8, b: u8, c: u8) -> u8
 }
 
 // The letters of a name as one number; 0 where the number is none of the ten.
+#[tactic(auto, unfolding(crate::specs::Rule::name_bytes, crate::specs::Rule::segment_names))]
 pub fn letters_of(name: u8) -> u32
     ensures { (result ≡ letters_of name) × (result < 16777216) }
 {
@@ -115,6 +116,7 @@ fn first_field(segment: u8) -> u8
     1
 }
 
+#[tactic(auto, unfolding(crate::specs::Rule::place_fits))]
 pub fn place_fits(place: Place) -> bool
     ensures { result ≡ place_fits place }
 {
@@ -124,6 +126,7 @@ pub fn place_fits(place: Place) -> bool
 }
 
 // The severity that a letter stands for.
+#[tactic(auto, unfolding(crate::specs::Rule::severity_of))]
 fn severity_of(letter: u8) -> Option<Severity>
     ensures { result ≡ severity_of letter }
 {
@@ -146,6 +149,7 @@ pub fn severity_letter(severity: Severity) -> u8
 }
 
 // The kind with a number, made of the rule's last three bytes.
+#[tactic(auto, unfolding(crate::specs::Rule::kind_of))]
 fn kind_of(number: u8, set: u8, low: u8, high: u8) -> Option<Kind>
     ensures { result ≡ kind_of number set low high }
 {
@@ -165,19 +169,17 @@ fn unused_zero(kind: Kind, set: u8, low: u8, high: u8) -> bool
     ensures { result ≡ unused_zero kind set low high }
 {
     match kind {
-        Kind::Required => (set == 0) & (low == 0) & (high == 0),
-        Kind::Length { low: _, high: _ } => set == 0,
-        Kind::Number => (set == 0) & (low == 0) & (high == 0),
-        Kind::Date => (set == 0) & (low == 0) & (high == 0),
-        Kind::Time { digits: _ } => (set == 0) & (high == 0),
-        Kind::Code { set: _ } => (low == 0) & (high == 0),
+        Kind::Required | Kind::Number | Kind::Date => (set == 0) & (low == 0) & (high == 0),
+        Kind::Length { .. } => set == 0,
+        Kind::Time { .. } => (set == 0) & (high == 0),
+        Kind::Code { .. } => (low == 0) & (high == 0),
     }
 }
 
 pub fn time_digits(n: u8) -> bool
     ensures { result ≡ time_digits n }
 {
-    (n == 4) | (n == 6) | (n == 8) | (n == 10) | (n == 12) | (n == 14)
+    matches!(n, 4 | 6 | 8 | 10 | 12 | 14)
 }
 
 // Whether a kind is within its limits, in a section with so many sets.
@@ -185,10 +187,8 @@ fn kind_fits(sets: u8, kind: Kind) -> bool
     ensures { result ≡ kind_fits sets kind }
 {
     match kind {
-        Kind::Required => true,
+        Kind::Required | Kind::Number | Kind::Date => true,
         Kind::Length { low, high } => is_within(low, 1, high),
-        Kind::Number => true,
-        Kind::Date => true,
         Kind::Time { digits } => time_digits(digits),
         Kind::Code { set } => is_within(set, 1, sets),
     }
@@ -200,11 +200,8 @@ pub(crate) fn error_code(kind: Kind) -> u16
 {
     match kind {
         Kind::Required => 101,
-        Kind::Length { low: _, high: _ } => 102,
-        Kind::Number => 102,
-        Kind::Date => 102,
-        Kind::Time { digits: _ } => 102,
-        Kind::Code { set: _ } => 103,
+        Kind::Length { .. } | Kind::Number | Kind::Date | Kind::Time { .. } => 102,
+        Kind::Code { .. } => 103,
     }
 }
 
@@ -244,9 +241,7 @@ pub(crate) fn rule_stands(book: &[u8], at: usize, sets: u8) -> bool
     let Some(rule) = rule_said(book, at, name_at(book, at)) else {
         return false;
     };
-    let place = rule.place;
-    let kind = rule.kind;
-    place_fits(place)
-        & kind_fits(sets, kind)
-        & unused_zero(kind, book[at + 7], book[at + 8], book[at + 9])
+    place_fits(rule.place)
+        & kind_fits(sets, rule.kind)
+        & unused_zero(rule.kind, book[at + 7], book[at + 8], book[at + 9])
 }
