@@ -2,38 +2,39 @@
 use mathlib.Core.Path.{◌≡◌, refl, sym, ap, ap₂, ◌∙◌}
 use mathlib.Core.Bool.{Bool, true, false, cond, not, ◌&&◌, ◌||◌, or_assoc, or-false}
 use mathlib.Core.List.{List, [], ◌∷◌, map}
-use Prim.Native.Nat.{ℕ, ◌+◌, ◌/◌, ◌%◌, ◌≤◌, ◌<◌}
+use Prim.Native.Nat.{ℕ, ◌+◌, ◌≤◌, ◌<◌}
 use native.Mathlib.Omega.{arith}
 use lib.Dec.{eqb}
 use lib.ListN.{length, get_or, drop, length-append}
 use borrow.Author.Tests.{eqb-true, not-true, not-false}
-use Rattle.hl7.proofs.Comparing.{from_step, from_done, and_both}
+use Rattle.std.proofs.Common.{Some}
+use Rattle.hl7.proofs.Comparing.{and_both}
 use Rattle.booktext.specs.Lines.{Statement, word, verb, says, of_rule, makes_rule, a_severity, a_bound, a_drop}
 use Rattle.booktext.specs.Meaning.{give}
 use Rattle.booktext.specs.Changes.{spot_of, says_of, bind, amend, amended, dropped, settled_as, settled}
-use Rattle.booktext.specs.Standing.{words_from, statement_at, line_in, bound_in, noted, mark_of, Marks, NotesMore}
-use Rattle.booktext.proofs.Marking.{noted_third, noted_other, noted-give, noted-bind, mark_verb, mark_spot, mark_says, marks_at, marks_step, marks_over, later, part_cells, later_cells}
+use Rattle.booktext.specs.Standing.{words_from, noted, no_cell, Marked, Marks, NotesMore}
+use Rattle.booktext.specs.declared.cell.Cell.{Cell}
+use Rattle.booktext.proofs.Marking.{noted_third, noted_other, noted-give, noted-bind, cells_step, cells_done, mark_says, mark_at, part_cells, part_noted}
 use Rattle.booktext.proofs.Noting.{notes_none, notes_as}
 
 -- ---- a rule that is dropped
-module _ (spot : ℕ) (marks : List ℕ) where
+module _ (spot : ℕ) (cells : List Cell) where
   -- it was by one that is passed, or it is by one that is left
   abbrev pub Drops : Bool → ℕ → Type 0
-  Drops any i = (ss : List Statement) → Marks ss marks → dropped spot ss ≡ (any || dropped spot (drop i ss))
+  Drops any i = (t : List ℕ) → Marks t cells → dropped spot (map (noted t) cells) ≡ (any || dropped spot (map (noted t) (drop i cells)))
 
   module _ (any : Bool) (i : ℕ) (inv : Drops any i) where
-    pub drops_more : i < length marks → (b : Bool) → b ≡ (eqb (get_or marks i 0 % 16) a_drop && eqb (get_or marks i 0 / 16) spot) → Drops (any || b) (i + 1)
+    pub drops_more : i < length cells → (b : Bool) → b ≡ (eqb (get_or cells i no_cell).verb a_drop && eqb (get_or cells i no_cell).spot spot) → Drops (any || b) (i + 1)
     unfolding dropped
-    drops_more h b e ss m =
-        let here = marks_step ss marks i m h (statement_at [] 0 0) in
-        inv ss m
-        ∙ ap (λ (l : List Statement). any || dropped spot l) here.0
-        ∙ ap (λ (x : Bool). any || (x || dropped spot (drop (i + 1) ss))) (sym (mark_says (get_or ss i (statement_at [] 0 0)) here.1 a_drop spot e))
-        ∙ sym (or_assoc any b (dropped spot (drop (i + 1) ss)))
+    drops_more h b e t m =
+        inv t m
+        ∙ ap (λ (l : List Statement). any || dropped spot l) (cells_step (noted t) cells i h)
+        ∙ ap (λ (x : Bool). any || (x || dropped spot (map (noted t) (drop (i + 1) cells)))) (sym (mark_says t (get_or cells i no_cell) (mark_at t cells i m h) a_drop spot e))
+        ∙ sym (or_assoc any b (dropped spot (map (noted t) (drop (i + 1) cells))))
 
-    pub drops_over : length marks ≤ i → (ss : List Statement) → Marks ss marks → any ≡ dropped spot ss
+    pub drops_over : length cells ≤ i → (t : List ℕ) → Marks t cells → any ≡ dropped spot (map (noted t) cells)
     unfolding dropped
-    drops_over h ss m = sym (inv ss m ∙ ap (λ (l : List Statement). any || dropped spot l) (marks_over ss marks i m h) ∙ or-false any)
+    drops_over h t m = sym (inv t m ∙ ap (λ (l : List Statement). any || dropped spot l) (cells_done (noted t) cells i h) ∙ or-false any)
 
 -- ---- a rule that is amended
 module _ (spot : ℕ) (s x : Statement) where
@@ -68,83 +69,122 @@ amended_as f keeps spot s (x ∷ ss) = amended_as f keeps spot (amend spot s x) 
 pub amended-rule : (spot : ℕ) (s : Statement) (ss : List Statement) → makes_rule (amended spot s ss) ≡ makes_rule s
 amended-rule = amended_as makes_rule amend-rule
 
-module _ (t : List ℕ) (rule spot cell : ℕ) {mark : ℕ} (m : mark ≡ mark_of (noted t cell)) {a : Bool} (e : a ≡ (eqb (mark % 16) a_severity && eqb (mark / 16) spot)) where
-  severe : says_of a_severity spot (noted t cell) ≡ a
-  severe = sym (mark_says (noted t cell) m a_severity spot e)
+pub amended-spot : (spot : ℕ) (s : Statement) (ss : List Statement) → spot_of (amended spot s ss) ≡ spot_of s
+amended-spot = amended_as spot_of amend-spot
 
-  pub amend_severity : a ≡ true → {line letter : ℕ} {w : List ℕ} (r : ℕ) → line ≡ line_in cell → w ≡ get_or (words_from t line) 3 [] → letter ≡ get_or w 0 0 → (r / 256 ≡ rule / 256) × (r % 256 ≡ letter) → noted t r ≡ amend spot (noted t rule) (noted t cell)
-  amend_severity h {letter = letter} r l f g k =
-      noted-give t rule r letter k.0 k.1
-      ∙ ap (λ (y : ℕ). give y (noted t rule)) (g ∙ ap (λ (y : List ℕ). get_or y 0 0) (f ∙ ap (λ (n : ℕ). get_or (words_from t n) 3 []) l ∙ sym (noted_third t cell)))
+pub amended-verb : (spot : ℕ) (s : Statement) (ss : List Statement) → verb (amended spot s ss) ≡ verb s
+amended-verb = amended_as verb amend-verb
+  where
+    amend-verb : (spot : ℕ) (s x : Statement) → verb (amend spot s x) ≡ verb s
+    amend-verb spot s x = by (says_of a_severity spot x) (says_of a_bound spot x)
+      where
+        by : (a b : Bool) → verb (cond a (give (get_or (word x 3) 0 0) s) (cond b (bind (drop 3 x.words) s) s)) ≡ verb s
+        by true b = refl
+        by false true = refl
+        by false false = refl
+
+-- a cell amended
+abbrev pub given_to : Cell → ℕ → Cell
+given_to rule letter = record { line = rule.line; given = letter; bound = rule.bound; verb = rule.verb; spot = rule.spot }
+
+abbrev pub bound_to : Cell → ℕ → Cell
+bound_to rule line = record { line = rule.line; given = rule.given; bound = Some line; verb = rule.verb; spot = rule.spot }
+
+module _ (t : List ℕ) (rule : Cell) (spot : ℕ) (cell : Cell) (m : Marked t cell) {a : Bool} (e : a ≡ (eqb cell.verb a_severity && eqb cell.spot spot)) where
+  severe : says_of a_severity spot (noted t cell) ≡ a
+  severe = sym (mark_says t cell m a_severity spot e)
+
+  pub amend_severity : a ≡ true → {letter : ℕ} {w : List ℕ} → w ≡ get_or (words_from t cell.line) 3 [] → letter ≡ get_or w 0 0 → noted t (given_to rule letter) ≡ amend spot (noted t rule) (noted t cell)
+  amend_severity h {letter} f g =
+      noted-give t rule letter
+      ∙ ap (λ (y : ℕ). give y (noted t rule)) (g ∙ ap (λ (y : List ℕ). get_or y 0 0) (f ∙ sym (noted_third t cell)))
       ∙ sym (amend-by spot (noted t rule) (noted t cell) true _ (severe ∙ h) refl)
 
-  module _ (other : a ≡ false) {b : Bool} (f : b ≡ (eqb (mark % 16) a_bound && eqb (mark / 16) spot)) where
+  module _ (other : a ≡ false) {b : Bool} (f : b ≡ (eqb cell.verb a_bound && eqb cell.spot spot)) where
     bounds : says_of a_bound spot (noted t cell) ≡ b
-    bounds = sym (mark_says (noted t cell) m a_bound spot f)
+    bounds = sym (mark_says t cell m a_bound spot f)
 
-    pub amend-bound : makes_rule (noted t rule) ≡ true → b ≡ true → (line r : ℕ) → line ≡ line_in cell → (line_in r ≡ line_in rule) × (bound_in r ≡ line + 1) × (r % 256 ≡ rule % 256) → noted t r ≡ amend spot (noted t rule) (noted t cell)
-    amend-bound ruled h line r l k =
+    pub amend-bound : makes_rule (noted t rule) ≡ true → b ≡ true → noted t (bound_to rule cell.line) ≡ amend spot (noted t rule) (noted t cell)
+    amend-bound ruled h =
         let said = (and_both (says a_bound (noted t cell)) _ (bounds ∙ h)).0 in
         let plain : makes_rule (noted t cell) ≡ false = ap of_rule (eqb-true (verb (noted t cell)) a_bound said) in
-        noted-bind t rule line r ruled k.0 k.1 k.2
-        ∙ ap (λ (y : List (List ℕ)). bind (drop 3 y) (noted t rule)) (ap (words_from t) l ∙ sym (ap (λ (y : Statement). y.words) (noted_other t cell plain)))
+        noted-bind t rule cell.line ruled
+        ∙ ap (λ (y : List (List ℕ)). bind (drop 3 y) (noted t rule)) (sym (ap (λ (y : Statement). y.words) (noted_other t cell plain)))
         ∙ sym (amend-by spot (noted t rule) (noted t cell) false true (severe ∙ other) (bounds ∙ h))
 
     pub amend-none : b ≡ false → noted t rule ≡ amend spot (noted t rule) (noted t cell)
     amend-none h = sym (amend-by spot (noted t rule) (noted t cell) false false (severe ∙ other) (bounds ∙ h))
 
--- by those that are left
-module _ (t : List ℕ) (rule spot : ℕ) (cells : List ℕ) where
-  abbrev pub Amends : ℕ → ℕ → Type 0
-  Amends last i = (makes_rule (noted t last) ≡ true) × (amended spot (noted t rule) (map (noted t) cells) ≡ amended spot (noted t last) (map (noted t) (drop i cells)))
+-- by those that are left; what the cell has of the statement stays
+module _ (t : List ℕ) (rule : Cell) (spot : ℕ) (cells : List Cell) where
+  pub record Amends (last : Cell) (i : ℕ) : Type 0 where
+    pub rules : makes_rule (noted t last) ≡ true
+    pub rest : amended spot (noted t rule) (map (noted t) cells) ≡ amended spot (noted t last) (map (noted t) (drop i cells))
+    pub stays : (last.verb ≡ rule.verb) × (last.spot ≡ rule.spot)
 
-  module _ (last i : ℕ) (inv : Amends last i) where
-    pub amends_more : i < length cells → (r : ℕ) → noted t r ≡ amend spot (noted t last) (noted t (get_or cells i 0)) → Amends r (i + 1)
-    unfolding amended
-    amends_more h r e = (
-      ap makes_rule e ∙ amend-rule spot (noted t last) (noted t (get_or cells i 0)) ∙ inv.0,
-      inv.1 ∙ ap (amended spot (noted t last)) (from_step (noted t) cells i h) ∙ ap (λ (s : Statement). amended spot s (map (noted t) (drop (i + 1) cells))) (sym e),
-    )
+  pub amends_start : makes_rule (noted t rule) ≡ true → Amends rule 0
+  amends_start e = record { rules = e; rest = refl; stays = (refl, refl) }
 
-    pub amends_over : length cells ≤ i → noted t last ≡ amended spot (noted t rule) (map (noted t) cells)
+  module _ (last : Cell) (i : ℕ) (inv : Amends last i) where
+    pub amends_more : i < length cells → (r : Cell) → (noted t r ≡ amend spot (noted t last) (noted t (get_or cells i no_cell))) × (r.verb ≡ last.verb) × (r.spot ≡ last.spot) → Amends r (i + 1)
     unfolding amended
-    amends_over h = sym (inv.1 ∙ ap (amended spot (noted t last)) (from_done (noted t) cells i h))
+    amends_more h r (e, v, p) =
+        record {
+          rules = ap makes_rule e ∙ amend-rule spot (noted t last) (noted t (get_or cells i no_cell)) ∙ inv.rules;
+          rest = inv.rest ∙ ap (amended spot (noted t last)) (cells_step (noted t) cells i h) ∙ ap (λ (s : Statement). amended spot s (map (noted t) (drop (i + 1) cells))) (sym e);
+          stays = (v ∙ inv.stays.0, p ∙ inv.stays.1);
+        }
+
+    pub amends_over : length cells ≤ i → (noted t last ≡ amended spot (noted t rule) (map (noted t) cells)) × (last.verb ≡ rule.verb) × (last.spot ≡ rule.spot)
+    unfolding amended
+    amends_over h = (sym (inv.rest ∙ ap (amended spot (noted t last)) (cells_done (noted t) cells i h)), inv.stays.0, inv.stays.1)
 
 -- ---- statements settled
-module _ (t cells marks : List ℕ) (i : ℕ) (m : Marks (map (noted t) cells) marks) (h : i < length cells) where
+module _ (t : List ℕ) (cells : List Cell) (i : ℕ) (m : Marks t cells) (h : i < length cells) where
+  abbrev it : Cell
+  it = get_or cells i no_cell
+
   -- those that follow it
   abbrev after_it : List Statement
-  after_it = later t cells marks i m
+  after_it = map (noted t) (drop (i + 1) cells)
 
-  module _ {v : ℕ} {b : Bool} (f : v ≡ get_or marks i 0 % 16) (g : b ≡ of_rule v) (before : List ℕ) (count : ℕ) where
-    ruled : {c : Bool} → b ≡ c → makes_rule (noted t (get_or cells i 0)) ≡ c
-    ruled e = ap of_rule (sym (mark_verb (noted t (get_or cells i 0)) (marks_at t cells marks i m h)) ∙ sym f) ∙ sym g ∙ e
+  abbrev part_after : List Statement
+  part_after = map (noted t) (part_cells t cells i)
 
-    pub settle_other : not b ≡ true → (after : List ℕ) (r : ℕ) → NotesMore t before count after r (noted t (get_or cells i 0) ∷ []) → NotesMore t before count after r (settled_as (noted t (get_or cells i 0)) after_it)
+  module _ {b : Bool} (g : b ≡ of_rule it.verb) (before : List Cell) (count : ℕ) where
+    ruled : {c : Bool} → b ≡ c → makes_rule (noted t it) ≡ c
+    ruled e = ap of_rule (sym (mark_at t cells i m h).by_verb) ∙ sym g ∙ e
+
+    pub settle_other : not b ≡ true → (after : List Cell) (r : ℕ) → NotesMore t before count after r (noted t it ∷ []) → NotesMore t before count after r (settled_as (noted t it) after_it)
     unfolding settled_as
     settle_other e after r n =
-        notes_as t before count after r (noted t (get_or cells i 0) ∷ []) n _ (sym (rw (ruled (not-true b e))))
+        notes_as t before count after r (noted t it ∷ []) n _ (sym (rw (ruled (not-true b e))))
 
-    module _ (e : not b ≡ false) {spot : ℕ} (k : spot ≡ get_or marks i 0 / 16) where
-      pub settle_rule : makes_rule (noted t (get_or cells i 0)) ≡ true
+    module _ (e : not b ≡ false) where
+      pub settle_rule : makes_rule (noted t it) ≡ true
       settle_rule = ruled (not-false b e)
 
-      spot-here : spot ≡ spot_of (noted t (get_or cells i 0))
-      spot-here = k ∙ mark_spot (noted t (get_or cells i 0)) (marks_at t cells marks i m h)
+      module _ {gone : Bool} (d : gone ≡ dropped it.spot part_after) where
+        gone-is : dropped (spot_of (noted t it)) after_it ≡ gone
+        gone-is = ap₂ dropped (sym (mark_at t cells i m h).by_spot) (sym (part_noted t cells i)) ∙ sym d
 
-      module _ {gone : Bool} (d : gone ≡ dropped spot after_it) where
-        gone-is : dropped (spot_of (noted t (get_or cells i 0))) after_it ≡ gone
-        gone-is = ap (λ (n : ℕ). dropped n after_it) (sym spot-here) ∙ sym d
-
-        pub settle_gone : gone ≡ true → NotesMore t before count before count (settled_as (noted t (get_or cells i 0)) after_it)
+        pub settle_gone : gone ≡ true → NotesMore t before count before count (settled_as (noted t it) after_it)
         unfolding settled_as
         settle_gone q = notes_none t before count (rw (settle_rule, gone-is, q))
 
-        pub settle_stays : gone ≡ false → (rule : ℕ) → noted t rule ≡ amended spot (noted t (get_or cells i 0)) (map (noted t) (part_cells t cells marks i m)) → (after : List ℕ) (r : ℕ) → NotesMore t before count after r (noted t rule ∷ []) → NotesMore t before count after r (settled_as (noted t (get_or cells i 0)) after_it)
-        unfolding settled_as
-        settle_stays q rule a after r n =
-            notes_as t before count after r (noted t rule ∷ []) n _
-            (ap (λ (s : Statement). s ∷ []) (a ∙ ap₂ (λ (n : ℕ) (ss : List Statement). amended n (noted t (get_or cells i 0)) ss) spot-here (later_cells t cells marks i m)) ∙ sym (rw (settle_rule, gone-is, q)))
+        module _ (q : gone ≡ false) (rule : Cell) (a : (noted t rule ≡ amended it.spot (noted t it) part_after) × (rule.verb ≡ it.verb) × (rule.spot ≡ it.spot)) where
+          pub settle_marked : Marked t rule
+          settle_marked =
+              record {
+                by_verb = a.1 ∙ (mark_at t cells i m h).by_verb ∙ sym (ap verb a.0 ∙ amended-verb it.spot (noted t it) part_after);
+                by_spot = a.2 ∙ (mark_at t cells i m h).by_spot ∙ sym (ap spot_of a.0 ∙ amended-spot it.spot (noted t it) part_after);
+              }
+
+          pub settle_stays : (after : List Cell) (r : ℕ) → NotesMore t before count after r (noted t rule ∷ []) → NotesMore t before count after r (settled_as (noted t it) after_it)
+          unfolding settled_as
+          settle_stays after r n =
+              notes_as t before count after r (noted t rule ∷ []) n _
+              (ap (λ (s : Statement). s ∷ []) (a.0 ∙ ap₂ (λ (n : ℕ) (l : List Statement). amended n (noted t it) l) (mark_at t cells i m h).by_spot (part_noted t cells i)) ∙ sym (rw (settle_rule, gone-is, q)))
 
 -- there are no more of them than before
 settled_as-few : (s : Statement) (ss : List Statement) → length (settled_as s ss) ≤ 1

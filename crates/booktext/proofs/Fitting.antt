@@ -17,7 +17,8 @@ use Rattle.booktext.specs.Meaning.{body, from, is_of}
 use Rattle.booktext.specs.Changes.{lessened, kept, added_by, added}
 use Rattle.booktext.specs.Contents.{listed, codes_at, codes_of, held}
 use Rattle.booktext.specs.Faults.{codes_right}
-use Rattle.booktext.specs.Standing.{is_short, sound, ready, noted}
+use Rattle.booktext.specs.Standing.{is_short, sound, ready, noted, no_cell}
+use Rattle.booktext.specs.declared.cell.Cell.{Cell}
 use Rattle.booktext.proofs.Each.{each_append, each_as, each-body}
 use Rattle.booktext.proofs.Sounding.{sounds}
 
@@ -95,10 +96,10 @@ pub fit_short : (codes : List (List ℕ)) → each (text_fits code_limit) codes 
 fit_short codes e = each_as (text_fits code_limit) is_short (λ w k. le-leb (length w) 255 (fits-short w k)) codes e
 
 -- what a statement in cells adds
-ready_at : (t cells : List ℕ) (i : ℕ) → each ready (map (noted t) cells) ≡ true → i < length cells → ready (noted t (get_or cells i 0)) ≡ true
+ready_at : (t : List ℕ) (cells : List Cell) (i : ℕ) → each ready (map (noted t) cells) ≡ true → i < length cells → ready (noted t (get_or cells i no_cell)) ≡ true
 ready_at t [] i e h = absurd (omega arith)
 ready_at t (c ∷ cells) zero e h = (and_both (ready (noted t c)) _ e).0
 ready_at t (c ∷ cells) (suc i) e h = ready_at t cells i (and_both (ready (noted t c)) _ e).1 (omega arith)
 
-pub added-short : (t name cells : List ℕ) (i : ℕ) → each ready (map (noted t) cells) ≡ true → i < length cells → each is_short (added_by name (noted t (get_or cells i 0))) ≡ true
-added-short t name cells i e h = fit_short (added_by name (noted t (get_or cells i 0))) (added_by_fit name (noted t (get_or cells i 0)) (ready_at t cells i e h))
+pub added-short : (t name : List ℕ) (cells : List Cell) (i : ℕ) → each ready (map (noted t) cells) ≡ true → i < length cells → each is_short (added_by name (noted t (get_or cells i no_cell))) ≡ true
+added-short t name cells i e h = fit_short (added_by name (noted t (get_or cells i no_cell))) (added_by_fit name (noted t (get_or cells i no_cell)) (ready_at t cells i e h))

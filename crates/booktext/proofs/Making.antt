@@ -22,6 +22,7 @@ use Rattle.booktext.specs.Contents.{rules_of, names_of, held, contents_of, secti
 use Rattle.booktext.specs.Faults.{tell, nothing, firstly, key_right}
 use Rattle.booktext.specs.Refusals.{at_of, statement_limit, used_twice, first_rule_fault, first_stray, first_bad_set, over, sizes_told, section_told}
 use Rattle.booktext.specs.Standing.{words_from, span_bytes, statement_at, next_line, left, body_from, sound, ready, noted, Holds, CountsRules, names_in, Names64, Puts}
+use Rattle.booktext.specs.declared.cell.Cell.{Cell}
 use Rattle.booktext.specs.declared.told.Told.{Told}
 use Rattle.booktext.specs.declared.names.Names.{Names}
 use Rattle.booktext.specs.declared.sets.Put.{Put}
@@ -177,7 +178,7 @@ module _ (t : List ℕ) (head : ℕ) (ss : List Statement) (at : ℕ) where
                   })
 
 -- the statements that were settled
-module _ (t cells : List ℕ) {lasting : List ℕ} {count : ℕ} (holds : Holds t lasting count (settled (map (noted t) cells))) (few : length cells ≤ statement_limit) where
+module _ (t : List ℕ) (cells : List Cell) {lasting : List Cell} {count : ℕ} (holds : Holds t lasting count (settled (map (noted t) cells))) (few : length cells ≤ statement_limit) where
   pub settled-fits : count ≤ statement_limit
   settled-fits = by (dec_lt statement_limit count)
     where
@@ -189,7 +190,7 @@ module _ (t cells : List ℕ) {lasting : List ℕ} {count : ℕ} (holds : Holds 
   settled-noted = holds.exact settled-fits
 
 -- what was made of their cells was made of them
-module _ (t lasting cells : List ℕ) (e : map (noted t) lasting ≡ settled (map (noted t) cells)) where
+module _ (t : List ℕ) (lasting cells : List Cell) (e : map (noted t) lasting ≡ settled (map (noted t) cells)) where
   abbrev ss : List Statement
   ss = map (noted t) cells
 
@@ -207,10 +208,6 @@ module _ (t lasting cells : List ℕ) (e : map (noted t) lasting ≡ settled (ma
       → Wrote o at (text_bytes (get_or (words_from t head) 1 []) ++ (two_bytes_of rules ++ (names.count ∷ spell_all rule_bytes (rules_of (names_in t names) (settled ss))))) p r
   lasting_front head rules names w =
       wrote_as w (ap (λ (l : List Statement). text_bytes (get_or (words_from t head) 1 []) ++ (two_bytes_of rules ++ (names.count ∷ spell_all rule_bytes (rules_of (names_in t names) l)))) e)
-
--- the marks of so many cells
-pub marks_noted : {count n : ℕ} (marks : List ℕ) {xs : List ℕ} → count ≡ n → take n marks ≡ xs → take count marks ≡ xs
-marks_noted marks e f = ap (λ (k : ℕ). take k marks) e ∙ f
 
 -- ---- a section, by where its statements begin
 module _ (t : List ℕ) (head : ℕ) {start : ℕ} (e : start ≡ next_line t head) where
@@ -236,7 +233,7 @@ module _ (t : List ℕ) (head : ℕ) {start : ℕ} (e : start ≡ next_line t he
       to
       r
 
-  module _ {cells : List ℕ} {count : ℕ} (holds : Holds t cells count (expand (statements t) (body_from t start))) where
+  module _ {cells : List Cell} {count : ℕ} (holds : Holds t cells count (expand (statements t) (body_from t start))) where
     holds-all : Holds t cells count included
     holds-all = subst (λ (n : ℕ). Holds t cells count (expand (statements t) (body_from t n))) e holds
 
@@ -254,7 +251,7 @@ module _ (t : List ℕ) (head : ℕ) {start : ℕ} (e : start ≡ next_line t he
     unfolding section_told
     twice_told h f = puts_first used_is _ h f refl
 
-    module _ (once : twice.number ≡ 0) {cells : List ℕ} {count : ℕ} (holds : Holds t cells count (expand (statements t) (body_from t start))) where
+    module _ (once : twice.number ≡ 0) {cells : List Cell} {count : ℕ} (holds : Holds t cells count (expand (statements t) (body_from t start))) where
       pub statements_many : {at : ℕ} {o : List ℕ} {r : Put} → statement_limit < count → r.told ≡ tell 56 (line_of t head) (line_of t head) → Section at o o r
       unfolding section_told
       statements_many h f =

@@ -12,13 +12,14 @@ use lib.Seq.{drop-cons, get_or-take, get_or-drop, take-suc-set}
 use borrow.Author.Tests.{eq-eqb, ne_eqb, eqb-true}
 use Rattle.hl7.specs.Bytes.{same, among}
 use Rattle.hl7.specs.declared.cut.Span.{Span}
-use Rattle.hl7.proofs.Comparing.{from_step, from_done, and_both}
+use Rattle.hl7.proofs.Comparing.{and_both}
 use Rattle.booktext.specs.Lines.{Statement, word, verb, says, of_rule, makes_rule, number_from, some_sets}
 use Rattle.booktext.specs.Words.{kind_number, a_code_kind}
 use Rattle.booktext.specs.Contents.{with_name, with_names, pinned, asks_code, named, names_of}
-use Rattle.booktext.specs.Standing.{no_span, span_bytes, words_from, statement_at, line_in, noted, names_in, NextWord, Names64, NamesMore}
+use Rattle.booktext.specs.Standing.{no_span, span_bytes, words_from, statement_at, noted, no_cell, names_in, NextWord, Names64, NamesMore}
 use Rattle.booktext.specs.declared.names.Names.{Names}
-use Rattle.booktext.proofs.Marking.{noted_as, noted-verb, noted_other}
+use Rattle.booktext.specs.declared.cell.Cell.{Cell}
+use Rattle.booktext.proofs.Marking.{noted_as, noted-verb, noted_other, cells_step, cells_done}
 
 -- ---- a name's number, in the words of a loop along the spans
 -- the names from number i on, of so many
@@ -181,11 +182,11 @@ module _ {t : List ℕ} {names : Names} {more : List (List ℕ)} {End : Names �
   leads_over e = l.ends names (more_as t names names (sym e) (more_none t names))
 
 -- ---- the words of a statement
-module _ (t : List ℕ) (cell : ℕ) (names : Names) {line : ℕ} (l : line ≡ line_in cell) where
+module _ (t : List ℕ) (cell : Cell) (names : Names) where
   -- what a `sets` names, its line says
-  said-pinned : pinned (noted t cell ∷ []) ≡ pinned (statement_at t line 0 ∷ [])
+  said-pinned : pinned (noted t cell ∷ []) ≡ pinned (statement_at t cell.line 0 ∷ [])
   unfolding pinned
-  said-pinned = by (makes_rule (noted t cell)) refl ∙ ap (λ (n : ℕ). pinned (statement_at t n 0 ∷ [])) (sym l)
+  said-pinned = by (makes_rule (noted t cell)) refl
     where
       no_rule_lem : (v : ℕ) → of_rule v ≡ true → eqb v some_sets ≡ false
       no_rule_lem v e = of (eqb v some_sets) refl
@@ -194,25 +195,25 @@ module _ (t : List ℕ) (cell : ℕ) (names : Names) {line : ℕ} (l : line ≡ 
           of true f = absurd (true≢false (sym e ∙ ap of_rule (eqb-true v some_sets f)))
           of false f = refl
 
-      by : (b : Bool) → makes_rule (noted t cell) ≡ b → pinned (noted t cell ∷ []) ≡ pinned (statement_at t (line_in cell) 0 ∷ [])
+      by : (b : Bool) → makes_rule (noted t cell) ≡ b → pinned (noted t cell ∷ []) ≡ pinned (statement_at t cell.line 0 ∷ [])
       by true e =
           let none = no_rule_lem (verb (noted t cell)) e in
           rw none (sym (rw (sym (ap (λ (v : ℕ). eqb v some_sets) (noted-verb t cell)) ∙ none)))
       by false e = ap (λ (s : Statement). pinned (s ∷ [])) (noted_other t cell e)
 
-  module _ {v : ℕ} (f : v ≡ verb (statement_at t line 0)) where
-    pub sets-noted : (next : ℕ) (r : Names) → v ≡ some_sets → words_from t next ≡ drop 1 (words_from t line) → NamesMore t names r (words_from t next) → NamesMore t names r (pinned (noted t cell ∷ []))
+  module _ {v : ℕ} (f : v ≡ verb (statement_at t cell.line 0)) where
+    pub sets-noted : (next : ℕ) (r : Names) → v ≡ some_sets → words_from t next ≡ drop 1 (words_from t cell.line) → NamesMore t names r (words_from t next) → NamesMore t names r (pinned (noted t cell ∷ []))
     unfolding pinned
     sets-noted next r e s n =
-        more_as t names r (s ∙ sym (rw (eq-eqb (verb (statement_at t line 0)) some_sets (sym f ∙ e)) (append-nil (drop 1 (words_from t line)))) ∙ sym said-pinned) n
+        more_as t names r (s ∙ sym (rw (eq-eqb (verb (statement_at t cell.line 0)) some_sets (sym f ∙ e)) (append-nil (drop 1 (words_from t cell.line)))) ∙ sym said-pinned) n
 
     pub no_sets : (v ≡ some_sets → ⊥) → NamesMore t names names (pinned (noted t cell ∷ []))
     unfolding pinned
-    no_sets k = more_as t names names (sym (rw (ne_eqb (verb (statement_at t line 0)) some_sets (λ e. k (f ∙ e)))) ∙ sym said-pinned) (more_none t names)
+    no_sets k = more_as t names names (sym (rw (ne_eqb (verb (statement_at t cell.line 0)) some_sets (λ e. k (f ∙ e)))) ∙ sym said-pinned) (more_none t names)
 
-  module _ {b : Bool} (f : b ≡ asks_code (statement_at t line 0)) where
+  module _ {b : Bool} (f : b ≡ asks_code (statement_at t cell.line 0)) where
     said_code : asks_code (noted t cell) ≡ b
-    said_code = noted_as t cell asks_code (λ bound. refl) ∙ ap (λ (n : ℕ). asks_code (statement_at t n 0)) (sym l) ∙ sym f
+    said_code = noted_as t cell asks_code (λ bound. refl) ∙ sym f
 
     pub code_noted : (next : ℕ) {w : Span} (r : Names) → b ≡ true → (makes_rule (noted t cell) ≡ true → words_from t next ≡ drop 4 (noted t cell).words) → NextWord t next w → NamesMore t names r (span_bytes t w ∷ []) → NamesMore t names r (named (noted t cell ∷ []))
     unfolding named
@@ -226,20 +227,20 @@ module _ (t : List ℕ) (cell : ℕ) (names : Names) {line : ℕ} (l : line ≡ 
     no_code e = more_as t names names (sym (rw (said_code ∙ e))) (more_none t names)
 
 -- ---- loops along the cells
-module _ (t cells : List ℕ) (i : ℕ) where
+module _ (t : List ℕ) (cells : List Cell) (i : ℕ) where
   -- one statement, and those of the cells after it
   module _ (h : i < length cells) where
-    pub pinned_step : pinned (map (noted t) (drop i cells)) ≡ pinned (noted t (get_or cells i 0) ∷ []) ++ pinned (map (noted t) (drop (i + 1) cells))
+    pub pinned_step : pinned (map (noted t) (drop i cells)) ≡ pinned (noted t (get_or cells i no_cell) ∷ []) ++ pinned (map (noted t) (drop (i + 1) cells))
     unfolding pinned
-    pinned_step = ap pinned (from_step (noted t) cells i h) ∙ by (says some_sets (noted t (get_or cells i 0))) (drop 1 (noted t (get_or cells i 0)).words) (pinned (map (noted t) (drop (i + 1) cells)))
+    pinned_step = ap pinned (cells_step (noted t) cells i h) ∙ by (says some_sets (noted t (get_or cells i no_cell))) (drop 1 (noted t (get_or cells i no_cell)).words) (pinned (map (noted t) (drop (i + 1) cells)))
       where
         by : (b : Bool) (own later : List (List ℕ)) → cond b (own ++ later) later ≡ cond b (own ++ []) [] ++ later
         by true own later = rw (append-nil own)
         by false own later = refl
 
-    pub named_step : named (map (noted t) (drop i cells)) ≡ named (noted t (get_or cells i 0) ∷ []) ++ named (map (noted t) (drop (i + 1) cells))
+    pub named_step : named (map (noted t) (drop i cells)) ≡ named (noted t (get_or cells i no_cell) ∷ []) ++ named (map (noted t) (drop (i + 1) cells))
     unfolding named
-    named_step = ap named (from_step (noted t) cells i h) ∙ by (asks_code (noted t (get_or cells i 0))) (word (noted t (get_or cells i 0)) 4) (named (map (noted t) (drop (i + 1) cells)))
+    named_step = ap named (cells_step (noted t) cells i h) ∙ by (asks_code (noted t (get_or cells i no_cell))) (word (noted t (get_or cells i no_cell)) 4) (named (map (noted t) (drop (i + 1) cells)))
       where
         by : (b : Bool) (own : List ℕ) (later : List (List ℕ)) → cond b (own ∷ later) later ≡ cond b (own ∷ []) [] ++ later
         by true own later = refl
@@ -247,11 +248,11 @@ module _ (t cells : List ℕ) (i : ℕ) where
 
   pub pinned-over : length cells ≤ i → pinned (map (noted t) (drop i cells)) ≡ []
   unfolding pinned
-  pinned-over h = ap pinned (from_done (noted t) cells i h)
+  pinned-over h = ap pinned (cells_done (noted t) cells i h)
 
   pub named-over : length cells ≤ i → named (map (noted t) (drop i cells)) ≡ []
   unfolding named
-  named-over h = ap named (from_done (noted t) cells i h)
+  named-over h = ap named (cells_done (noted t) cells i h)
 
 pub pinned-start : (t : List ℕ) (names : Names) (ss : List Statement) → (names.count ≡ 0) × (length names.spans ≡ 64) → Leads t names (pinned ss) (λ (r : Names). Names64 t r (with_names [] (pinned ss)))
 unfolding names_in

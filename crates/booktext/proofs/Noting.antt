@@ -2,21 +2,22 @@
 use mathlib.Core.Path.{◌≡◌, refl, sym, ap, ap₂, subst, ◌∙◌}
 use mathlib.Core.Bool.{Bool, true, false, cond, not, ◌&&◌}
 use mathlib.Core.List.{List, [], ◌∷◌, ◌++◌, map, append-nil, append_assoc, map-append}
-use Prim.Native.Nat.{ℕ, ◌+◌, ◌*◌, ◌≤◌, ◌<◌}
+use Prim.Native.Nat.{ℕ, ◌+◌, ◌≤◌, ◌<◌}
 use native.Mathlib.Omega.{arith}
 use native.Mathlib.Numerals.{add-one}
 use lib.ListN.{length, get_or, take, drop, set, length-append, length-map}
 use native.Mathlib.Decide.{dec_lt}
+use Rattle.std.proofs.lemmas.List.Elements.{All-same, All-push}
 use lib.Seq.{take-suc-set, length-take-le}
 use borrow.Author.Tests.{eq-eqb, ne_eqb}
-use Rattle.booktext.specs.Lines.{Statement, verb, says, line_of, text_limit, a_use, a_common, statements}
+use Rattle.booktext.specs.Lines.{Statement, verb, says, line_of, a_use, a_common, statements}
 use Rattle.booktext.specs.Meaning.{body, from, under, give, taken, expand}
 use Rattle.booktext.specs.Changes.{settled_as, settled}
 use Rattle.booktext.specs.Faults.{tell, nothing}
 use Rattle.booktext.specs.Refusals.{is_first, used_twice, statement_limit}
-use Rattle.booktext.specs.Standing.{words_from, statement_at, next_line, left, body_from, Finds, noted, Holds, NotesMore}
+use Rattle.booktext.specs.Standing.{words_from, statement_at, next_line, left, body_from, Finds, noted, Marked, Holds, NotesMore}
+use Rattle.booktext.specs.declared.cell.Cell.{Cell}
 use Rattle.booktext.specs.declared.told.Told.{Told}
-use Rattle.booktext.proofs.Marking.{noted-plain}
 use Rattle.booktext.proofs.Stating.{onward, onward-none, onward-some, onward_step}
 
 -- ---- row 46
@@ -60,31 +61,28 @@ module _ (t : List ℕ) (head start : ℕ) where
 
 -- ---- noting
 module _ (t : List ℕ) where
-  holds_as : {cells : List ℕ} {count : ℕ} {ss xs : List Statement} → ss ≡ xs → Holds t cells count ss → Holds t cells count xs
+  holds_as : {cells : List Cell} {count : ℕ} {ss xs : List Statement} → ss ≡ xs → Holds t cells count ss → Holds t cells count xs
   holds_as {cells} {count} e h = subst (Holds t cells count) e h
 
-  holds-none : (cells : List ℕ) → Holds t cells 0 []
-  holds-none cells = record { exact = λ k. refl; over = λ k. absurd (omega arith) }
+  holds-none : (cells : List Cell) → Holds t cells 0 []
+  holds-none cells = record { exact = λ k. refl; over = λ k. absurd (omega arith); marks = λ k i d h. absurd (omega (arith, h)) }
 
   -- one more, and one for which there is no room
-  pub notes_one : (cells : List ℕ) (count cell : ℕ) → length cells ≡ statement_limit → count < statement_limit → NotesMore t cells count (set cells count cell) (count + 1) (noted t cell ∷ [])
-  notes_one cells count cell room h ss k =
+  pub notes_one : (cells : List Cell) (count : ℕ) (cell : Cell) → length cells ≡ statement_limit → count < statement_limit → Marked t cell → NotesMore t cells count (set cells count cell) (count + 1) (noted t cell ∷ [])
+  notes_one cells count cell room h m ss k =
       let more : take (count + 1) (set cells count cell) ≡ take count cells ++ (cell ∷ []) = ap (λ (n : ℕ). take n (set cells count cell)) (add-one count) ∙ take-suc-set cells count cell (omega arith) in
       record {
         exact = λ few. ap (map (noted t)) more ∙ map-append (noted t) (take count cells) (cell ∷ []) ∙ ap (λ (xs : List Statement). xs ++ (noted t cell ∷ [])) (k.exact (omega arith));
         over = λ many. absurd (omega (arith, h, many));
+        marks = λ few. All-same (Marked t) _ (take count cells ++ (cell ∷ [])) more (All-push (Marked t) (take count cells) cell (k.marks (omega (arith, h))) m);
       }
 
-  -- a statement by its line and the severity that it was given
-  pub noted-line : (at letter : ℕ) → length t ≤ text_limit → at ≤ length t → letter ≤ 255 → noted t (at * 256 + letter) ≡ statement_at t at letter
-  noted-line at letter short near small = noted-plain t (at * 256 + letter) (omega arith) ∙ ap₂ (statement_at t) (omega arith) (omega arith)
-
   -- with as many as fit, or more
-  over_with : (cells : List ℕ) (count : ℕ) (ss more : List Statement) → statement_limit < count → Holds t cells count ss → statement_limit < length (ss ++ more)
+  over_with : (cells : List Cell) (count : ℕ) (ss more : List Statement) → statement_limit < count → Holds t cells count ss → statement_limit < length (ss ++ more)
   over_with cells count ss more h k = omega (arith, k.over h, length-append ss more)
 
-  pub notes_full : (cells : List ℕ) (count : ℕ) (s : Statement) → length cells ≡ statement_limit → statement_limit ≤ count → NotesMore t cells count cells (statement_limit + 1) (s ∷ [])
-  notes_full cells count s room h ss k = record { exact = λ few. absurd (omega (arith, few)); over = λ many. by_case (dec_lt statement_limit count) }
+  pub notes_full : (cells : List Cell) (count : ℕ) (s : Statement) → length cells ≡ statement_limit → statement_limit ≤ count → NotesMore t cells count cells (statement_limit + 1) (s ∷ [])
+  notes_full cells count s room h ss k = record { exact = λ few. absurd (omega (arith, few)); over = λ many. by_case (dec_lt statement_limit count); marks = λ few. absurd (omega (arith, few)) }
     where
       by_case : Dec (statement_limit < count) → statement_limit < length (ss ++ (s ∷ []))
       by_case (yes q) = over_with cells count ss (s ∷ []) q k
@@ -92,32 +90,32 @@ module _ (t : List ℕ) where
           let size = length-map (take count cells) (noted t) ∙ length-take-le count cells (omega (arith, q, room)) in
           omega (arith, q, h, sym (ap length (k.exact (omega (arith, q)))) ∙ size, length-append ss (s ∷ []))
 
-  module _ (a : List ℕ) (m : ℕ) where
+  module _ (a : List Cell) (m : ℕ) where
     pub notes_none : {more : List Statement} → more ≡ [] → NotesMore t a m a m more
     notes_none e ss k = holds_as (sym (append-nil ss) ∙ ap (λ (xs : List Statement). ss ++ xs) (sym e)) k
 
     notes_over : (more : List Statement) → statement_limit < m → NotesMore t a m a m more
-    notes_over more h ss k = record { exact = λ few. absurd (omega (arith, h, few)); over = λ many. over_with a m ss more h k }
+    notes_over more h ss k = record { exact = λ few. absurd (omega (arith, h, few)); over = λ many. over_with a m ss more h k; marks = λ few. absurd (omega (arith, h, few)) }
 
-    module _ (b : List ℕ) (n : ℕ) (xs : List Statement) (f : NotesMore t a m b n xs) where
+    module _ (b : List Cell) (n : ℕ) (xs : List Statement) (f : NotesMore t a m b n xs) where
       pub notes_as : (ys : List Statement) → xs ≡ ys → NotesMore t a m b n ys
       notes_as ys e ss k = holds_as (ap (λ (zs : List Statement). ss ++ zs) e) (f ss k)
 
-      pub notes_then : (c : List ℕ) (r : ℕ) (ys : List Statement) → NotesMore t b n c r ys → NotesMore t a m c r (xs ++ ys)
+      pub notes_then : (c : List Cell) (r : ℕ) (ys : List Statement) → NotesMore t b n c r ys → NotesMore t a m c r (xs ++ ys)
       notes_then c r ys g ss k = holds_as (append_assoc ss xs ys) (g (ss ++ xs) (f ss k))
 
 -- in the midst of noting: whoever notes the rest from here has noted all from the start
-pub record Noting (t before : List ℕ) (count : ℕ) (all : List Statement) (cells : List ℕ) (n : ℕ) (rest : List Statement) : Type 0 where
+pub record Noting (t : List ℕ) (before : List Cell) (count : ℕ) (all : List Statement) (cells : List Cell) (n : ℕ) (rest : List Statement) : Type 0 where
   pub same : length cells ≡ length before
-  pub goes : (after : List ℕ) (r : ℕ) → NotesMore t cells n after r rest → NotesMore t before count after r all
+  pub goes : (after : List Cell) (r : ℕ) → NotesMore t cells n after r rest → NotesMore t before count after r all
 
-module _ (t before : List ℕ) (count : ℕ) where
+module _ (t : List ℕ) (before : List Cell) (count : ℕ) where
   pub noting_start : (all rest : List Statement) → all ≡ rest → Noting t before count all before count rest
   noting_start all rest e = record { same = refl; goes = λ after r f. notes_as t before count after r rest f all (sym e) }
 
-module _ (t before : List ℕ) (count : ℕ) (all : List Statement) (cells : List ℕ) (n : ℕ) where
+module _ (t : List ℕ) (before : List Cell) (count : ℕ) (all : List Statement) (cells : List Cell) (n : ℕ) where
   module _ (rest : List Statement) (w : Noting t before count all cells n rest) where
-    noting_on : (now later : List Statement) (after : List ℕ) (k : ℕ) → rest ≡ now ++ later → length after ≡ length cells → NotesMore t cells n after k now → Noting t before count all after k later
+    noting_on : (now later : List Statement) (after : List Cell) (k : ℕ) → rest ≡ now ++ later → length after ≡ length cells → NotesMore t cells n after k now → Noting t before count all after k later
     noting_on now later after k e s f =
         record {
           same = s ∙ w.same;
@@ -133,7 +131,7 @@ module _ (t before : List ℕ) (count : ℕ) (all : List Statement) (cells : Lis
 
   -- one statement of a common, taken over with a severity
   module _ (letter at : ℕ) (w : Noting t before count all cells n (map (give letter) (onward t (body_from t) at))) where
-    pub block_on : at ≤ length t → (after : List ℕ) (k : ℕ) → length after ≡ length cells → NotesMore t cells n after k (statement_at t at letter ∷ []) → {p r : ℕ} → p ≡ next_line t at → Finds t (body_from t p) (body_from t (next_line t r)) r
+    pub block_on : at ≤ length t → (after : List Cell) (k : ℕ) → length after ≡ length cells → NotesMore t cells n after k (statement_at t at letter ∷ []) → {p r : ℕ} → p ≡ next_line t at → Finds t (body_from t p) (body_from t (next_line t r)) r
         → Noting t before count all after k (map (give letter) (onward t (body_from t) r))
     block_on h after k s f {p} {r} e g = noting_on _ w (statement_at t at letter ∷ []) _ after k (ap (map (give letter)) (onward_step t (body_from t) h e g)) s f
 
@@ -142,7 +140,7 @@ module _ (t before : List ℕ) (count : ℕ) (all : List Statement) (cells : Lis
 
   -- one statement of the section, with what it takes over
   module _ (at : ℕ) (w : Noting t before count all cells n (expand (statements t) (onward t (body_from t) at))) where
-    pub section_on : at ≤ length t → (after : List ℕ) (k : ℕ) → length after ≡ length cells → NotesMore t cells n after k (statement_at t at 0 ∷ taken (statements t) (statement_at t at 0)) → {p r : ℕ} → p ≡ next_line t at → Finds t (body_from t p) (body_from t (next_line t r)) r
+    pub section_on : at ≤ length t → (after : List Cell) (k : ℕ) → length after ≡ length cells → NotesMore t cells n after k (statement_at t at 0 ∷ taken (statements t) (statement_at t at 0)) → {p r : ℕ} → p ≡ next_line t at → Finds t (body_from t p) (body_from t (next_line t r)) r
         → Noting t before count all after k (expand (statements t) (onward t (body_from t) r))
     unfolding expand
     section_on h after k s f {p} {r} e g = noting_on _ w (statement_at t at 0 ∷ taken (statements t) (statement_at t at 0)) _ after k (ap (expand (statements t)) (onward_step t (body_from t) h e g)) s f
@@ -153,7 +151,7 @@ module _ (t before : List ℕ) (count : ℕ) (all : List Statement) (cells : Lis
 
   -- one statement of some that are settled
   module _ (now : Statement) (later : List Statement) where
-    pub settle_on : {ss : List Statement} → ss ≡ now ∷ later → Noting t before count all cells n (settled ss) → (after : List ℕ) (k : ℕ) → length after ≡ length cells → NotesMore t cells n after k (settled_as now later) → Noting t before count all after k (settled later)
+    pub settle_on : {ss : List Statement} → ss ≡ now ∷ later → Noting t before count all cells n (settled ss) → (after : List Cell) (k : ℕ) → length after ≡ length cells → NotesMore t cells n after k (settled_as now later) → Noting t before count all after k (settled later)
     unfolding settled
     settle_on e w after k s f = noting_on _ w (settled_as now later) (settled later) after k (ap settled e) s f
 
@@ -162,7 +160,7 @@ module _ (t before : List ℕ) (count : ℕ) (all : List Statement) (cells : Lis
   settle_done e w = noting_done _ w (ap settled e)
 
 -- from none noted
-pub noted-all : (t before : List ℕ) (all : List Statement) (cells : List ℕ) (n : ℕ) → NotesMore t before 0 cells n all → Holds t cells n all
+pub noted-all : (t : List ℕ) (before : List Cell) (all : List Statement) (cells : List Cell) (n : ℕ) → NotesMore t before 0 cells n all → Holds t cells n all
 noted-all t before all cells n f = f [] (holds-none t before)
 
 -- ---- what a statement takes over

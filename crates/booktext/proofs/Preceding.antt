@@ -1,17 +1,18 @@
--- Laws of what stands in a section before a statement: rules by their marks, codes of sets, and rows 47 to 49. Assumes nothing.
+-- Laws of what stands in a section before a statement: rules by their cells, codes of sets, and rows 47 to 49. Assumes nothing.
 use mathlib.Core.Path.{◌≡◌, refl, sym, ap, ap₂, ◌∙◌}
 use mathlib.Core.Bool.{Bool, true, false, cond, not, ◌&&◌, ◌||◌, and_assoc, and-true, and-false, or_assoc, or-false, true≢false}
 use mathlib.Core.List.{List, [], ◌∷◌, ◌++◌, map, map-append, append-nil}
-use Prim.Native.Nat.{ℕ, ◌+◌, ◌/◌, ◌%◌, ◌≤◌, ◌<◌}
+use Prim.Native.Nat.{ℕ, ◌+◌, ◌≤◌, ◌<◌}
 use native.Mathlib.Omega.{arith}
 use native.Mathlib.Numerals.{add-one}
 use lib.Dec.{eqb, leb}
 use lib.ListN.{length, get_or, take, drop}
 use lib.Seq.{take-suc}
+use Rattle.std.proofs.lemmas.List.Elements.{All-take}
 use borrow.Author.Tests.{leb-true, eqb-true, eqb-false, eq-eqb, ne_eqb, not-true, not-false}
 use Rattle.hl7.specs.Bytes.{is_in, same, among}
 use Rattle.hl7.specs.declared.cut.Span.{Span}
-use Rattle.hl7.proofs.Comparing.{from_step, from_done, and_both, or_neither, same_equal, among-append}
+use Rattle.hl7.proofs.Comparing.{and_both, or_neither, same_equal, among-append}
 use Rattle.grade.specs.Encoding.{each}
 use Rattle.booktext.specs.Lines.{Statement, statements, word, verb, says, of_rule, of_place, of_codes, makes_rule, line_of, a_set, a_code, a_rule, a_drop, a_more, a_less}
 use Rattle.booktext.specs.Meaning.{from}
@@ -19,10 +20,11 @@ use Rattle.booktext.specs.Changes.{spot_of, says_of, amended, dropped, settled_a
 use Rattle.booktext.specs.Contents.{listed, codes_at, codes_of, held}
 use Rattle.booktext.specs.Faults.{tell, nothing}
 use Rattle.booktext.specs.Refusals.{spots_of, stands, has_code, code_asked, rule_fault, first_rule_fault}
-use Rattle.booktext.specs.Standing.{words_from, span_bytes, NextWord, statement_at, next_line, left, body_from, Finds, line_in, noted, mark_of, rules_it, Marks}
+use Rattle.booktext.specs.Standing.{words_from, span_bytes, NextWord, statement_at, next_line, left, body_from, Finds, noted, no_cell, Marked, Marks, rules_it}
+use Rattle.booktext.specs.declared.cell.Cell.{Cell}
 use Rattle.booktext.specs.declared.told.Told.{Told}
 use Rattle.booktext.proofs.Stating.{onward, onward-none, onward-some, onward_step}
-use Rattle.booktext.proofs.Marking.{noted-verb, noted-at, noted_other, mark_verb, mark_spot, mark_says, marks_at, marks_before, marks_step, marks_over}
+use Rattle.booktext.proofs.Marking.{noted-verb, noted-at, noted_other, cells_step, cells_done, mark_says, mark_at}
 use Rattle.booktext.proofs.Changing.{amend-rule, amend-spot, amended_as}
 
 -- ---- what stands after some statements, one by one
@@ -126,34 +128,33 @@ has_there all ss name c =
     ∙ sym (there-is (names_code a_more name c) (names_code a_less name c) (lessened name c) (λ (l : List Statement). among c (added name l)) refl (λ x l. refl) refl (among-added name c) (among c (codes_of all name)) ss)
 
 -- ---- rules
--- what the mark of a statement tells of a rule of a place and kind
-pub stands-is : (so : Bool) (mark spot : ℕ) {v p : ℕ} {rule gone : Bool} → v ≡ mark % 16 → rule ≡ of_rule v → p ≡ mark / 16 → gone ≡ (eqb (mark % 16) a_drop && eqb (mark / 16) spot)
-    → (s : Statement) → mark ≡ mark_of s → ((rule && eqb p spot) || (not gone && so)) ≡ (rules_it spot s || (not (says_of a_drop spot s) && so))
-stands-is so mark spot ev er ep eg s e =
+-- what a cell tells of a rule of a place and kind
+pub stands-is : (so : Bool) (cell : Cell) (spot : ℕ) {rule gone : Bool} → rule ≡ of_rule cell.verb → gone ≡ (eqb cell.verb a_drop && eqb cell.spot spot)
+    → (t : List ℕ) → Marked t cell → ((rule && eqb cell.spot spot) || (not gone && so)) ≡ (rules_it spot (noted t cell) || (not (says_of a_drop spot (noted t cell)) && so))
+stands-is so cell spot er eg t m =
     ap₂ (λ (a b : Bool). a || (not b && so))
-    (ap₂ (λ (a : Bool) (n : ℕ). a && eqb n spot) (er ∙ ap of_rule (ev ∙ mark_verb s e)) (ep ∙ mark_spot s e))
-    (mark_says s e a_drop spot eg)
+    (ap₂ (λ (a : Bool) (n : ℕ). a && eqb n spot) (er ∙ ap of_rule m.by_verb) m.by_spot)
+    (mark_says t cell m a_drop spot eg)
 
-module _ (spot : ℕ) (marks : List ℕ) where
+module _ (spot : ℕ) (cells : List Cell) where
   -- one stands after all if it stands after those that are left
   abbrev pub Stands : Bool → ℕ → Type 0
-  Stands so i = (ss : List Statement) → Marks ss marks → stands spot ss ≡ there (rules_it spot) (says_of a_drop spot) so (drop i ss)
+  Stands so i = (t : List ℕ) → Marks t cells → stands spot (map (noted t) cells) ≡ there (rules_it spot) (says_of a_drop spot) so (map (noted t) (drop i cells))
 
   pub stands-none : Stands false 0
-  stands-none ss m = stands-there spot ss
+  stands-none t m = stands-there spot (map (noted t) cells)
 
   module _ (so : Bool) (i : ℕ) (inv : Stands so i) where
-    pub stands_more : i < length marks → (b : Bool) → ((s : Statement) → get_or marks i 0 ≡ mark_of s → b ≡ (rules_it spot s || (not (says_of a_drop spot s) && so))) → Stands b (i + 1)
+    pub stands_more : i < length cells → (b : Bool) → ((t : List ℕ) → Marked t (get_or cells i no_cell) → b ≡ (rules_it spot (noted t (get_or cells i no_cell)) || (not (says_of a_drop spot (noted t (get_or cells i no_cell))) && so))) → Stands b (i + 1)
     unfolding there
-    stands_more h b e ss m =
-        let here = marks_step ss marks i m h (statement_at [] 0 0) in
-        inv ss m
-        ∙ ap (there (rules_it spot) (says_of a_drop spot) so) here.0
-        ∙ ap (λ (x : Bool). there (rules_it spot) (says_of a_drop spot) x (drop (i + 1) ss)) (sym (e (get_or ss i (statement_at [] 0 0)) here.1))
+    stands_more h b e t m =
+        inv t m
+        ∙ ap (there (rules_it spot) (says_of a_drop spot) so) (cells_step (noted t) cells i h)
+        ∙ ap (λ (x : Bool). there (rules_it spot) (says_of a_drop spot) x (map (noted t) (drop (i + 1) cells))) (sym (e t (mark_at t cells i m h)))
 
-    pub stands-over : length marks ≤ i → (ss : List Statement) → Marks ss marks → so ≡ stands spot ss
+    pub stands-over : length cells ≤ i → (t : List ℕ) → Marks t cells → so ≡ stands spot (map (noted t) cells)
     unfolding there
-    stands-over h ss m = sym (inv ss m ∙ ap (there (rules_it spot) (says_of a_drop spot) so) (marks_over ss marks i m h))
+    stands-over h t m = sym (inv t m ∙ ap (there (rules_it spot) (says_of a_drop spot) so) (cells_done (noted t) cells i h))
 
 -- ---- a code among words
 module _ (t code : List ℕ) (i : ℕ) {all : Bool} (passed : all ≡ among code (words_from t i)) {w : Span} (n : NextWord t i w) where
@@ -282,38 +283,34 @@ has-not so v = by (eqb v a_more) (eqb v a_less)
     by false true = refl
     by false false = refl
 
-module _ (t name code : List ℕ) (so : Bool) (cell mark : ℕ) (m : mark ≡ mark_of (noted t cell)) {v : ℕ} {codes : Bool} (e : v ≡ mark % 16) (f : codes ≡ of_codes v) where
+module _ (t name code : List ℕ) (so : Bool) (cell : Cell) (m : Marked t cell) {codes : Bool} (f : codes ≡ of_codes cell.verb) where
   abbrev has_after : Bool
   has_after = names_code a_more name code (noted t cell) || (not (names_code a_less name code (noted t cell)) && so)
 
-  verb-after : v ≡ verb (noted t cell)
-  verb-after = e ∙ mark_verb (noted t cell) m
-
-  after_is : {x : Bool} → x ≡ (same (word (noted t cell) 1) name && among code (drop 2 (noted t cell).words)) → has-by so v x ≡ has_after
+  after_is : {x : Bool} → x ≡ (same (word (noted t cell) 1) name && among code (drop 2 (noted t cell).words)) → has-by so cell.verb x ≡ has_after
   after_is g =
-      ap₂ (has-by so) verb-after g
+      ap₂ (has-by so) m.by_verb g
       ∙ ap₂ (λ (a b : Bool). a || (not b && so))
       (sym (and_assoc (says a_more (noted t cell)) (same (word (noted t cell) 1) name) (among code (drop 2 (noted t cell).words))))
       (sym (and_assoc (says a_less (noted t cell)) (same (word (noted t cell) 1) name) (among code (drop 2 (noted t cell).words))))
 
   pub after_other : not codes ≡ true → so ≡ has_after
-  after_other h = has_other so v _ (sym f ∙ not-true codes h) ∙ after_is refl
+  after_other h = has_other so cell.verb _ (sym f ∙ not-true codes h) ∙ after_is refl
 
-  module _ (h : not codes ≡ false) {line : ℕ} {b : Bool} (l : line ≡ line_in cell) (g : b ≡ (same (word (statement_at t line 0) 1) name && among code (drop 2 (words_from t line)))) where
+  module _ (h : not codes ≡ false) {b : Bool} (g : b ≡ (same (word (statement_at t cell.line 0) 1) name && among code (drop 2 (words_from t cell.line)))) where
     after-said : b ≡ (same (word (noted t cell) 1) name && among code (drop 2 (noted t cell).words))
     after-said =
-        let plain : makes_rule (noted t cell) ≡ false = ap of_rule (sym verb-after) ∙ codes-plain v (sym f ∙ not-false codes h) in
-        g ∙ ap (λ (n : ℕ). same (get_or (words_from t n) 1 []) name && among code (drop 2 (words_from t n))) l
-        ∙ sym (ap (λ (s : Statement). same (word s 1) name && among code (drop 2 s.words)) (noted_other t cell plain))
+        let plain : makes_rule (noted t cell) ≡ false = ap of_rule (sym m.by_verb) ∙ codes-plain cell.verb (sym f ∙ not-false codes h) in
+        g ∙ sym (ap (λ (s : Statement). same (word s 1) name && among code (drop 2 s.words)) (noted_other t cell plain))
 
-    pub after-named : b ≡ true → eqb v a_more ≡ has_after
-    after-named k = has_named so v (sym f ∙ not-false codes h) ∙ after_is (sym k ∙ after-said)
+    pub after-named : b ≡ true → eqb cell.verb a_more ≡ has_after
+    after-named k = has_named so cell.verb (sym f ∙ not-false codes h) ∙ after_is (sym k ∙ after-said)
 
     pub after-not : b ≡ false → so ≡ has_after
-    after-not k = has-not so v ∙ after_is (sym k ∙ after-said)
+    after-not k = has-not so cell.verb ∙ after_is (sym k ∙ after-said)
 
 -- after those in the cells
-module _ (t name code cells : List ℕ) where
+module _ (t name code : List ℕ) (cells : List Cell) where
   -- it has it after all if it has it after those that are left
   abbrev pub Has : Bool → ℕ → Type 0
   Has so i = has_code (statements t) (map (noted t) cells) name code ≡ there (names_code a_more name code) (names_code a_less name code) so (map (noted t) (drop i cells))
@@ -322,16 +319,16 @@ module _ (t name code cells : List ℕ) where
   has-none e = has_there (statements t) (map (noted t) cells) name code ∙ ap (λ (x : Bool). there (names_code a_more name code) (names_code a_less name code) x (map (noted t) cells)) (sym e)
 
   module _ (so : Bool) (i : ℕ) (inv : Has so i) where
-    pub has_more : i < length cells → {b : Bool} → b ≡ (names_code a_more name code (noted t (get_or cells i 0)) || (not (names_code a_less name code (noted t (get_or cells i 0))) && so)) → Has b (i + 1)
+    pub has_more : i < length cells → {b : Bool} → b ≡ (names_code a_more name code (noted t (get_or cells i no_cell)) || (not (names_code a_less name code (noted t (get_or cells i no_cell))) && so)) → Has b (i + 1)
     unfolding there
     has_more h e =
         inv
-        ∙ ap (there (names_code a_more name code) (names_code a_less name code) so) (from_step (noted t) cells i h)
+        ∙ ap (there (names_code a_more name code) (names_code a_less name code) so) (cells_step (noted t) cells i h)
         ∙ ap (λ (x : Bool). there (names_code a_more name code) (names_code a_less name code) x (map (noted t) (drop (i + 1) cells))) (sym e)
 
     pub has-over : length cells ≤ i → so ≡ has_code (statements t) (map (noted t) cells) name code
     unfolding there
-    has-over h = sym (inv ∙ ap (there (names_code a_more name code) (names_code a_less name code) so) (from_done (noted t) cells i h))
+    has-over h = sym (inv ∙ ap (there (names_code a_more name code) (names_code a_less name code) so) (cells_done (noted t) cells i h))
 
 -- ---- row 49
 -- what a `more` or a `less` asks of one code
@@ -364,9 +361,12 @@ module _ (v : ℕ) (e : of_place v ≡ false) (so right : Bool) where
   rows_none : of_codes v ≡ false → 0 ≡ rows v so right
   rows_none f = sym (rw (e, no_rule_lem, f))
 
-module _ (t cells marks : List ℕ) (i : ℕ) (m : Marks (map (noted t) cells) marks) (h : i < length cells) {v : ℕ} {placed : Bool} (e : v ≡ get_or marks i 0 % 16) (p : placed ≡ of_place v) where
+module _ (t : List ℕ) (cells : List Cell) (i : ℕ) (m : Marks t cells) (h : i < length cells) where
+  abbrev it : Cell
+  it = get_or cells i no_cell
+
   abbrev here : Statement
-  here = noted t (get_or cells i 0)
+  here = noted t it
 
   abbrev earlier : List Statement
   earlier = map (noted t) (take i cells)
@@ -374,63 +374,64 @@ module _ (t cells marks : List ℕ) (i : ℕ) (m : Marks (map (noted t) cells) m
   abbrev asked_of : Statement → Bool
   asked_of s = each (code_asked (statements t) earlier s) (drop 2 s.words)
 
-  verb-here : v ≡ verb here
-  verb-here = e ∙ mark_verb here (marks_at t cells marks i m h)
+  mark-here : Marked t it
+  mark-here = mark_at t cells i m h
 
-  rows-here : (so right : Bool) → so ≡ stands (spot_of here) earlier → right ≡ asked_of here → rows v so right ≡ rule_fault (statements t) earlier here
+  rows-here : (so right : Bool) → so ≡ stands (spot_of here) earlier → right ≡ asked_of here → rows it.verb so right ≡ rule_fault (statements t) earlier here
   unfolding rule_fault
-  rows-here so right f g = ap (λ (n : ℕ). rows n so right) verb-here ∙ ap₂ (rows (verb here)) f g
+  rows-here so right f g = ap (λ (n : ℕ). rows n so right) mark-here.by_verb ∙ ap₂ (rows (verb here)) f g
 
-  pub fault-place : placed ≡ true → {spot r : ℕ} {so : Bool} → spot ≡ get_or marks i 0 / 16 → ((ss : List Statement) → Marks ss (take i marks) → so ≡ stands spot ss)
-      → r ≡ cond (eqb v a_rule && so) 47 (cond (not (eqb v a_rule) && not so) 48 0) → r ≡ rule_fault (statements t) earlier here
-  fault-place k {so = so} f g o =
-      o
-      ∙ rows-place v so (asked_of here) (sym p ∙ k)
-      ∙ rows-here so (asked_of here) (g earlier (marks_before t cells marks i m) ∙ ap (λ (n : ℕ). stands n earlier) (f ∙ mark_spot here (marks_at t cells marks i m h))) refl
-
-  module _ (k : placed ≡ false) {codes : Bool} (q : codes ≡ of_codes v) where
-    pub fault-codes : codes ≡ true → {line r : ℕ} {right : Bool} → line ≡ line_in (get_or cells i 0) → right ≡ each (code_asked (statements t) earlier (statement_at t line 0)) (drop 2 (words_from t line))
-        → r ≡ cond right 0 49 → r ≡ rule_fault (statements t) earlier here
-    fault-codes c {right = right} l g o =
-        let plain : makes_rule here ≡ false = ap of_rule (sym verb-here) ∙ codes-plain v (sym q ∙ c) in
+  module _ {placed : Bool} (p : placed ≡ of_place it.verb) where
+    pub fault-place : placed ≡ true → {r : ℕ} {so : Bool} → ((t : List ℕ) → Marks t (take i cells) → so ≡ stands it.spot (map (noted t) (take i cells)))
+        → r ≡ cond (eqb it.verb a_rule && so) 47 (cond (not (eqb it.verb a_rule) && not so) 48 0) → r ≡ rule_fault (statements t) earlier here
+    fault-place k {so = so} g o =
         o
-        ∙ rows-codes v (sym p ∙ k) (stands (spot_of here) earlier) right (sym q ∙ c)
-        ∙ rows-here (stands (spot_of here) earlier) right refl (g ∙ ap (λ (n : ℕ). asked_of (statement_at t n 0)) l ∙ sym (ap asked_of (noted_other t (get_or cells i 0) plain)))
+        ∙ rows-place it.verb so (asked_of here) (sym p ∙ k)
+        ∙ rows-here so (asked_of here) (g t (All-take (Marked t) i cells m) ∙ ap (λ (n : ℕ). stands n earlier) mark-here.by_spot) refl
 
-    pub fault-none : codes ≡ false → 0 ≡ rule_fault (statements t) earlier here
-    fault-none c = rows_none v (sym p ∙ k) (stands (spot_of here) earlier) (asked_of here) (sym q ∙ c) ∙ rows-here (stands (spot_of here) earlier) (asked_of here) refl refl
+    module _ (k : placed ≡ false) {codes : Bool} (q : codes ≡ of_codes it.verb) where
+      pub fault-codes : codes ≡ true → {r : ℕ} {right : Bool} → right ≡ each (code_asked (statements t) earlier (statement_at t it.line 0)) (drop 2 (words_from t it.line))
+          → r ≡ cond right 0 49 → r ≡ rule_fault (statements t) earlier here
+      fault-codes c {right = right} g o =
+          let plain : makes_rule here ≡ false = ap of_rule (sym mark-here.by_verb) ∙ codes-plain it.verb (sym q ∙ c) in
+          o
+          ∙ rows-codes it.verb (sym p ∙ k) (stands (spot_of here) earlier) right (sym q ∙ c)
+          ∙ rows-here (stands (spot_of here) earlier) right refl (g ∙ sym (ap asked_of (noted_other t it plain)))
+
+      pub fault-none : codes ≡ false → 0 ≡ rule_fault (statements t) earlier here
+      fault-none c = rows_none it.verb (sym p ∙ k) (stands (spot_of here) earlier) (asked_of here) (sym q ∙ c) ∙ rows-here (stands (spot_of here) earlier) (asked_of here) refl refl
 
   -- what is asked of a `less`
-  pub less-here : {line : ℕ} → line ≡ line_in (get_or cells i 0) → eqb v a_less ≡ says a_less (statement_at t line 0)
-  less-here l = ap (λ (n : ℕ). eqb n a_less) (verb-here ∙ noted-verb t (get_or cells i 0) ∙ ap (λ (n : ℕ). verb (statement_at t n 0)) (sym l))
+  pub less-here : eqb it.verb a_less ≡ says a_less (statement_at t it.line 0)
+  less-here = ap (λ (n : ℕ). eqb n a_less) (mark-here.by_verb ∙ noted-verb t it)
 
 -- ---- the first statement that has one
-module _ (t cells : List ℕ) (head i : ℕ) where
+module _ (t : List ℕ) (cells : List Cell) (head i : ℕ) where
   -- of the cells from i on
   abbrev pub fault_from : Told
   fault_from = first_rule_fault t (statements t) (line_of t head) (map (noted t) (take i cells)) (map (noted t) (drop i cells))
 
   pub fault-over : length cells ≤ i → fault_from ≡ nothing
   unfolding first_rule_fault
-  fault-over h = ap (first_rule_fault t (statements t) (line_of t head) (map (noted t) (take i cells))) (from_done (noted t) cells i h)
+  fault-over h = ap (first_rule_fault t (statements t) (line_of t head) (map (noted t) (take i cells))) (cells_done (noted t) cells i h)
 
-  module _ (h : i < length cells) {n : ℕ} (e : n ≡ rule_fault (statements t) (map (noted t) (take i cells)) (noted t (get_or cells i 0))) where
-    fault-is : fault_from ≡ cond (eqb n 0) (first_rule_fault t (statements t) (line_of t head) (map (noted t) (take i cells) ++ (noted t (get_or cells i 0) ∷ [])) (map (noted t) (drop (i + 1) cells))) (tell n (line_of t (noted t (get_or cells i 0)).at) (line_of t head))
+  module _ (h : i < length cells) {n : ℕ} (e : n ≡ rule_fault (statements t) (map (noted t) (take i cells)) (noted t (get_or cells i no_cell))) where
+    fault-is : fault_from ≡ cond (eqb n 0) (first_rule_fault t (statements t) (line_of t head) (map (noted t) (take i cells) ++ (noted t (get_or cells i no_cell) ∷ [])) (map (noted t) (drop (i + 1) cells))) (tell n (line_of t (noted t (get_or cells i no_cell)).at) (line_of t head))
     unfolding first_rule_fault
     fault-is =
-        ap (first_rule_fault t (statements t) (line_of t head) (map (noted t) (take i cells))) (from_step (noted t) cells i h)
+        ap (first_rule_fault t (statements t) (line_of t head) (map (noted t) (take i cells))) (cells_step (noted t) cells i h)
         ∙ ap
-        (λ (n : ℕ). cond (eqb n 0) (first_rule_fault t (statements t) (line_of t head) (map (noted t) (take i cells) ++ (noted t (get_or cells i 0) ∷ [])) (map (noted t) (drop (i + 1) cells))) (tell n (line_of t (noted t (get_or cells i 0)).at) (line_of t head)))
+        (λ (n : ℕ). cond (eqb n 0) (first_rule_fault t (statements t) (line_of t head) (map (noted t) (take i cells) ++ (noted t (get_or cells i no_cell) ∷ [])) (map (noted t) (drop (i + 1) cells))) (tell n (line_of t (noted t (get_or cells i no_cell)).at) (line_of t head)))
         (sym e)
 
-    pub fault-told : (n ≡ 0 → ⊥) → {r : Told} {at line section : ℕ} → at ≡ line_in (get_or cells i 0) → line ≡ line_of t at → section ≡ line_of t head → r ≡ tell n line section → r ≡ fault_from
-    fault-told some ea el es er =
-        er ∙ ap₂ (tell n) (el ∙ ap (line_of t) (ea ∙ sym (noted-at t (get_or cells i 0)))) es
-        ∙ sym (fault-is ∙ ap (λ (b : Bool). cond b (first_rule_fault t (statements t) (line_of t head) (map (noted t) (take i cells) ++ (noted t (get_or cells i 0) ∷ [])) (map (noted t) (drop (i + 1) cells))) (tell n (line_of t (noted t (get_or cells i 0)).at) (line_of t head))) (ne_eqb n 0 some))
+    pub fault-told : (n ≡ 0 → ⊥) → {r : Told} {line section : ℕ} → line ≡ line_of t (get_or cells i no_cell).line → section ≡ line_of t head → r ≡ tell n line section → r ≡ fault_from
+    fault-told some el es er =
+        er ∙ ap₂ (tell n) (el ∙ ap (line_of t) (sym (noted-at t (get_or cells i no_cell)))) es
+        ∙ sym (fault-is ∙ ap (λ (b : Bool). cond b (first_rule_fault t (statements t) (line_of t head) (map (noted t) (take i cells) ++ (noted t (get_or cells i no_cell) ∷ [])) (map (noted t) (drop (i + 1) cells))) (tell n (line_of t (noted t (get_or cells i no_cell)).at) (line_of t head))) (ne_eqb n 0 some))
 
     pub fault_more : n ≡ 0 → fault_from ≡ first_rule_fault t (statements t) (line_of t head) (map (noted t) (take (i + 1) cells)) (map (noted t) (drop (i + 1) cells))
     fault_more none =
         fault-is
         ∙ rw (eq-eqb n 0 none)
         (ap (λ (l : List Statement). first_rule_fault t (statements t) (line_of t head) l (map (noted t) (drop (i + 1) cells)))
-        (sym (map-append (noted t) (take i cells) (get_or cells i 0 ∷ [])) ∙ ap (map (noted t)) (sym (ap (λ (m : ℕ). take m cells) (add-one i) ∙ take-suc cells i 0 h))))
+        (sym (map-append (noted t) (take i cells) (get_or cells i no_cell ∷ [])) ∙ ap (map (noted t)) (sym (ap (λ (m : ℕ). take m cells) (add-one i) ∙ take-suc cells i no_cell h))))

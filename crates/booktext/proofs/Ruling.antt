@@ -3,7 +3,7 @@ use Rattle.std.specs.Prelude.{Option, Some, None}
 use mathlib.Core.Path.{◌≡◌, refl, sym, ap, ap₂, subst, ◌∙◌}
 use mathlib.Core.Bool.{Bool, true, false, cond, not, ◌&&◌, ◌||◌, true≢false}
 use mathlib.Core.List.{List, [], ◌∷◌, ◌++◌, map, append-nil, append_assoc}
-use Prim.Native.Nat.{ℕ, zero, suc, ◌+◌, ◌%◌, ◌-◌, ◌≤◌, ◌<◌}
+use Prim.Native.Nat.{ℕ, zero, suc, ◌+◌, ◌-◌, ◌≤◌, ◌<◌}
 use Prim.Native.Char.{code}
 use native.Mathlib.Omega.{arith}
 use native.Mathlib.Decide.{dec_lt}
@@ -11,7 +11,7 @@ use lib.Dec.{eqb, leb}
 use lib.ListN.{length, get_or, take, drop, get_or-eq_default}
 use borrow.Author.Tests.{eq-eqb, ne_eqb, eqb-true, leb-true}
 use Rattle.hl7.specs.Bytes.{within}
-use Rattle.hl7.proofs.Comparing.{from_step, from_done, and_both}
+use Rattle.hl7.proofs.Comparing.{and_both}
 use Rattle.grade.specs.Rule.{name_bytes, counted, place_fits, severity_of, severity_letter, kind_of, kind_fits, rule_fits, rule_with}
 use Rattle.grade.specs.Encoding.{each, spell_all, kind_byte, last_bytes, rule_bytes}
 use Rattle.grade.specs.declared.rule.Place.{Place}
@@ -25,8 +25,9 @@ use Rattle.booktext.specs.Lines.{Statement, word, verb, of_rule, makes_rule, num
 use Rattle.booktext.specs.Words.{number_in, pointed, place_in, bound_fits, is_place, is_severity, is_severity_word, kind_number, a_length, a_time, a_code_kind}
 use Rattle.booktext.specs.Contents.{letter_of, rule_or, made, rules_of}
 use Rattle.booktext.specs.Faults.{place_right, kind_right, severity_right, before_bound, bound_right}
-use Rattle.booktext.specs.Standing.{statement_at, line_in, noted, sound, ready, CountsRules, place_bytes, bound_bytes}
-use Rattle.booktext.proofs.Marking.{line_says, noted_as, noted-verb}
+use Rattle.booktext.specs.Standing.{statement_at, noted, no_cell, sound, ready, CountsRules, place_bytes, bound_bytes}
+use Rattle.booktext.specs.declared.cell.Cell.{Cell}
+use Rattle.booktext.proofs.Marking.{line_says, noted_as, noted-verb, cells_step, cells_done}
 use Rattle.booktext.proofs.Sounding.{Sounds, sounds}
 
 -- ---- verbs of rules
@@ -40,12 +41,12 @@ rule_verb_lem P first further v e = by (eqb v a_rule) (eqb v an_also) refl refl 
     by false true f g h = subst P (sym (eqb-true v an_also g)) further
     by false false f g h = absurd (true≢false (sym h))
 
-module _ (t : List ℕ) (cell : ℕ) {line v : ℕ} {b : Bool} (l : line ≡ line_in cell) (f : v ≡ verb (statement_at t line 0)) (g : b ≡ of_rule v) where
+module _ (t : List ℕ) (cell : Cell) {v : ℕ} {b : Bool} (f : v ≡ verb (statement_at t cell.line 0)) (g : b ≡ of_rule v) where
   pub asked_rule : {c : Bool} → b ≡ c → makes_rule (noted t cell) ≡ c
-  asked_rule e = ap of_rule (noted-verb t cell ∙ ap (λ (n : ℕ). verb (statement_at t n 0)) (sym l) ∙ sym f) ∙ sym g ∙ e
+  asked_rule e = ap of_rule (noted-verb t cell ∙ sym f) ∙ sym g ∙ e
 
 -- ---- how many rules
-module _ (t cells : List ℕ) where
+module _ (t : List ℕ) (cells : List Cell) where
   -- so many were passed, and then what is left
   pub record Counts (n i : ℕ) : Type 0 where
     pub few : n ≤ i
@@ -56,15 +57,15 @@ module _ (t cells : List ℕ) where
   counts-none = record { few = omega arith; inside = omega arith; rest = λ names. omega arith }
 
   module _ {n i : ℕ} (c : Counts n i) where
-    pub counts_more : {line v m : ℕ} {b : Bool} → i < length cells → line ≡ line_in (get_or cells i 0) → v ≡ verb (statement_at t line 0) → b ≡ of_rule v → m ≡ cond b (n + 1) n → Counts m (i + 1)
+    pub counts_more : {v m : ℕ} {b : Bool} → i < length cells → v ≡ verb (statement_at t (get_or cells i no_cell).line 0) → b ≡ of_rule v → m ≡ cond b (n + 1) n → Counts m (i + 1)
     unfolding rules_of
-    counts_more {m = m} {b} h l f g e =
+    counts_more {m = m} {b} h f g e =
         record {
           few = by-few b e;
           inside = omega arith;
-          rest = λ names. by b (rules_of names (map (noted t) (drop (i + 1) cells))) (made names (noted t (get_or cells i 0))) e
-              ∙ ap (λ (x : Bool). n + length (cond x (made names (noted t (get_or cells i 0)) ∷ rules_of names (map (noted t) (drop (i + 1) cells))) (rules_of names (map (noted t) (drop (i + 1) cells))))) (sym (asked_rule t (get_or cells i 0) l f g refl))
-              ∙ ap (λ (l : List Statement). n + length (rules_of names l)) (sym (from_step (noted t) cells i h))
+          rest = λ names. by b (rules_of names (map (noted t) (drop (i + 1) cells))) (made names (noted t (get_or cells i no_cell))) e
+              ∙ ap (λ (x : Bool). n + length (cond x (made names (noted t (get_or cells i no_cell)) ∷ rules_of names (map (noted t) (drop (i + 1) cells))) (rules_of names (map (noted t) (drop (i + 1) cells))))) (sym (asked_rule t (get_or cells i no_cell) f g refl))
+              ∙ ap (λ (l : List Statement). n + length (rules_of names l)) (sym (cells_step (noted t) cells i h))
               ∙ c.rest names;
         }
       where
@@ -79,20 +80,20 @@ module _ (t cells : List ℕ) where
     pub counts-over : length cells ≤ i → CountsRules (map (noted t) cells) n × (n ≤ length cells)
     unfolding rules_of
     counts-over h = (
-      λ names. let none : length (rules_of names (map (noted t) (drop i cells))) ≡ 0 = ap (λ (l : List Statement). length (rules_of names l)) (from_done (noted t) cells i h) in omega (arith, c.rest names),
+      λ names. let none : length (rules_of names (map (noted t) (drop i cells))) ≡ 0 = ap (λ (l : List Statement). length (rules_of names l)) (cells_done (noted t) cells i h) in omega (arith, c.rest names),
       omega (arith, c.few, c.inside),
     )
 
 -- ---- the severity's letter
-module _ (t : List ℕ) (cell : ℕ) where
+module _ (t : List ℕ) (cell : Cell) where
   said-letter : letter_of (noted t cell) ≡ letter_of (line_says t cell)
   said-letter = noted_as t cell letter_of (λ bound. refl)
 
-  pub letter-own : {letter line : ℕ} {w : List ℕ} → cell % 256 ≡ 0 → line ≡ line_in cell → w ≡ word (statement_at t line 0) 3 → letter ≡ get_or w 0 0 → letter ≡ letter_of (noted t cell)
-  letter-own none l e f = f ∙ ap (λ (w : List ℕ). get_or w 0 0) (e ∙ ap (λ (n : ℕ). word (statement_at t n 0) 3) l) ∙ sym (said-letter ∙ rw (eq-eqb (cell % 256) 0 none))
+  pub letter-own : {letter : ℕ} {w : List ℕ} → cell.given ≡ 0 → w ≡ word (statement_at t cell.line 0) 3 → letter ≡ get_or w 0 0 → letter ≡ letter_of (noted t cell)
+  letter-own none e f = f ∙ ap (λ (w : List ℕ). get_or w 0 0) e ∙ sym (said-letter ∙ rw (eq-eqb (cell.given) 0 none))
 
-  pub letter-given : (cell % 256 ≡ 0 → ⊥) → cell % 256 ≡ letter_of (noted t cell)
-  letter-given some = sym (said-letter ∙ rw (ne_eqb (cell % 256) 0 some))
+  pub letter-given : (cell.given ≡ 0 → ⊥) → cell.given ≡ letter_of (noted t cell)
+  letter-given some = sym (said-letter ∙ rw (ne_eqb (cell.given) 0 some))
 
 -- ---- parts of the ten bytes
 pub bound-written : (kind set low high : ℕ) {o p q r : List ℕ} {at b c d x y z : ℕ} → Wrote o at (x ∷ []) p b → Wrote p b (y ∷ []) q c → Wrote q c (z ∷ []) r d
@@ -229,25 +230,25 @@ module _ (s : Statement) (ok : ready s ≡ true) (rule : makes_rule s ≡ true) 
 -- ---- rules written one after the other
 module _ (names : List (List ℕ)) where
   -- that of one statement, where it makes one
-  module _ (t : List ℕ) (cell : ℕ) {line v : ℕ} {b : Bool} (l : line ≡ line_in cell) (f : v ≡ verb (statement_at t line 0)) (g : b ≡ of_rule v) {o p : List ℕ} {at r : ℕ} where
+  module _ (t : List ℕ) (cell : Cell) {v : ℕ} {b : Bool} (f : v ≡ verb (statement_at t cell.line 0)) (g : b ≡ of_rule v) {o p : List ℕ} {at r : ℕ} where
     pub made-written : b ≡ true → Wrote o at (rule_bytes (made names (noted t cell))) p r → Wrote o at (spell_all rule_bytes (rules_of names (noted t cell ∷ []))) p r
     unfolding rules_of
-    made-written e w = wrote_as w (sym (rw (asked_rule t cell l f g e) (append-nil (rule_bytes (made names (noted t cell))))))
+    made-written e w = wrote_as w (sym (rw (asked_rule t cell f g e) (append-nil (rule_bytes (made names (noted t cell))))))
 
     pub none_written : b ≡ false → Wrote o at [] p r → Wrote o at (spell_all rule_bytes (rules_of names (noted t cell ∷ []))) p r
     unfolding rules_of
-    none_written e w = wrote_as w (sym (rw (asked_rule t cell l f g e)))
+    none_written e w = wrote_as w (sym (rw (asked_rule t cell f g e)))
 
-  module _ (t cells : List ℕ) (i : ℕ) where
+  module _ (t : List ℕ) (cells : List Cell) (i : ℕ) where
     -- the rules of the cells from i on
     abbrev pub spelt_from : List ℕ
     spelt_from = spell_all rule_bytes (rules_of names (map (noted t) (drop i cells)))
 
-    pub spelt_more : i < length cells → spelt_from ≡ spell_all rule_bytes (rules_of names (noted t (get_or cells i 0) ∷ [])) ++ spell_all rule_bytes (rules_of names (map (noted t) (drop (i + 1) cells)))
+    pub spelt_more : i < length cells → spelt_from ≡ spell_all rule_bytes (rules_of names (noted t (get_or cells i no_cell) ∷ [])) ++ spell_all rule_bytes (rules_of names (map (noted t) (drop (i + 1) cells)))
     unfolding rules_of
     spelt_more h =
-        ap (λ (l : List Statement). spell_all rule_bytes (rules_of names l)) (from_step (noted t) cells i h)
-        ∙ by (makes_rule (noted t (get_or cells i 0))) (made names (noted t (get_or cells i 0))) (rules_of names (map (noted t) (drop (i + 1) cells)))
+        ap (λ (l : List Statement). spell_all rule_bytes (rules_of names l)) (cells_step (noted t) cells i h)
+        ∙ by (makes_rule (noted t (get_or cells i no_cell))) (made names (noted t (get_or cells i no_cell))) (rules_of names (map (noted t) (drop (i + 1) cells)))
       where
         by : (b : Bool) (one : Rule) (later : List Rule) → spell_all rule_bytes (cond b (one ∷ later) later) ≡ spell_all rule_bytes (cond b (one ∷ []) []) ++ spell_all rule_bytes later
         by true one later = rw (append-nil (rule_bytes one))
@@ -255,7 +256,7 @@ module _ (names : List (List ℕ)) where
 
     pub spelt-over : length cells ≤ i → spelt_from ≡ []
     unfolding rules_of
-    spelt-over h = ap (λ (l : List Statement). spell_all rule_bytes (rules_of names l)) (from_done (noted t) cells i h)
+    spelt-over h = ap (λ (l : List Statement). spell_all rule_bytes (rules_of names l)) (cells_done (noted t) cells i h)
 
-pub ready_more : (t cells : List ℕ) (i : ℕ) → i < length cells → each ready (map (noted t) (drop i cells)) ≡ true → (ready (noted t (get_or cells i 0)) ≡ true) × (each ready (map (noted t) (drop (i + 1) cells)) ≡ true)
-ready_more t cells i h e = and_both (ready (noted t (get_or cells i 0))) _ (sym (ap (each ready) (from_step (noted t) cells i h)) ∙ e)
+pub ready_more : (t : List ℕ) (cells : List Cell) (i : ℕ) → i < length cells → each ready (map (noted t) (drop i cells)) ≡ true → (ready (noted t (get_or cells i no_cell)) ≡ true) × (each ready (map (noted t) (drop (i + 1) cells)) ≡ true)
+ready_more t cells i h e = and_both (ready (noted t (get_or cells i no_cell))) _ (sym (ap (each ready) (cells_step (noted t) cells i h)) ∙ e)

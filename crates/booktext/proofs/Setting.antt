@@ -2,13 +2,13 @@
 use mathlib.Core.Path.{◌≡◌, refl, sym, ap, ap₂, subst, ◌∙◌}
 use mathlib.Core.Bool.{Bool, true, false, cond, not, ◌&&◌, ◌||◌, true≢false, not-not}
 use mathlib.Core.List.{List, [], ◌∷◌, ◌++◌, map}
-use Prim.Native.Nat.{ℕ, ◌+◌, ◌%◌, ◌≤◌, ◌<◌, min}
+use Prim.Native.Nat.{ℕ, ◌+◌, ◌≤◌, ◌<◌, min}
 use native.Mathlib.Omega.{arith}
 use lib.Dec.{eqb, leb, ltb}
 use lib.ListN.{length, get_or, drop}
 use borrow.Author.Tests.{leb-true, le-leb, le-ltb, ltb-false}
 use Rattle.hl7.specs.Bytes.{within, among}
-use Rattle.hl7.proofs.Comparing.{and_both, or_neither, none_of, from_step, from_done}
+use Rattle.hl7.proofs.Comparing.{and_both, or_neither, none_of}
 use Rattle.grade.specs.Limits.{code_count_limit}
 use Rattle.grade.specs.Encoding.{spell_all, set_bytes, two_bytes_of}
 use Rattle.ack.specs.Splice.{Wrote}
@@ -18,16 +18,17 @@ use Rattle.booktext.specs.Meaning.{from}
 use Rattle.booktext.specs.Contents.{held}
 use Rattle.booktext.specs.Faults.{tell, nothing}
 use Rattle.booktext.specs.Refusals.{first_stray, first_bad_set, at_of}
-use Rattle.booktext.specs.Standing.{words_from, span_bytes, next_line, left, Finds, names_in, no_span, line_in, noted, mark_of, Spelt, Puts}
+use Rattle.booktext.specs.Standing.{words_from, span_bytes, next_line, left, Finds, names_in, no_span, noted, no_cell, Marked, Spelt, Puts}
+use Rattle.booktext.specs.declared.cell.Cell.{Cell}
 use Rattle.booktext.specs.declared.told.Told.{Told}
 use Rattle.booktext.specs.declared.names.Names.{Names}
 use Rattle.booktext.specs.declared.sets.Put.{Put}
 use Rattle.booktext.specs.declared.sets.Run.{Run}
 use Rattle.booktext.proofs.Naming.{names_left, names_step, names-past, number-among}
-use Rattle.booktext.proofs.Marking.{noted-at, noted-first}
+use Rattle.booktext.proofs.Marking.{noted-at, noted-first, cells_step, cells_done}
 use Rattle.booktext.proofs.Completing.{Completes, completes_more, completes_over}
 use Rattle.booktext.proofs.Referring.{at-found}
-use Rattle.booktext.proofs.Spelling.{cell_verb, spelt-length}
+use Rattle.booktext.proofs.Spelling.{spelt-length}
 
 -- ---- row 53
 module _ (t : List ℕ) (line : ℕ) (all ss : List Statement) (name : List ℕ) (names : List (List ℕ)) where
@@ -156,38 +157,38 @@ module _ (t : List ℕ) (head : ℕ) (ss : List Statement) (names more : List (L
 
 -- ---- row 52
 -- a change of a set, by its name's number among those that the section holds
-module _ (t : List ℕ) (names : Names) (cell : ℕ) {mark v : ℕ} {b : Bool} (m : mark ≡ mark_of (noted t cell)) (e : v ≡ mark % 16) (f : b ≡ of_codes v) where
+module _ (t : List ℕ) (names : Names) (cell : Cell) (m : Marked t cell) {b : Bool} (f : b ≡ of_codes cell.verb) where
   stray_is : {c : Bool} → b ≡ c → (of_codes (verb (noted t cell)) && not (among (word (noted t cell) 1) (names_in t names))) ≡ (c && not (among (word (noted t cell) 1) (names_in t names)))
-  stray_is g = ap (λ (x : Bool). x && not (among (word (noted t cell) 1) (names_in t names))) (ap of_codes (cell_verb t cell m e) ∙ sym f ∙ g)
+  stray_is g = ap (λ (x : Bool). x && not (among (word (noted t cell) 1) (names_in t names))) (ap of_codes (sym m.by_verb) ∙ sym f ∙ g)
 
-  pub stray_by_number : b ≡ true → {n line : ℕ} {w : List ℕ} → line ≡ line_in cell → w ≡ get_or (words_from t line) 1 [] → (n ≡ number_from 1 w (names_in t names)) × (n ≤ 64)
+  pub stray_by_number : b ≡ true → {n : ℕ} {w : List ℕ} → w ≡ get_or (words_from t cell.line) 1 [] → (n ≡ number_from 1 w (names_in t names)) × (n ≤ 64)
       → eqb n 0 ≡ (of_codes (verb (noted t cell)) && not (among (word (noted t cell) 1) (names_in t names)))
-  stray_by_number g {n} {w = w} l k q =
+  stray_by_number g {n} {w = w} k q =
       sym (not-not (eqb n 0))
       ∙ ap (λ (x : ℕ). not (not (eqb x 0))) q.0
       ∙ ap not (sym (number-among 0 w (names_in t names)))
-      ∙ ap (λ (x : List ℕ). not (among x (names_in t names))) (k ∙ ap (λ (x : ℕ). get_or (words_from t x) 1 []) l ∙ sym (noted-first t cell))
+      ∙ ap (λ (x : List ℕ). not (among x (names_in t names))) (k ∙ sym (noted-first t cell))
       ∙ sym (stray_is g)
 
   pub stray_none : b ≡ false → false ≡ (of_codes (verb (noted t cell)) && not (among (word (noted t cell) 1) (names_in t names)))
   stray_none g = sym (stray_is g)
 
 -- the first one: by those that are left
-module _ (t : List ℕ) (names : List (List ℕ)) (line : ℕ) (cells : List ℕ) (i : ℕ) (inv : first_stray t line names (map (noted t) cells) ≡ first_stray t line names (map (noted t) (drop i cells))) where
-  module _ (h : i < length cells) {b : Bool} (e : b ≡ (of_codes (verb (noted t (get_or cells i 0))) && not (among (word (noted t (get_or cells i 0)) 1) names))) where
-    stray_first : {c : Bool} → b ≡ c → first_stray t line names (map (noted t) cells) ≡ cond c (tell 52 (line_of t (noted t (get_or cells i 0)).at) line) (first_stray t line names (map (noted t) (drop (i + 1) cells)))
+module _ (t : List ℕ) (names : List (List ℕ)) (line : ℕ) (cells : List Cell) (i : ℕ) (inv : first_stray t line names (map (noted t) cells) ≡ first_stray t line names (map (noted t) (drop i cells))) where
+  module _ (h : i < length cells) {b : Bool} (e : b ≡ (of_codes (verb (noted t (get_or cells i no_cell))) && not (among (word (noted t (get_or cells i no_cell)) 1) names))) where
+    stray_first : {c : Bool} → b ≡ c → first_stray t line names (map (noted t) cells) ≡ cond c (tell 52 (line_of t (noted t (get_or cells i no_cell)).at) line) (first_stray t line names (map (noted t) (drop (i + 1) cells)))
     unfolding first_stray
     stray_first f =
         inv
-        ∙ ap (first_stray t line names) (from_step (noted t) cells i h)
-        ∙ ap (λ (x : Bool). cond x (tell 52 (line_of t (noted t (get_or cells i 0)).at) line) (first_stray t line names (map (noted t) (drop (i + 1) cells)))) (sym e ∙ f)
+        ∙ ap (first_stray t line names) (cells_step (noted t) cells i h)
+        ∙ ap (λ (x : Bool). cond x (tell 52 (line_of t (noted t (get_or cells i no_cell)).at) line) (first_stray t line names (map (noted t) (drop (i + 1) cells)))) (sym e ∙ f)
 
-    pub stray_here : b ≡ true → {told : Told} {at a c : ℕ} → at ≡ line_in (get_or cells i 0) → a ≡ line_of t at → c ≡ line → told ≡ tell 52 a c → told ≡ first_stray t line names (map (noted t) cells)
-    stray_here f l g k q = q ∙ ap₂ (tell 52) (g ∙ ap (line_of t) (l ∙ sym (noted-at t (get_or cells i 0)))) k ∙ sym (stray_first f)
+    pub stray_here : b ≡ true → {told : Told} {a c : ℕ} → a ≡ line_of t (get_or cells i no_cell).line → c ≡ line → told ≡ tell 52 a c → told ≡ first_stray t line names (map (noted t) cells)
+    stray_here f g k q = q ∙ ap₂ (tell 52) (g ∙ ap (line_of t) (sym (noted-at t (get_or cells i no_cell)))) k ∙ sym (stray_first f)
 
     pub stray_later : b ≡ false → first_stray t line names (map (noted t) cells) ≡ first_stray t line names (map (noted t) (drop (i + 1) cells))
     stray_later f = stray_first f
 
   pub stray_over : length cells ≤ i → {told : Told} → told ≡ nothing → told ≡ first_stray t line names (map (noted t) cells)
   unfolding first_stray
-  stray_over h e = e ∙ sym (inv ∙ ap (first_stray t line names) (from_done (noted t) cells i h))
+  stray_over h e = e ∙ sym (inv ∙ ap (first_stray t line names) (cells_done (noted t) cells i h))

@@ -2,14 +2,14 @@
 use mathlib.Core.Path.{◌≡◌, refl, sym, ap, ap₂, subst, ◌∙◌}
 use mathlib.Core.Bool.{Bool, true, false, cond, not, ◌&&◌, ◌||◌}
 use mathlib.Core.List.{List, [], ◌∷◌, ◌++◌, map, append-nil}
-use Prim.Native.Nat.{ℕ, ◌+◌, ◌-◌, ◌%◌, ◌≤◌, ◌<◌, min}
+use Prim.Native.Nat.{ℕ, ◌+◌, ◌≤◌, ◌<◌, min}
 use native.Mathlib.Omega.{arith}
 use lib.Dec.{eqb}
-use lib.ListN.{length, get_or, take, drop, length-append}
+use lib.ListN.{length, get_or, drop, length-append}
 use borrow.Author.Tests.{leb-true, eq-eqb, ne_eqb, not-true, not-false}
 use Rattle.hl7.specs.Bytes.{same, among}
 use Rattle.hl7.specs.declared.cut.Span.{Span}
-use Rattle.hl7.proofs.Comparing.{and_both, from_step, from_done}
+use Rattle.hl7.proofs.Comparing.{and_both}
 use Rattle.grade.specs.Encoding.{each, text_bytes}
 use Rattle.grade.proofs.Encoded.{spell_append}
 use Rattle.ack.specs.Splice.{Wrote}
@@ -18,10 +18,11 @@ use Rattle.booktext.specs.Lines.{Statement, statements, word, verb, says, of_rul
 use Rattle.booktext.specs.Meaning.{from}
 use Rattle.booktext.specs.Changes.{names_code, lessened, kept, added_by, added}
 use Rattle.booktext.specs.Contents.{listed, codes_at, codes_of, held}
-use Rattle.booktext.specs.Standing.{words_from, span_bytes, NextWord, statement_at, next_line, left, body_from, Finds, is_short, sound, line_in, noted, mark_of, Marks, Spelt}
+use Rattle.booktext.specs.Standing.{words_from, span_bytes, NextWord, statement_at, next_line, left, body_from, Finds, is_short, sound, noted, no_cell, Marked, Marks, Spelt}
+use Rattle.booktext.specs.declared.cell.Cell.{Cell}
 use Rattle.booktext.specs.declared.sets.Run.{Run}
 use Rattle.booktext.proofs.Each.{each_both}
-use Rattle.booktext.proofs.Marking.{noted_other, mark_verb, marks_at, later, later_cells}
+use Rattle.booktext.proofs.Marking.{noted_other, cells_step, cells_done, mark_at, part_cells, part_noted}
 use Rattle.booktext.proofs.Stating.{onward, onward-none, onward-some, onward_step, found-onward}
 use Rattle.booktext.proofs.Fitting.{codes_fit, fit_short}
 
@@ -53,33 +54,30 @@ pub spells_over : {codes rest : List (List ℕ)} {o out after : List ℕ} {start
 spells_over c e s = c _ _ (spelt_as s (sym e))
 
 -- ---- a statement that changes codes
-module _ (t : List ℕ) (cell : ℕ) {mark v : ℕ} (m : mark ≡ mark_of (noted t cell)) (e : v ≡ mark % 16) where
-  pub cell_verb : verb (noted t cell) ≡ v
-  cell_verb = sym (e ∙ mark_verb (noted t cell) m)
-
+module _ (t : List ℕ) (cell : Cell) (m : Marked t cell) where
   -- what is no rule has the words of its line
-  cell_words : of_rule v ≡ false → {line : ℕ} → line ≡ line_in cell → (noted t cell).words ≡ words_from t line
-  cell_words h l = ap (λ (s : Statement). s.words) (noted_other t cell (ap of_rule cell_verb ∙ h)) ∙ ap (words_from t) (sym l)
+  cell_words : of_rule cell.verb ≡ false → (noted t cell).words ≡ words_from t cell.line
+  cell_words h = ap (λ (s : Statement). s.words) (noted_other t cell (ap of_rule (sym m.by_verb) ∙ h))
 
   module _ (name code : List ℕ) where
-    takes_is : (b : Bool) → eqb v a_less ≡ b → names_code a_less name code (noted t cell) ≡ (b && same (word (noted t cell) 1) name && among code (drop 2 (noted t cell).words))
-    takes_is b f = ap (λ (x : Bool). x && same (word (noted t cell) 1) name && among code (drop 2 (noted t cell).words)) (ap (λ (n : ℕ). eqb n a_less) cell_verb ∙ f)
+    takes_is : (b : Bool) → eqb cell.verb a_less ≡ b → names_code a_less name code (noted t cell) ≡ (b && same (word (noted t cell) 1) name && among code (drop 2 (noted t cell).words))
+    takes_is b f = ap (λ (x : Bool). x && same (word (noted t cell) 1) name && among code (drop 2 (noted t cell).words)) (ap (λ (n : ℕ). eqb n a_less) (sym m.by_verb) ∙ f)
 
-    pub takes_named : v ≡ a_less → {line : ℕ} {b : Bool} → line ≡ line_in cell → b ≡ (same (word (statement_at t line 0) 1) name && among code (drop 2 (words_from t line))) → b ≡ names_code a_less name code (noted t cell)
-    takes_named h l f =
+    pub takes_named : cell.verb ≡ a_less → {b : Bool} → b ≡ (same (word (statement_at t cell.line 0) 1) name && among code (drop 2 (words_from t cell.line))) → b ≡ names_code a_less name code (noted t cell)
+    takes_named h f =
         f
-        ∙ ap (λ (ws : List (List ℕ)). same (get_or ws 1 []) name && among code (drop 2 ws)) (sym (cell_words (ap of_rule h) l))
-        ∙ sym (takes_is true (eq-eqb v a_less h))
+        ∙ ap (λ (ws : List (List ℕ)). same (get_or ws 1 []) name && among code (drop 2 ws)) (sym (cell_words (ap of_rule h)))
+        ∙ sym (takes_is true (eq-eqb cell.verb a_less h))
 
-    pub takes_none : (v ≡ a_less → ⊥) → false ≡ names_code a_less name code (noted t cell)
-    takes_none h = sym (takes_is false (ne_eqb v a_less h))
+    pub takes_none : (cell.verb ≡ a_less → ⊥) → false ≡ names_code a_less name code (noted t cell)
+    takes_none h = sym (takes_is false (ne_eqb cell.verb a_less h))
 
 -- a code that one of the statements in cells takes: by those that are left
-module _ (t cells name code : List ℕ) (i : ℕ) (inv : lessened name code (map (noted t) cells) ≡ lessened name code (map (noted t) (drop i cells))) where
-  module _ (h : i < length cells) {b : Bool} (e : b ≡ names_code a_less name code (noted t (get_or cells i 0))) where
+module _ (t : List ℕ) (cells : List Cell) (name code : List ℕ) (i : ℕ) (inv : lessened name code (map (noted t) cells) ≡ lessened name code (map (noted t) (drop i cells))) where
+  module _ (h : i < length cells) {b : Bool} (e : b ≡ names_code a_less name code (noted t (get_or cells i no_cell))) where
     lessened-is : lessened name code (map (noted t) cells) ≡ (b || lessened name code (map (noted t) (drop (i + 1) cells)))
     unfolding lessened
-    lessened-is = inv ∙ ap (lessened name code) (from_step (noted t) cells i h) ∙ ap (λ (x : Bool). x || lessened name code (map (noted t) (drop (i + 1) cells))) (sym e)
+    lessened-is = inv ∙ ap (lessened name code) (cells_step (noted t) cells i h) ∙ ap (λ (x : Bool). x || lessened name code (map (noted t) (drop (i + 1) cells))) (sym e)
 
     pub lessened-here : b ≡ true → true ≡ lessened name code (map (noted t) cells)
     lessened-here f = sym (lessened-is ∙ ap (λ (x : Bool). x || lessened name code (map (noted t) (drop (i + 1) cells))) f)
@@ -89,7 +87,7 @@ module _ (t cells name code : List ℕ) (i : ℕ) (inv : lessened name code (map
 
   pub lessened-over : length cells ≤ i → false ≡ lessened name code (map (noted t) cells)
   unfolding lessened
-  lessened-over h = sym (inv ∙ ap (lessened name code) (from_done (noted t) cells i h))
+  lessened-over h = sym (inv ∙ ap (lessened name code) (cells_done (noted t) cells i h))
 
 -- ---- codes that are kept
 module _ (name : List ℕ) (ss : List Statement) where
@@ -193,50 +191,56 @@ unfolding listed
 listed-over t h name ss = ap (λ (l : List Statement). kept name ss (listed l)) (onward-none t (body_from t) h) ∙ kept-none name ss
 
 -- ---- the codes that a statement adds
-module _ (t cells marks : List ℕ) (i : ℕ) (m : Marks (map (noted t) cells) marks) (h : i < length cells) where
+module _ (t : List ℕ) (cells : List Cell) (i : ℕ) (m : Marks t cells) (h : i < length cells) where
+  abbrev it : Cell
+  it = get_or cells i no_cell
+
   abbrev after_it : List Statement
-  after_it = later t cells marks i m
+  after_it = map (noted t) (drop (i + 1) cells)
 
-  module _ (name : List ℕ) {v line : ℕ} (e : v ≡ get_or marks i 0 % 16) (l : line ≡ line_in (get_or cells i 0)) where
-    more_is : (b : Bool) → eqb v a_more ≡ b → added_by name (noted t (get_or cells i 0)) ≡ cond (b && same (word (noted t (get_or cells i 0)) 1) name) (drop 2 (noted t (get_or cells i 0)).words) []
+  mark-here : Marked t it
+  mark-here = mark_at t cells i m h
+
+  module _ (name : List ℕ) where
+    more_is : (b : Bool) → eqb it.verb a_more ≡ b → added_by name (noted t it) ≡ cond (b && same (word (noted t it) 1) name) (drop 2 (noted t it).words) []
     more_is b f =
-        ap (λ (x : Bool). cond (x && same (word (noted t (get_or cells i 0)) 1) name) (drop 2 (noted t (get_or cells i 0)).words) [])
-        (ap (λ (n : ℕ). eqb n a_more) (cell_verb t (get_or cells i 0) (marks_at t cells marks i m h) e) ∙ f)
+        ap (λ (x : Bool). cond (x && same (word (noted t it) 1) name) (drop 2 (noted t it).words) [])
+        (ap (λ (n : ℕ). eqb n a_more) (sym mark-here.by_verb) ∙ f)
 
-    pub more_other : (v ≡ a_more → ⊥) → [] ≡ kept name after_it (added_by name (noted t (get_or cells i 0)))
-    more_other f = sym (ap (kept name after_it) (more_is false (ne_eqb v a_more f)) ∙ kept-none name after_it)
+    pub more_other : (it.verb ≡ a_more → ⊥) → [] ≡ kept name after_it (added_by name (noted t it))
+    more_other f = sym (ap (kept name after_it) (more_is false (ne_eqb it.verb a_more f)) ∙ kept-none name after_it)
 
-    module _ (f : v ≡ a_more) {w : List ℕ} {b : Bool} (g : w ≡ get_or (words_from t line) 1 []) (k : b ≡ same w name) where
-      more_named : {c : Bool} → b ≡ c → added_by name (noted t (get_or cells i 0)) ≡ cond c (drop 2 (words_from t line)) []
+    module _ (f : it.verb ≡ a_more) {w : List ℕ} {b : Bool} (g : w ≡ get_or (words_from t it.line) 1 []) (k : b ≡ same w name) where
+      more_named : {c : Bool} → b ≡ c → added_by name (noted t it) ≡ cond c (drop 2 (words_from t it.line)) []
       more_named q =
-          more_is true (eq-eqb v a_more f)
-          ∙ ap (λ (ws : List (List ℕ)). cond (same (get_or ws 1 []) name) (drop 2 ws) []) (cell_words t (get_or cells i 0) (marks_at t cells marks i m h) e (ap of_rule f) l)
-          ∙ ap (λ (x : Bool). cond x (drop 2 (words_from t line)) []) (sym (k ∙ ap (λ (y : List ℕ). same y name) g) ∙ q)
+          more_is true (eq-eqb it.verb a_more f)
+          ∙ ap (λ (ws : List (List ℕ)). cond (same (get_or ws 1 []) name) (drop 2 ws) []) (cell_words t it mark-here (ap of_rule f))
+          ∙ ap (λ (x : Bool). cond x (drop 2 (words_from t it.line)) []) (sym (k ∙ ap (λ (y : List ℕ). same y name) g) ∙ q)
 
-      pub more_of_other : not b ≡ true → [] ≡ kept name after_it (added_by name (noted t (get_or cells i 0)))
+      pub more_of_other : not b ≡ true → [] ≡ kept name after_it (added_by name (noted t it))
       more_of_other q = sym (ap (kept name after_it) (more_named (not-true b q)) ∙ kept-none name after_it)
 
-      module _ (q : not b ≡ false) (p : ℕ) (j : words_from t p ≡ drop 2 (words_from t line)) where
-        more_codes : words_from t p ≡ added_by name (noted t (get_or cells i 0))
+      module _ (q : not b ≡ false) (p : ℕ) (j : words_from t p ≡ drop 2 (words_from t it.line)) where
+        more_codes : words_from t p ≡ added_by name (noted t it)
         more_codes = j ∙ sym (more_named (not-false b q))
 
-        pub more_short : each is_short (added_by name (noted t (get_or cells i 0))) ≡ true → each is_short (words_from t p) ≡ true
+        pub more_short : each is_short (added_by name (noted t it)) ≡ true → each is_short (words_from t p) ≡ true
         more_short s = ap (each is_short) more_codes ∙ s
 
-        pub more_put : {o after : List ℕ} {a r : Run} → Spelt (kept name (map (noted t) (take (length cells - (i + 1)) (drop (i + 1) cells))) (words_from t p)) o a after r
-            → Spelt (kept name after_it (added_by name (noted t (get_or cells i 0)))) o a after r
-        more_put s = spelt_as s (ap₂ (kept name) (later_cells t cells marks i m) more_codes)
+        pub more_put : {o after : List ℕ} {a r : Run} → Spelt (kept name (map (noted t) (part_cells t cells i)) (words_from t p)) o a after r
+            → Spelt (kept name after_it (added_by name (noted t it))) o a after r
+        more_put s = spelt_as s (ap₂ (kept name) (part_noted t cells i) more_codes)
 
 -- those of the statements in cells
-module _ (t name cells : List ℕ) (i : ℕ) where
+module _ (t name : List ℕ) (cells : List Cell) (i : ℕ) where
   pub added_more : i < length cells → {codes : List (List ℕ)} {o out next : List ℕ} {start to end : Run} → Spells codes (added name (map (noted t) (drop i cells))) o start out to
-      → Spelt (kept name (map (noted t) (drop (i + 1) cells)) (added_by name (noted t (get_or cells i 0)))) out to next end → Spells codes (added name (map (noted t) (drop (i + 1) cells))) o start next end
+      → Spelt (kept name (map (noted t) (drop (i + 1) cells)) (added_by name (noted t (get_or cells i no_cell)))) out to next end → Spells codes (added name (map (noted t) (drop (i + 1) cells))) o start next end
   unfolding added
-  added_more h c s = spells_more c (ap (added name) (from_step (noted t) cells i h)) s
+  added_more h c s = spells_more c (ap (added name) (cells_step (noted t) cells i h)) s
 
   pub added-over : length cells ≤ i → added name (map (noted t) (drop i cells)) ≡ []
   unfolding added
-  added-over h = ap (added name) (from_done (noted t) cells i h)
+  added-over h = ap (added name) (cells_done (noted t) cells i h)
 
 -- ---- the codes that a set has in the text
 module _ (t name : List ℕ) {line : ℕ} (f : Finds t (from a_set name (statements t)) (left t (next_line t line)) line) where

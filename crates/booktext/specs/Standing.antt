@@ -1,6 +1,6 @@
 -- Inner: only contracts inside the crate use these names; nothing here has to be believed.
 -- A statement by the position of its line, what is still to come from a position on, and what is noted of a section. Assumes nothing.
-use Rattle.std.specs.Prelude.{ℕ, suc, ◌+◌, ◌-◌, ◌*◌, ◌/◌, ◌%◌, ◌≤◌, ◌<◌, min, ◌≡◌, Bool, true, cond, not, ◌&&◌, ◌||◌, List, [], ◌∷◌, ◌++◌, map, eqb, leb, length, get_or, take, drop}
+use Rattle.std.specs.Prelude.{ℕ, suc, ◌+◌, ◌≤◌, ◌<◌, min, ◌≡◌, Bool, true, cond, not, ◌&&◌, ◌||◌, List, [], ◌∷◌, ◌++◌, map, eqb, leb, length, get_or, take, drop, All, Option, Some, None}
 use Rattle.hl7.specs.Bytes.{within}
 use Rattle.hl7.specs.Cut.{part_at, end_from}
 use Rattle.hl7.specs.Spans.{between, parts_from}
@@ -18,6 +18,7 @@ use Rattle.grade.specs.Limits.{book_limit}
 use Rattle.grade.specs.Rule.{name_bytes, severity_of}
 use Rattle.grade.specs.declared.rule.Place.{Place}
 use Rattle.booktext.specs.declared.told.Told.{Told}
+use Rattle.booktext.specs.declared.cell.Cell.{Cell}
 use Rattle.booktext.specs.declared.names.Names.{Names}
 use Rattle.booktext.specs.declared.sets.Put.{Put}
 use Rattle.booktext.specs.declared.sets.Run.{Run}
@@ -120,45 +121,44 @@ ready s = sound s && (eqb s.given 0 || is_severity (severity_of s.given))
 
 -- ---- a section's statements, noted
 
--- A statement as one number: from low to high the severity that it was given, the position of its line, and where another line has its bound one more than
--- that line's position, else 0. A text's positions are below 2^21.
-abbrev pub line_in : ℕ → ℕ
-line_in cell = cell / 256 % 2097152
-
-abbrev pub bound_in : ℕ → ℕ
-bound_in cell = cell / 256 / 2097152
-
 -- a rule with the bound of another line, which has it after three words
-abbrev pub bound_by : List ℕ → ℕ → Statement → Statement
-bound_by t b s = cond (makes_rule s && leb 1 b) (bind (drop 3 (words_from t (b - 1))) s) s
+abbrev pub bound_by : List ℕ → Option ℕ → Statement → Statement
+bound_by t None s = s
+bound_by t (Some line) s = cond (makes_rule s) (bind (drop 3 (words_from t line)) s) s
 
-unfoldable pub noted : List ℕ → ℕ → Statement
-noted t cell = bound_by t (bound_in cell) (statement_at t (line_in cell) (cell % 256))
+-- what a cell stands for: the statement of its line, with the severity that it was given and the bound of another line, where it has them
+unfoldable pub noted : List ℕ → Cell → Statement
+noted t cell = bound_by t cell.bound (statement_at t cell.line cell.given)
 
--- place, kind and verb of a statement as one number
-abbrev pub mark_of : Statement → ℕ
-mark_of s = spot_of s * 16 + verb s
+-- a cell has the verb, and the place and kind, of the statement that it stands for
+pub record Marked (t : List ℕ) (cell : Cell) : Type 0 where
+  pub by_verb : cell.verb ≡ verb (noted t cell)
+  pub by_spot : cell.spot ≡ spot_of (noted t cell)
+
+abbrev pub Marks : List ℕ → List Cell → Type 0
+Marks t cells = All (Marked t) cells
+
+-- stands for a cell where there is none
+abbrev pub no_cell : Cell
+no_cell = record { line = 0; given = 0; bound = None; verb = 0; spot = 0 }
 
 -- it makes a rule of a place and kind
 abbrev pub rules_it : ℕ → Statement → Bool
 rules_it spot x = makes_rule x && eqb (spot_of x) spot
 
 -- so many cells hold the statements, or there are too many of them
-pub record Holds (t cells : List ℕ) (count : ℕ) (ss : List Statement) : Type 0 where
+pub record Holds (t : List ℕ) (cells : List Cell) (count : ℕ) (ss : List Statement) : Type 0 where
   pub exact : count ≤ statement_limit → map (noted t) (take count cells) ≡ ss
   pub over : statement_limit < count → statement_limit < length ss
+  pub marks : count ≤ statement_limit → Marks t (take count cells)
 
 -- noting more of them
-abbrev pub NotesMore : (t before : List ℕ) → ℕ → (after : List ℕ) → ℕ → List Statement → Type 0
+abbrev pub NotesMore : List ℕ → (before : List Cell) → ℕ → (after : List Cell) → ℕ → List Statement → Type 0
 NotesMore t before count after r more = (ss : List Statement) → Holds t before count ss → Holds t after r (ss ++ more)
 
 -- r is how many rules they make, whatever sets the section holds
 abbrev pub CountsRules : List Statement → ℕ → Type 0
 CountsRules ss r = (names : List (List ℕ)) → r ≡ length (rules_of names ss)
-
--- the marks of statements
-abbrev pub Marks : List Statement → List ℕ → Type 0
-Marks ss marks = marks ≡ map mark_of ss
 
 -- ---- names of sets
 

@@ -1,14 +1,14 @@
 // Rows 47 to 49: what stands in a section before a statement.
-ghost use Rattle.std.specs.Prelude.{◌≡◌, cond, not, ◌&&◌, ◌||◌, List, [], ◌∷◌, map, ◌<◌, eqb, length, get_or, take, drop};
+ghost use Rattle.std.specs.Prelude.{◌≡◌, cond, not, ◌&&◌, ◌||◌, List, [], ◌∷◌, map, ℕ, ◌<◌, eqb, length, get_or, take, drop};
 ghost use Rattle.hl7.specs.Bytes.{same, among};
 ghost use Rattle.grade.specs.Encoding.{each};
-ghost use Rattle.booktext.specs.Lines.{Statement, statements, word, line_of, says, a_rule, a_drop, a_more, a_less};
+ghost use Rattle.booktext.specs.Lines.{statements, word, line_of, says, a_rule, a_drop, a_more, a_less};
 ghost use Rattle.booktext.specs.Changes.{says_of, names_code};
 ghost use Rattle.booktext.specs.Contents.{listed, codes_of};
 ghost use Rattle.booktext.specs.Refusals.{stands, has_code, code_asked, rule_fault, first_rule_fault};
-ghost use Rattle.booktext.specs.Standing.{words_from, statement_at, body_from, Heads, noted, mark_of, Marks, rules_it};
+ghost use Rattle.booktext.specs.Standing.{words_from, statement_at, body_from, Heads, noted, no_cell, Marked, Marks, rules_it};
 
-use crate::cell::{line_in, says_of, spot_in, verb_in};
+use crate::cell::Cell;
 use crate::heads::seek_head;
 use crate::line::{line_of, next_word, part, skip_words, word_of};
 use crate::statement::{next_in_body, next_line, verb_at};
@@ -17,21 +17,21 @@ use crate::word::{CODE, DROP, LESS, MORE, RULE, SET, either, is_codes, is_placed
 use hl7::bytes::{pick, same_bytes};
 
 // ---- rules
-// Whether a rule of this place and kind stands after the statement with a mark, where one stood or did not before.
-fn stands_after(so: bool, mark: usize, spot: usize) -> bool
-    ensures { (s : Statement) → mark ≡ mark_of s → result ≡ (rules_it spot s || (not (says_of a_drop spot s) && so)) }
+// Whether a rule of this place and kind stands after the statement of a cell, where one stood or did not before.
+fn stands_after(so: bool, cell: Cell, spot: usize) -> bool
+    ensures { (t : List ℕ) → Marked t cell → result ≡ (rules_it spot (noted t cell) || (not (says_of a_drop spot (noted t cell)) && so)) }
 {
-    let ruled = is_rule(verb_in(mark)) & (spot_in(mark) == spot);
-    ruled | (!says_of(mark, DROP, spot) & so)
+    let ruled = is_rule(cell.verb) & (cell.spot == spot);
+    ruled | (!cell.says_of(DROP, spot) & so)
 }
 
-// Whether one stands after the statements with the marks.
-fn is_standing(marks: &[usize], spot: usize) -> bool
-    ensures { (ss : List Statement) → Marks ss marks.now → result ≡ stands spot ss }
+// Whether one stands after the statements in the cells.
+fn is_standing(cells: &[Cell], spot: usize) -> bool
+    ensures { (t : List ℕ) → Marks t cells.now → result ≡ stands spot (map (noted t) cells.now) }
 {
     let mut so = false;
-    for &mark in marks {
-        so = stands_after(so, mark, spot);
+    for &cell in cells {
+        so = stands_after(so, cell, spot);
     }
     so
 }
@@ -104,16 +104,15 @@ pub(crate) fn names_code(t: &[u8], at: usize, name: &[u8], code: &[u8]) -> bool
 }
 
 // Whether a set has a code after the statement of a cell, where it had it or not before.
-fn has_after(t: &[u8], so: bool, cell: usize, mark: usize, name: &[u8], code: &[u8]) -> bool
-    requires { mark ≡ mark_of (noted t.now cell) }
+fn has_after(t: &[u8], so: bool, cell: Cell, name: &[u8], code: &[u8]) -> bool
+    requires { Marked t.now cell }
     ensures { result ≡ (names_code a_more name.now code.now (noted t.now cell) || (not (names_code a_less name.now code.now (noted t.now cell)) && so)) }
 {
-    let verb = verb_in(mark);
-    if !is_codes(verb) {
+    if !is_codes(cell.verb) {
         return so;
     }
-    if names_code(t, line_in(cell), name, code) {
-        return verb == MORE;
+    if names_code(t, cell.line, name, code) {
+        return cell.verb == MORE;
     }
     so
 }
@@ -123,19 +122,16 @@ fn has_code(
     t: &[u8],
     heads: &[usize],
     rest: usize,
-    cells: &[usize],
-    marks: &[usize],
+    cells: &[Cell],
     name: &[u8],
     code: &[u8],
 ) -> bool
-    requires { Heads t.now heads.now rest × Marks (map (noted t.now) cells.now) marks.now }
+    requires { Heads t.now heads.now rest × Marks t.now cells.now }
     ensures { result ≡ has_code (statements t.now) (map (noted t.now) cells.now) name.now code.now }
 {
     let mut so = has_own(t, heads, rest, name, code);
-    let mut i = 0;
-    while i < cells.len() {
-        so = has_after(t, so, cells[i], marks[i], name, code);
-        i += 1;
+    for &cell in cells {
+        so = has_after(t, so, cell, name, code);
     }
     so
 }
@@ -145,12 +141,11 @@ fn codes_asked(
     t: &[u8],
     heads: &[usize],
     rest: usize,
-    cells: &[usize],
-    marks: &[usize],
+    cells: &[Cell],
     at: usize,
     less: bool,
 ) -> bool
-    requires { Heads t.now heads.now rest × Marks (map (noted t.now) cells.now) marks.now × (less ≡ says a_less (statement_at t.now at 0)) }
+    requires { Heads t.now heads.now rest × Marks t.now cells.now × (less ≡ says a_less (statement_at t.now at 0)) }
     ensures { result ≡ each (code_asked (statements t.now) (map (noted t.now) cells.now) (statement_at t.now at 0)) (drop 2 (words_from t.now at)) }
 {
     let name = word_of(t, at, 1);
@@ -160,7 +155,7 @@ fn codes_asked(
         if w.end <= w.start {
             return true;
         }
-        let has = has_code(t, heads, rest, cells, marks, name, part(t, w));
+        let has = has_code(t, heads, rest, cells, name, part(t, w));
         if !either(less, has, !has) {
             return false;
         }
@@ -181,25 +176,17 @@ fn place_fault(verb: u8, stands: bool) -> usize
 }
 
 // The row that holds of statement i after those before it; 0 where none does.
-fn rule_fault(
-    t: &[u8],
-    heads: &[usize],
-    rest: usize,
-    cells: &[usize],
-    marks: &[usize],
-    i: usize,
-) -> usize
-    requires { Heads t.now heads.now rest × Marks (map (noted t.now) cells.now) marks.now × (i < length cells.now) }
-    ensures { result ≡ rule_fault (statements t.now) (map (noted t.now) (take i cells.now)) (noted t.now (get_or cells.now i 0)) }
+fn rule_fault(t: &[u8], heads: &[usize], rest: usize, cells: &[Cell], i: usize) -> usize
+    requires { Heads t.now heads.now rest × Marks t.now cells.now × (i < length cells.now) }
+    ensures { result ≡ rule_fault (statements t.now) (map (noted t.now) (take i cells.now)) (noted t.now (get_or cells.now i no_cell)) }
 {
-    let mark = marks[i];
-    let verb = verb_in(mark);
-    if is_placed(verb) {
-        return place_fault(verb, is_standing(&marks[..i], spot_in(mark)));
+    let cell = cells[i];
+    let earlier = &cells[..i];
+    if is_placed(cell.verb) {
+        return place_fault(cell.verb, is_standing(earlier, cell.spot));
     }
-    if is_codes(verb) {
-        let line = line_in(cells[i]);
-        let right = codes_asked(t, heads, rest, &cells[..i], &marks[..i], line, verb == LESS);
+    if is_codes(cell.verb) {
+        let right = codes_asked(t, heads, rest, earlier, cell.line, cell.verb == LESS);
         return pick(right, 0, 49);
     }
     0
@@ -211,17 +198,16 @@ pub(crate) fn first_rule_fault(
     heads: &[usize],
     rest: usize,
     head: usize,
-    cells: &[usize],
-    marks: &[usize],
+    cells: &[Cell],
 ) -> Told
-    requires { Heads t.now heads.now rest × Marks (map (noted t.now) cells.now) marks.now }
+    requires { Heads t.now heads.now rest × Marks t.now cells.now }
     ensures { result ≡ first_rule_fault t.now (statements t.now) (line_of t.now head) [] (map (noted t.now) cells.now) }
 {
     let mut i = 0;
     while i < cells.len() {
-        let fault = rule_fault(t, heads, rest, cells, marks, i);
+        let fault = rule_fault(t, heads, rest, cells, i);
         if fault != 0 {
-            return tell(fault, line_of(t, line_in(cells[i])), line_of(t, head));
+            return tell(fault, line_of(t, cells[i].line), line_of(t, head));
         }
         i += 1;
     }

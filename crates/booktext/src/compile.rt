@@ -11,7 +11,7 @@ ghost use Rattle.booktext.specs.Refusals.{statement_limit, first_rule_fault, siz
 ghost use Rattle.booktext.specs.Standing.{words_from, statement_at, next_line, left, sound, ready, noted, Marks, names_in, Puts, Heads, MakesBy};
 
 use crate::before::first_rule_fault;
-use crate::cell::note_marks;
+use crate::cell::{Cell, NO_CELL};
 use crate::change::settle;
 use crate::fault::{bytes_told, first_fault};
 use crate::heads::{HEAD_LIMIT, note_heads};
@@ -48,7 +48,7 @@ fn put_front(
     at: usize,
     t: &[u8],
     head: usize,
-    cells: &[usize],
+    cells: &[Cell],
     names: Names,
     rules: usize,
 ) -> usize
@@ -70,11 +70,10 @@ fn put_section(
     heads: &[usize],
     rest: usize,
     head: usize,
-    cells: &[usize],
-    marks: &[usize],
-    lasting: &[usize],
+    cells: &[Cell],
+    lasting: &[Cell],
 ) -> Put
-    requires { Heads t.now heads.now rest × (each sound (statements t.now) ≡ true) × (each ready (map (noted t.now) cells.now) ≡ true) × Marks (map (noted t.now) cells.now) marks.now × (map (noted t.now) lasting.now ≡ settled (map (noted t.now) cells.now)) × (length (get_or (words_from t.now head) 1 []) ≤ 255) }
+    requires { Heads t.now heads.now rest × (each sound (statements t.now) ≡ true) × (each ready (map (noted t.now) cells.now) ≡ true) × Marks t.now cells.now × (map (noted t.now) lasting.now ≡ settled (map (noted t.now) cells.now)) × (length (get_or (words_from t.now head) 1 []) ≤ 255) }
     ensures { Puts (sizes_told t.now (statements t.now) at (line_of t.now head) (contents_of (statements t.now) (get_or (words_from t.now head) 1 []) (map (noted t.now) cells.now)) (map (noted t.now) cells.now)) (section_bytes (contents_of (statements t.now) (get_or (words_from t.now head) 1 []) (map (noted t.now) cells.now))) out.old at out.new result }
 {
     let rules = count_rules(t, lasting);
@@ -85,12 +84,12 @@ fn put_section(
     if SET_LIMIT < names.count {
         return over(t, 51, head, at);
     }
-    let stray = first_stray(t, head, cells, marks, names);
+    let stray = first_stray(t, head, cells, names);
     if stray.number != 0 {
         return refused(stray, at);
     }
     let next = put_front(out, at, t, head, lasting, names, rules);
-    let sets = put_sets(out, next, t, heads, rest, head, cells, marks, names);
+    let sets = put_sets(out, next, t, heads, rest, head, cells, names);
     if sets.told.number != 0 {
         return sets;
     }
@@ -108,29 +107,18 @@ fn check_section(
     heads: &[usize],
     rest: usize,
     head: usize,
-    cells: &[usize],
-    marks: &[usize],
-    lasting: &mut [usize],
+    cells: &[Cell],
+    lasting: &mut [Cell],
 ) -> Put
-    requires { Heads t.now heads.now rest × (each sound (statements t.now) ≡ true) × (each ready (map (noted t.now) cells.now) ≡ true) × Marks (map (noted t.now) cells.now) marks.now × (length cells.now ≤ statement_limit) × (length lasting.old ≡ statement_limit) × (length (get_or (words_from t.now head) 1 []) ≤ 255) }
+    requires { Heads t.now heads.now rest × (each sound (statements t.now) ≡ true) × (each ready (map (noted t.now) cells.now) ≡ true) × Marks t.now cells.now × (length cells.now ≤ statement_limit) × (length lasting.old ≡ statement_limit) × (length (get_or (words_from t.now head) 1 []) ≤ 255) }
     ensures { Puts (firstly (first_rule_fault t.now (statements t.now) (line_of t.now head) [] (map (noted t.now) cells.now)) (sizes_told t.now (statements t.now) at (line_of t.now head) (contents_of (statements t.now) (get_or (words_from t.now head) 1 []) (map (noted t.now) cells.now)) (map (noted t.now) cells.now))) (section_bytes (contents_of (statements t.now) (get_or (words_from t.now head) 1 []) (map (noted t.now) cells.now))) out.old at out.new result }
 {
-    let fault = first_rule_fault(t, heads, rest, head, cells, marks);
+    let fault = first_rule_fault(t, heads, rest, head, cells);
     if fault.number != 0 {
         return refused(fault, at);
     }
-    let count = settle(t, cells, marks, lasting);
-    put_section(
-        out,
-        at,
-        t,
-        heads,
-        rest,
-        head,
-        cells,
-        marks,
-        &lasting[..count],
-    )
+    let count = settle(t, cells, lasting);
+    put_section(out, at, t, heads, rest, head, cells, &lasting[..count])
 }
 
 // All rows of the section with a head, and its bytes.
@@ -141,11 +129,10 @@ fn make_section(
     heads: &[usize],
     rest: usize,
     head: usize,
-    cells: &mut [usize],
-    marks: &mut [usize],
-    lasting: &mut [usize],
+    cells: &mut [Cell],
+    lasting: &mut [Cell],
 ) -> Put
-    requires { Heads t.now heads.now rest × (length t.now ≤ text_limit) × (head ≤ length t.now) × (says a_section (statement_at t.now head 0) ≡ true) × (each sound (statements t.now) ≡ true) × (each sound (statement_at t.now head 0 ∷ left t.now (next_line t.now head)) ≡ true) × (length cells.old ≡ statement_limit) × (length marks.old ≡ statement_limit) × (length lasting.old ≡ statement_limit) }
+    requires { Heads t.now heads.now rest × (length t.now ≤ text_limit) × (head ≤ length t.now) × (says a_section (statement_at t.now head 0) ≡ true) × (each sound (statements t.now) ≡ true) × (each sound (statement_at t.now head 0 ∷ left t.now (next_line t.now head)) ≡ true) × (length cells.old ≡ statement_limit) × (length lasting.old ≡ statement_limit) }
     ensures { Puts (section_told t.now (statements t.now) at (statement_at t.now head 0) (left t.now (next_line t.now head))) (section_bytes (section_of (statements t.now) (statement_at t.now head 0) (left t.now (next_line t.now head)))) out.old at out.new result }
 {
     let start = next_line(t, head);
@@ -157,18 +144,7 @@ fn make_section(
     if STATEMENT_LIMIT < count {
         return over(t, 56, head, at);
     }
-    note_marks(t, &cells[..count], marks);
-    check_section(
-        out,
-        at,
-        t,
-        heads,
-        rest,
-        head,
-        &cells[..count],
-        &marks[..count],
-        lasting,
-    )
+    check_section(out, at, t, heads, rest, head, &cells[..count], lasting)
 }
 
 // A section where the statement is one, else nothing.
@@ -179,15 +155,14 @@ fn make_any(
     heads: &[usize],
     rest: usize,
     line: usize,
-    cells: &mut [usize],
-    marks: &mut [usize],
-    lasting: &mut [usize],
+    cells: &mut [Cell],
+    lasting: &mut [Cell],
 ) -> Put
-    requires { Heads t.now heads.now rest × (length t.now ≤ text_limit) × (line ≤ length t.now) × (each sound (statements t.now) ≡ true) × (each sound (statement_at t.now line 0 ∷ left t.now (next_line t.now line)) ≡ true) × (length cells.old ≡ statement_limit) × (length marks.old ≡ statement_limit) × (length lasting.old ≡ statement_limit) }
+    requires { Heads t.now heads.now rest × (length t.now ≤ text_limit) × (line ≤ length t.now) × (each sound (statements t.now) ≡ true) × (each sound (statement_at t.now line 0 ∷ left t.now (next_line t.now line)) ≡ true) × (length cells.old ≡ statement_limit) × (length lasting.old ≡ statement_limit) }
     ensures { Puts (cond (says a_section (statement_at t.now line 0)) (section_told t.now (statements t.now) at (statement_at t.now line 0) (left t.now (next_line t.now line))) nothing) (cond (says a_section (statement_at t.now line 0)) (section_bytes (section_of (statements t.now) (statement_at t.now line 0) (left t.now (next_line t.now line)))) []) out.old at out.new result }
 {
     if verb_at(t, line) == SECTION {
-        return make_section(out, at, t, heads, rest, line, cells, marks, lasting);
+        return make_section(out, at, t, heads, rest, line, cells, lasting);
     }
     refused(nothing(), put(out, at, b""))
 }
@@ -199,17 +174,16 @@ fn make_sections(
     t: &[u8],
     heads: &[usize],
     rest: usize,
-    cells: &mut [usize],
-    marks: &mut [usize],
-    lasting: &mut [usize],
+    cells: &mut [Cell],
+    lasting: &mut [Cell],
 ) -> Put
-    requires { Heads t.now heads.now rest × (at ≤ book_limit) × (length t.now ≤ text_limit) × (each sound (statements t.now) ≡ true) × (length cells.old ≡ statement_limit) × (length marks.old ≡ statement_limit) × (length lasting.old ≡ statement_limit) }
+    requires { Heads t.now heads.now rest × (at ≤ book_limit) × (length t.now ≤ text_limit) × (each sound (statements t.now) ≡ true) × (length cells.old ≡ statement_limit) × (length lasting.old ≡ statement_limit) }
     ensures { Puts (sections_told t.now (statements t.now) at (statements t.now)) (spell_all section_bytes (sections_in (statements t.now) (statements t.now))) out.old at out.new result }
 {
     let mut to = at;
     let mut line = next_statement(t, 0);
     while line <= t.len() {
-        let one = make_any(out, to, t, heads, rest, line, cells, marks, lasting);
+        let one = make_any(out, to, t, heads, rest, line, cells, lasting);
         if one.told.number != 0 {
             return one;
         }
@@ -224,22 +198,12 @@ fn make_book(out: &mut [u8], t: &[u8], heads: &[usize], rest: usize, sections: u
     requires { Heads t.now heads.now rest × (length t.now ≤ text_limit) × (each sound (statements t.now) ≡ true) × (sections ≡ length (meaning t.now)) × (sections ≤ 64) }
     ensures { Puts (sections_told t.now (statements t.now) 6 (statements t.now)) (book_bytes (meaning t.now)) out.old 0 out.new result }
 {
-    let mut cells = [0usize; STATEMENT_LIMIT];
-    let mut marks = [0usize; STATEMENT_LIMIT];
-    let mut lasting = [0usize; STATEMENT_LIMIT];
+    let mut cells = [NO_CELL; STATEMENT_LIMIT];
+    let mut lasting = [NO_CELL; STATEMENT_LIMIT];
     let second = put(out, 0, b"VXB");
     let third = put_two(out, second, 1);
     let fourth = put_byte(out, third, sections as u8);
-    make_sections(
-        out,
-        fourth,
-        t,
-        heads,
-        rest,
-        &mut cells,
-        &mut marks,
-        &mut lasting,
-    )
+    make_sections(out, fourth, t, heads, rest, &mut cells, &mut lasting)
 }
 
 // Rows 31 to 54 and 56. Where none holds, the book stands in the first bytes of the place, and the detail is its length.

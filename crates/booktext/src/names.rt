@@ -4,7 +4,7 @@ ghost use Rattle.booktext.specs.Lines.{number_from};
 ghost use Rattle.booktext.specs.Contents.{with_names, pinned, asks_code, named, names_of};
 ghost use Rattle.booktext.specs.Standing.{no_span, span_bytes, words_from, statement_at, noted, names_in, Names64, NamesMore};
 
-use crate::cell::{bound_at, line_in};
+use crate::cell::Cell;
 use crate::line::{next_word, part, skip_words, word_of};
 use crate::statement::verb_at;
 use crate::word::{CODE_KIND, SETS, is_rule, kind_number};
@@ -96,13 +96,12 @@ fn note_words(t: &[u8], names: Names, at: usize) -> Names
 }
 
 // The names with those of a statement's `sets`.
-fn note_sets(t: &[u8], names: Names, cell: usize) -> Names
+fn note_sets(t: &[u8], names: Names, cell: Cell) -> Names
     requires { length names.spans ≡ 64 }
     ensures { NamesMore t.now names result (pinned (noted t.now cell ∷ [])) }
 {
-    let line = line_in(cell);
-    if verb_at(t, line) == SETS {
-        return note_words(t, names, skip_words(t, line, 1));
+    if verb_at(t, cell.line) == SETS {
+        return note_words(t, names, skip_words(t, cell.line, 1));
     }
     names
 }
@@ -115,18 +114,18 @@ fn asks_code(t: &[u8], at: usize) -> bool
 }
 
 // The names with the one that a rule of kind CODE gives.
-fn note_code(t: &[u8], names: Names, cell: usize) -> Names
+fn note_code(t: &[u8], names: Names, cell: Cell) -> Names
     requires { length names.spans ≡ 64 }
     ensures { NamesMore t.now names result (named (noted t.now cell ∷ [])) }
 {
-    if asks_code(t, line_in(cell)) {
-        return note_name(t, names, next_word(t, bound_at(t, cell)));
+    if asks_code(t, cell.line) {
+        return note_name(t, names, next_word(t, cell.bound_at(t)));
     }
     names
 }
 
 // Those in `sets` lines of the statements noted in the cells.
-fn pinned_names(t: &[u8], cells: &[usize]) -> Names
+fn pinned_names(t: &[u8], cells: &[Cell]) -> Names
     ensures { Names64 t.now result (with_names [] (pinned (map (noted t.now) cells.now))) }
 {
     let mut names = no_names();
@@ -137,7 +136,7 @@ fn pinned_names(t: &[u8], cells: &[usize]) -> Names
 }
 
 // The sets that a section holds whose statements are noted in the cells.
-pub(crate) fn names_of(t: &[u8], cells: &[usize]) -> Names
+pub(crate) fn names_of(t: &[u8], cells: &[Cell]) -> Names
     ensures { Names64 t.now result (names_of (map (noted t.now) cells.now)) }
 {
     let mut names = pinned_names(t, cells);

@@ -7,7 +7,7 @@ ghost use Rattle.booktext.specs.Words.{place_in, is_place};
 ghost use Rattle.booktext.specs.Contents.{letter_of, made, rules_of};
 ghost use Rattle.booktext.specs.Standing.{CountsRules, noted, names_in, ready, place_bytes, bound_bytes};
 
-use crate::cell::{bound_at, line_in};
+use crate::cell::Cell;
 use crate::line::word_of;
 use crate::names::{Names, number_of};
 use crate::statement::verb_at;
@@ -16,26 +16,25 @@ use ack::output::{put, put_byte};
 use hl7::bytes::{byte_at, front, pick};
 
 // ---- how many
-pub(crate) fn count_rules(t: &[u8], cells: &[usize]) -> usize
+pub(crate) fn count_rules(t: &[u8], cells: &[Cell]) -> usize
     ensures { CountsRules (map (noted t.now) cells.now) result × (result ≤ length cells.now) }
 {
     let mut n = 0;
     for &cell in cells {
-        n = pick(is_rule(verb_at(t, line_in(cell))), n + 1, n);
+        n = pick(is_rule(verb_at(t, cell.line)), n + 1, n);
     }
     n
 }
 
 // ---- bytes
 // The severity that a section gives a statement, else its own.
-pub fn letter_of(t: &[u8], cell: usize) -> u8
+pub fn letter_of(t: &[u8], cell: Cell) -> u8
     ensures { result ≡ letter_of (noted t.now cell) }
 {
-    let given = (cell % 256) as u8;
-    if given == 0 {
-        return byte_at(word_of(t, line_in(cell), 3), 0);
+    if cell.given == 0 {
+        return byte_at(word_of(t, cell.line, 3), 0);
     }
-    given
+    cell.given
 }
 
 // Set number, low, high: 0 where the kind does not use them.
@@ -78,25 +77,24 @@ fn put_place(out: &mut [u8], at: usize, w: &[u8]) -> usize
 }
 
 // The ten bytes of a rule.
-fn put_rule(out: &mut [u8], at: usize, t: &[u8], cell: usize, names: Names) -> usize
+fn put_rule(out: &mut [u8], at: usize, t: &[u8], cell: Cell, names: Names) -> usize
     requires { (names.count ≤ 64) × (length names.spans ≡ 64) × (ready (noted t.now cell) ≡ true) × (makes_rule (noted t.now cell) ≡ true) }
     ensures { Wrote out.old at (rule_bytes (made (names_in t.now names) (noted t.now cell))) out.new result }
 {
-    let line = line_in(cell);
-    let bound = bound_at(t, cell);
+    let bound = cell.bound_at(t);
     let first = word_of(t, bound, 0);
-    let kind = kind_number(word_of(t, line, 2));
+    let kind = kind_number(word_of(t, cell.line, 2));
     let set = set_number(t, first, names);
     let low = number_in(first);
     let high = number_in(word_of(t, bound, 1));
-    let second = put_place(out, at, word_of(t, line, 1));
+    let second = put_place(out, at, word_of(t, cell.line, 1));
     let third = put_byte(out, second, kind);
     let fourth = put_byte(out, third, letter_of(t, cell));
     put_bound(out, fourth, kind, set, low, high)
 }
 
 // The rules of the statements in the cells.
-pub(crate) fn put_rules(out: &mut [u8], at: usize, t: &[u8], cells: &[usize], names: Names) -> usize
+pub(crate) fn put_rules(out: &mut [u8], at: usize, t: &[u8], cells: &[Cell], names: Names) -> usize
     requires { (names.count ≤ 64) × (length names.spans ≡ 64) × (each ready (map (noted t.now) cells.now) ≡ true) }
     ensures { Wrote out.old at (spell_all rule_bytes (rules_of (names_in t.now names) (map (noted t.now) cells.now))) out.new result }
 {
@@ -108,11 +106,11 @@ pub(crate) fn put_rules(out: &mut [u8], at: usize, t: &[u8], cells: &[usize], na
 }
 
 // The rule of a statement, where it makes one.
-fn put_made(out: &mut [u8], at: usize, t: &[u8], cell: usize, names: Names) -> usize
+fn put_made(out: &mut [u8], at: usize, t: &[u8], cell: Cell, names: Names) -> usize
     requires { (names.count ≤ 64) × (length names.spans ≡ 64) × (ready (noted t.now cell) ≡ true) }
     ensures { Wrote out.old at (spell_all rule_bytes (rules_of (names_in t.now names) (noted t.now cell ∷ []))) out.new result }
 {
-    if is_rule(verb_at(t, line_in(cell))) {
+    if is_rule(verb_at(t, cell.line)) {
         return put_rule(out, at, t, cell, names);
     }
     put(out, at, b"")

@@ -1,10 +1,11 @@
 // Rows 46 and 56: what a section takes over from commons, and its statements after inclusion, noted in lent cells.
-ghost use Rattle.std.specs.Prelude.{◌≡◌, not, ◌&&◌, List, [], ◌∷◌, map, ℕ, ◌≤◌, length};
-ghost use Rattle.booktext.specs.Lines.{statements, says, line_of, text_limit, a_use};
+ghost use Rattle.std.specs.Prelude.{◌≡◌, not, ◌&&◌, List, [], ◌∷◌, map, ℕ, length};
+ghost use Rattle.booktext.specs.Lines.{statements, says, line_of, a_use};
 ghost use Rattle.booktext.specs.Meaning.{give, taken, expand};
 ghost use Rattle.booktext.specs.Refusals.{is_first, used_twice, statement_limit};
-ghost use Rattle.booktext.specs.Standing.{statement_at, left, body_from, Heads, noted, Holds, NotesMore};
+ghost use Rattle.booktext.specs.Standing.{statement_at, left, body_from, Heads, noted, Marked, Holds, NotesMore};
 
+use crate::cell::{Cell, cell_at};
 use crate::heads::seek_head;
 use crate::line::{line_of, word_of};
 use crate::refer::is_first;
@@ -43,9 +44,9 @@ pub(crate) fn used_twice(t: &[u8], head: usize, start: usize) -> Told
 
 // ---- statements after inclusion
 // Notes one statement more.
-pub(crate) fn note_cell(cells: &mut [usize], count: usize, cell: usize) -> usize
+pub(crate) fn note_cell(cells: &mut [Cell], count: usize, cell: Cell) -> usize
     requires { length cells.old ≡ statement_limit }
-    ensures { (t : List ℕ) → NotesMore t cells.old count cells.new result (noted t cell ∷ []) }
+    ensures { (t : List ℕ) → Marked t cell → NotesMore t cells.old count cells.new result (noted t cell ∷ []) }
 {
     if STATEMENT_LIMIT <= count {
         return STATEMENT_LIMIT + 1;
@@ -55,16 +56,16 @@ pub(crate) fn note_cell(cells: &mut [usize], count: usize, cell: usize) -> usize
 }
 
 // Notes one by the position of its line, and the severity that it was given.
-fn note(t: &[u8], cells: &mut [usize], count: usize, at: usize, letter: u8) -> usize
-    requires { (length t.now ≤ text_limit) × (at ≤ length t.now) × (length cells.old ≡ statement_limit) }
+fn note(t: &[u8], cells: &mut [Cell], count: usize, at: usize, letter: u8) -> usize
+    requires { length cells.old ≡ statement_limit }
     ensures { NotesMore t.now cells.old count cells.new result ((statement_at t.now at letter ∷ [])) }
 {
-    note_cell(cells, count, at * 256 + letter as usize)
+    note_cell(cells, count, cell_at(t, at, letter))
 }
 
 // Notes the statements of a common, which begin at start.
-fn note_block(t: &[u8], cells: &mut [usize], count: usize, start: usize, letter: u8) -> usize
-    requires { (length t.now ≤ text_limit) × (length cells.old ≡ statement_limit) }
+fn note_block(t: &[u8], cells: &mut [Cell], count: usize, start: usize, letter: u8) -> usize
+    requires { length cells.old ≡ statement_limit }
     ensures { NotesMore t.now cells.old count cells.new result (map (give letter) (body_from t.now start)) }
 {
     let mut n = count;
@@ -84,11 +85,11 @@ fn note_taken(
     t: &[u8],
     heads: &[usize],
     rest: usize,
-    cells: &mut [usize],
+    cells: &mut [Cell],
     count: usize,
     at: usize,
 ) -> usize
-    requires { Heads t.now heads.now rest × (length t.now ≤ text_limit) × (length cells.old ≡ statement_limit) }
+    requires { Heads t.now heads.now rest × (length cells.old ≡ statement_limit) }
     ensures { NotesMore t.now cells.old count cells.new result (taken (statements t.now) (statement_at t.now at 0)) }
 {
     if verb_at(t, at) != USE {
@@ -112,11 +113,11 @@ fn note_both(
     t: &[u8],
     heads: &[usize],
     rest: usize,
-    cells: &mut [usize],
+    cells: &mut [Cell],
     count: usize,
     at: usize,
 ) -> usize
-    requires { Heads t.now heads.now rest × (length t.now ≤ text_limit) × (at ≤ length t.now) × (length cells.old ≡ statement_limit) }
+    requires { Heads t.now heads.now rest × (length cells.old ≡ statement_limit) }
     ensures { NotesMore t.now cells.old count cells.new result ((statement_at t.now at 0 ∷ taken (statements t.now) (statement_at t.now at 0))) }
 {
     let next = note(t, cells, count, at, 0);
@@ -128,10 +129,10 @@ pub fn note_section(
     t: &[u8],
     heads: &[usize],
     rest: usize,
-    cells: &mut [usize],
+    cells: &mut [Cell],
     start: usize,
 ) -> usize
-    requires { Heads t.now heads.now rest × (length t.now ≤ text_limit) × (length cells.old ≡ statement_limit) }
+    requires { Heads t.now heads.now rest × (length cells.old ≡ statement_limit) }
     ensures { Holds t.now cells.new result (expand (statements t.now) (body_from t.now start)) }
 {
     let mut n = 0;

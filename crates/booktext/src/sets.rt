@@ -8,10 +8,10 @@ ghost use Rattle.booktext.specs.Meaning.{from};
 ghost use Rattle.booktext.specs.Changes.{names_code, lessened, kept, added_by, added};
 ghost use Rattle.booktext.specs.Contents.{listed, codes_of, held};
 ghost use Rattle.booktext.specs.Refusals.{first_stray, first_bad_set};
-ghost use Rattle.booktext.specs.Standing.{words_from, statement_at, next_line, left, body_from, Finds, Heads, noted, mark_of, Marks, names_in, is_short, sound, ready, Spelt, Puts};
+ghost use Rattle.booktext.specs.Standing.{words_from, statement_at, next_line, left, body_from, Finds, Heads, noted, no_cell, Marked, Marks, names_in, is_short, sound, ready, Spelt, Puts};
 
 use crate::before::names_code;
-use crate::cell::{line_in, verb_in};
+use crate::cell::Cell;
 use crate::heads::seek_head;
 use crate::line::{line_of, next_word, part, skip_words, word_of};
 use crate::names::{Names, name_at, number_of};
@@ -68,45 +68,35 @@ fn put_none(out: &mut [u8], run: Run) -> Run
 }
 
 // Whether the statement of a cell takes a code from a set.
-fn takes_code(t: &[u8], cell: usize, mark: usize, name: &[u8], code: &[u8]) -> bool
-    requires { mark ≡ mark_of (noted t.now cell) }
+fn takes_code(t: &[u8], cell: Cell, name: &[u8], code: &[u8]) -> bool
+    requires { Marked t.now cell }
     ensures { result ≡ names_code a_less name.now code.now (noted t.now cell) }
 {
-    if verb_in(mark) == LESS {
-        return names_code(t, line_in(cell), name, code);
+    if cell.verb == LESS {
+        return names_code(t, cell.line, name, code);
     }
     false
 }
 
 // Whether one of the statements in the cells does.
-fn is_lessened(t: &[u8], cells: &[usize], marks: &[usize], name: &[u8], code: &[u8]) -> bool
-    requires { Marks (map (noted t.now) cells.now) marks.now }
+fn is_lessened(t: &[u8], cells: &[Cell], name: &[u8], code: &[u8]) -> bool
+    requires { Marks t.now cells.now }
     ensures { result ≡ lessened name.now code.now (map (noted t.now) cells.now) }
 {
-    let mut i = 0;
-    while i < cells.len() {
-        if takes_code(t, cells[i], marks[i], name, code) {
+    for &cell in cells {
+        if takes_code(t, cell, name, code) {
             return true;
         }
-        i += 1;
     }
     false
 }
 
 // A code of a set, unless one of the statements in the cells takes it.
-fn put_code(
-    out: &mut [u8],
-    run: Run,
-    t: &[u8],
-    cells: &[usize],
-    marks: &[usize],
-    name: &[u8],
-    code: &[u8],
-) -> Run
-    requires { Marks (map (noted t.now) cells.now) marks.now × (length code.now ≤ 255) }
+fn put_code(out: &mut [u8], run: Run, t: &[u8], cells: &[Cell], name: &[u8], code: &[u8]) -> Run
+    requires { Marks t.now cells.now × (length code.now ≤ 255) }
     ensures { Spelt (kept name.now (map (noted t.now) cells.now) (code.now ∷ [])) out.old run out.new result }
 {
-    if is_lessened(t, cells, marks, name, code) {
+    if is_lessened(t, cells, name, code) {
         return put_none(out, run);
     }
     Run {
@@ -116,16 +106,8 @@ fn put_code(
 }
 
 // Those of the words from a position on.
-fn put_words(
-    out: &mut [u8],
-    run: Run,
-    t: &[u8],
-    cells: &[usize],
-    marks: &[usize],
-    name: &[u8],
-    from: usize,
-) -> Run
-    requires { Marks (map (noted t.now) cells.now) marks.now × (each is_short (words_from t.now from) ≡ true) }
+fn put_words(out: &mut [u8], run: Run, t: &[u8], cells: &[Cell], name: &[u8], from: usize) -> Run
+    requires { Marks t.now cells.now × (each is_short (words_from t.now from) ≡ true) }
     ensures { Spelt (kept name.now (map (noted t.now) cells.now) (words_from t.now from)) out.old run out.new result }
 {
     let mut to = run;
@@ -135,131 +117,84 @@ fn put_words(
         if w.end <= w.start {
             return put_none(out, to);
         }
-        to = put_code(out, to, t, cells, marks, name, part(t, w));
+        to = put_code(out, to, t, cells, name, part(t, w));
         i = w.end;
     }
 }
 
 // Those of a line, where it is a code line.
-fn put_line(
-    out: &mut [u8],
-    run: Run,
-    t: &[u8],
-    cells: &[usize],
-    marks: &[usize],
-    name: &[u8],
-    line: usize,
-) -> Run
-    requires { Marks (map (noted t.now) cells.now) marks.now × (each is_short (listed (statement_at t.now line 0 ∷ [])) ≡ true) }
+fn put_line(out: &mut [u8], run: Run, t: &[u8], cells: &[Cell], name: &[u8], line: usize) -> Run
+    requires { Marks t.now cells.now × (each is_short (listed (statement_at t.now line 0 ∷ [])) ≡ true) }
     ensures { Spelt (kept name.now (map (noted t.now) cells.now) (listed (statement_at t.now line 0 ∷ []))) out.old run out.new result }
 {
     if verb_at(t, line) == CODE {
-        return put_words(out, run, t, cells, marks, name, skip_words(t, line, 1));
+        return put_words(out, run, t, cells, name, skip_words(t, line, 1));
     }
     put_none(out, run)
 }
 
 // Those of the code lines that begin at start.
-fn put_listed(
-    out: &mut [u8],
-    run: Run,
-    t: &[u8],
-    cells: &[usize],
-    marks: &[usize],
-    name: &[u8],
-    start: usize,
-) -> Run
-    requires { Marks (map (noted t.now) cells.now) marks.now × (each is_short (listed (body_from t.now start)) ≡ true) }
+fn put_listed(out: &mut [u8], run: Run, t: &[u8], cells: &[Cell], name: &[u8], start: usize) -> Run
+    requires { Marks t.now cells.now × (each is_short (listed (body_from t.now start)) ≡ true) }
     ensures { Spelt (kept name.now (map (noted t.now) cells.now) (listed (body_from t.now start))) out.old run out.new result }
 {
     let mut to = run;
     let mut at = next_in_body(t, start);
     while at <= t.len() {
-        to = put_line(out, to, t, cells, marks, name, at);
+        to = put_line(out, to, t, cells, name, at);
         at = next_in_body(t, next_line(t, at));
     }
     put_none(out, to)
 }
 
 // Those that statement i adds to a set, unless a later one takes them.
-fn put_more(
-    out: &mut [u8],
-    run: Run,
-    t: &[u8],
-    cells: &[usize],
-    marks: &[usize],
-    name: &[u8],
-    i: usize,
-) -> Run
-    requires { Marks (map (noted t.now) cells.now) marks.now × (i < length cells.now) × (each is_short (added_by name.now (noted t.now (get_or cells.now i 0))) ≡ true) }
-    ensures { Spelt (kept name.now (map (noted t.now) (drop (i + 1) cells.now)) (added_by name.now (noted t.now (get_or cells.now i 0)))) out.old run out.new result }
+fn put_more(out: &mut [u8], run: Run, t: &[u8], cells: &[Cell], name: &[u8], i: usize) -> Run
+    requires { Marks t.now cells.now × (i < length cells.now) × (each is_short (added_by name.now (noted t.now (get_or cells.now i no_cell))) ≡ true) }
+    ensures { Spelt (kept name.now (map (noted t.now) (drop (i + 1) cells.now)) (added_by name.now (noted t.now (get_or cells.now i no_cell)))) out.old run out.new result }
 {
-    let line = line_in(cells[i]);
-    if verb_in(marks[i]) != MORE {
+    let cell = cells[i];
+    if cell.verb != MORE {
         return put_none(out, run);
     }
-    if !same_bytes(word_of(t, line, 1), name) {
+    if !same_bytes(word_of(t, cell.line, 1), name) {
         return put_none(out, run);
     }
-    let from = skip_words(t, line, 2);
-    put_words(out, run, t, &cells[i + 1..], &marks[i + 1..], name, from)
+    let from = skip_words(t, cell.line, 2);
+    put_words(out, run, t, &cells[i + 1..], name, from)
 }
 
 // Those that the statements in the cells add.
-fn put_added(
-    out: &mut [u8],
-    run: Run,
-    t: &[u8],
-    cells: &[usize],
-    marks: &[usize],
-    name: &[u8],
-) -> Run
-    requires { Marks (map (noted t.now) cells.now) marks.now × (each ready (map (noted t.now) cells.now) ≡ true) }
+fn put_added(out: &mut [u8], run: Run, t: &[u8], cells: &[Cell], name: &[u8]) -> Run
+    requires { Marks t.now cells.now × (each ready (map (noted t.now) cells.now) ≡ true) }
     ensures { Spelt (added name.now (map (noted t.now) cells.now)) out.old run out.new result }
 {
     let mut to = run;
     for i in 0..cells.len() {
-        to = put_more(out, to, t, cells, marks, name, i);
+        to = put_more(out, to, t, cells, name, i);
     }
     put_none(out, to)
 }
 
 // Those that the set has in the text, whose own line is at a position; none where it is past the end.
-fn put_own(
-    out: &mut [u8],
-    run: Run,
-    t: &[u8],
-    cells: &[usize],
-    marks: &[usize],
-    name: &[u8],
-    line: usize,
-) -> Run
-    requires { Marks (map (noted t.now) cells.now) marks.now × Finds t.now (from a_set name.now (statements t.now)) (left t.now (next_line t.now line)) line × (each sound (statements t.now) ≡ true) }
+fn put_own(out: &mut [u8], run: Run, t: &[u8], cells: &[Cell], name: &[u8], line: usize) -> Run
+    requires { Marks t.now cells.now × Finds t.now (from a_set name.now (statements t.now)) (left t.now (next_line t.now line)) line × (each sound (statements t.now) ≡ true) }
     ensures { Spelt (kept name.now (map (noted t.now) cells.now) (codes_of (statements t.now) name.now)) out.old run out.new result }
 {
     if t.len() < line {
         return put_none(out, run);
     }
-    let own = put_words(out, run, t, cells, marks, name, skip_words(t, line, 2));
-    put_listed(out, own, t, cells, marks, name, next_line(t, line))
+    let own = put_words(out, run, t, cells, name, skip_words(t, line, 2));
+    put_listed(out, own, t, cells, name, next_line(t, line))
 }
 
 // All that it has in the section.
-fn put_held(
-    out: &mut [u8],
-    at: usize,
-    t: &[u8],
-    cells: &[usize],
-    marks: &[usize],
-    name: &[u8],
-    line: usize,
-) -> Run
-    requires { Marks (map (noted t.now) cells.now) marks.now × (each ready (map (noted t.now) cells.now) ≡ true) × Finds t.now (from a_set name.now (statements t.now)) (left t.now (next_line t.now line)) line × (each sound (statements t.now) ≡ true) }
+fn put_held(out: &mut [u8], at: usize, t: &[u8], cells: &[Cell], name: &[u8], line: usize) -> Run
+    requires { Marks t.now cells.now × (each ready (map (noted t.now) cells.now) ≡ true) × Finds t.now (from a_set name.now (statements t.now)) (left t.now (next_line t.now line)) line × (each sound (statements t.now) ≡ true) }
     ensures { Spelt (held (statements t.now) (map (noted t.now) cells.now) name.now) out.old (record { at = at; count = 0 }) out.new result }
 {
     let start = Run { at, count: 0 };
-    let own = put_own(out, start, t, cells, marks, name, line);
-    put_added(out, own, t, cells, marks, name)
+    let own = put_own(out, start, t, cells, name, line);
+    put_added(out, own, t, cells, name)
 }
 
 // ---- sets
@@ -271,15 +206,14 @@ fn put_set(
     heads: &[usize],
     rest: usize,
     head: usize,
-    cells: &[usize],
-    marks: &[usize],
+    cells: &[Cell],
     name: &[u8],
 ) -> Put
-    requires { Heads t.now heads.now rest × Marks (map (noted t.now) cells.now) marks.now × (each ready (map (noted t.now) cells.now) ≡ true) × (each sound (statements t.now) ≡ true) }
+    requires { Heads t.now heads.now rest × Marks t.now cells.now × (each ready (map (noted t.now) cells.now) ≡ true) × (each sound (statements t.now) ≡ true) }
     ensures { Puts (first_bad_set t.now (line_of t.now head) (statements t.now) (map (noted t.now) cells.now) (name.now ∷ [])) (set_bytes (held (statements t.now) (map (noted t.now) cells.now) name.now)) out.old at out.new result }
 {
     let line = seek_head(t, heads, rest, SET, name);
-    let count = put_held(&mut out[..0], 0, t, cells, marks, name, line).count;
+    let count = put_held(&mut out[..0], 0, t, cells, name, line).count;
     if (count < 1) | (CODE_COUNT_LIMIT < count) {
         return Put {
             told: tell(53, line_of(t, found_at(t, line)), line_of(t, head)),
@@ -289,7 +223,7 @@ fn put_set(
     let next = put_two(out, at, count);
     Put {
         told: nothing(),
-        at: put_held(out, next, t, cells, marks, name, line).at,
+        at: put_held(out, next, t, cells, name, line).at,
     }
 }
 // The sets with the names.
@@ -300,17 +234,16 @@ pub(crate) fn put_sets(
     heads: &[usize],
     rest: usize,
     head: usize,
-    cells: &[usize],
-    marks: &[usize],
+    cells: &[Cell],
     names: Names,
 ) -> Put
-    requires { Heads t.now heads.now rest × Marks (map (noted t.now) cells.now) marks.now × (each ready (map (noted t.now) cells.now) ≡ true) × (names.count ≤ 64) × (length names.spans ≡ 64) × (each sound (statements t.now) ≡ true) }
+    requires { Heads t.now heads.now rest × Marks t.now cells.now × (each ready (map (noted t.now) cells.now) ≡ true) × (names.count ≤ 64) × (length names.spans ≡ 64) × (each sound (statements t.now) ≡ true) }
     ensures { Puts (first_bad_set t.now (line_of t.now head) (statements t.now) (map (noted t.now) cells.now) (names_in t.now names)) (spell_all set_bytes (map (held (statements t.now) (map (noted t.now) cells.now)) (names_in t.now names))) out.old at out.new result }
 {
     let mut to = at;
     for i in 0..names.count {
         let name = name_at(t, names, i);
-        let one = put_set(out, to, t, heads, rest, head, cells, marks, name);
+        let one = put_set(out, to, t, heads, rest, head, cells, name);
         if one.told.number != 0 {
             return one;
         }
@@ -324,33 +257,25 @@ pub(crate) fn put_sets(
 
 // ---- row 52
 // Whether the statement of a cell changes a set that is none of these.
-fn is_stray(t: &[u8], cell: usize, mark: usize, names: Names) -> bool
-    requires { (names.count ≤ 64) × (length names.spans ≡ 64) × (mark ≡ mark_of (noted t.now cell)) }
+fn is_stray(t: &[u8], cell: Cell, names: Names) -> bool
+    requires { (names.count ≤ 64) × (length names.spans ≡ 64) × Marked t.now cell }
     ensures { result ≡ (of_codes (verb (noted t.now cell)) && not (among (word (noted t.now cell) 1) (names_in t.now names))) }
 {
-    if is_codes(verb_in(mark)) {
-        return number_of(t, names, word_of(t, line_in(cell), 1)) == 0;
+    if is_codes(cell.verb) {
+        return number_of(t, names, word_of(t, cell.line, 1)) == 0;
     }
     false
 }
 
 // The first of the statements in the cells that does, in a section with a head.
-pub(crate) fn first_stray(
-    t: &[u8],
-    head: usize,
-    cells: &[usize],
-    marks: &[usize],
-    names: Names,
-) -> Told
-    requires { (names.count ≤ 64) × (length names.spans ≡ 64) × Marks (map (noted t.now) cells.now) marks.now }
+pub(crate) fn first_stray(t: &[u8], head: usize, cells: &[Cell], names: Names) -> Told
+    requires { (names.count ≤ 64) × (length names.spans ≡ 64) × Marks t.now cells.now }
     ensures { result ≡ first_stray t.now (line_of t.now head) (names_in t.now names) (map (noted t.now) cells.now) }
 {
-    let mut i = 0;
-    while i < cells.len() {
-        if is_stray(t, cells[i], marks[i], names) {
-            return tell(52, line_of(t, line_in(cells[i])), line_of(t, head));
+    for &cell in cells {
+        if is_stray(t, cell, names) {
+            return tell(52, line_of(t, cell.line), line_of(t, head));
         }
-        i += 1;
     }
     nothing()
 }

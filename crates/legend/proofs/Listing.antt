@@ -10,7 +10,7 @@ use lib.ListN.{length, get_or, take, drop}
 use borrow.Author.Tests.{ne_eqb, leb-true, leb-false}
 use Rattle.hl7.specs.Text.{bytes}
 use Rattle.hl7.specs.declared.cut.Span.{Span}
-use Rattle.hl7.proofs.Comparing.{and_both, from_step, from_done, tail-whole}
+use Rattle.hl7.proofs.Comparing.{and_both}
 use Rattle.ack.specs.Decimal.{decimal}
 use Rattle.ack.specs.Layout.{joined, marked}
 use Rattle.ack.specs.Splice.{Wrote}
@@ -20,9 +20,10 @@ use Rattle.booktext.specs.Meaning.{body, expand}
 use Rattle.booktext.specs.Changes.{spot_of, amended, dropped}
 use Rattle.booktext.specs.Contents.{letter_of}
 use Rattle.booktext.specs.Refusals.{statement_limit}
-use Rattle.booktext.specs.Standing.{words_from, span_bytes, NextWord, statement_at, next_line, left, body_from, line_in, noted, mark_of, Marks, Finds, Holds}
+use Rattle.booktext.specs.Standing.{words_from, span_bytes, NextWord, statement_at, next_line, left, body_from, noted, no_cell, Marked, Marks, Finds, Holds}
+use Rattle.booktext.specs.declared.cell.Cell.{Cell}
 use Rattle.booktext.proofs.Completing.{Completes, completes_more, completes_over}
-use Rattle.booktext.proofs.Marking.{noted-at, line_first, line_second, mark_verb, mark_spot, mark_says, marks_at, marks_after, part_cells, later_cells}
+use Rattle.booktext.proofs.Marking.{noted-at, noted-first, noted_second, cells_step, cells_done, mark_says, mark_at, part_cells, part_marks, part_noted}
 use Rattle.booktext.proofs.Stating.{onward, onward-none, onward-some, found-onward, left-start}
 use Rattle.legend.specs.People.{line_at, people}
 use Rattle.legend.specs.Legend.{remark, remark_of, changes, later_remarks, rule_legend, stays, line_of_rule, rules_legend, section_legend, legend_in, legend}
@@ -38,8 +39,8 @@ remark-some [] n u v = absurd (n refl)
 remark-some (x ∷ words) n u v = u then v
 
 -- those of the line in a cell
-pub remark-noted : (t : List ℕ) (cell : ℕ) {line : ℕ} {words o p : List ℕ} {a b : ℕ} → line ≡ line_in cell → words ≡ people (line_at t line) → Wrote o a (remark words) p b → Wrote o a (remark_of t (noted t cell)) p b
-remark-noted t cell l e w = wrote_as w (ap remark (e ∙ ap (λ (n : ℕ). people (line_at t n)) (l ∙ sym (noted-at t cell))))
+pub remark-noted : (t : List ℕ) (cell : Cell) {words o p : List ℕ} {a b : ℕ} → words ≡ people (line_at t cell.line) → Wrote o a (remark words) p b → Wrote o a (remark_of t (noted t cell)) p b
+remark-noted t cell e w = wrote_as w (ap remark (e ∙ ap (λ (n : ℕ). people (line_at t n)) (sym (noted-at t cell))))
 
 -- ---- words with a blank in front
 module _ {t : List ℕ} {at : ℕ} {r : Span} (n : NextWord t at r) where
@@ -52,24 +53,23 @@ module _ {t : List ℕ} {at : ℕ} {r : Span} (n : NextWord t at r) where
   marked-over h = ap (marked 32) (n.none h)
 
 -- ---- a rule's words
-pub rule-listed : (t key : List ℕ) (cell n : ℕ) {line : ℕ} (bound : ℕ) {place kind : List ℕ} {letter : ℕ} {o p q r u v x z : List ℕ} {a b c d e f g i : ℕ}
-    → line ≡ line_in cell
+pub rule-listed : (t key : List ℕ) (cell : Cell) (n bound : ℕ) {place kind : List ℕ} {letter : ℕ} {o p q r u v x z : List ℕ} {a b c d e f g i : ℕ}
     → Wrote o a key p b → Wrote p b (32 ∷ decimal n) q c
-    → place ≡ get_or (words_from t line) 1 [] → Wrote q c (32 ∷ place) r d
-    → kind ≡ get_or (words_from t line) 2 [] → Wrote r d (32 ∷ kind) u e
+    → place ≡ get_or (words_from t cell.line) 1 [] → Wrote q c (32 ∷ place) r d
+    → kind ≡ get_or (words_from t cell.line) 2 [] → Wrote r d (32 ∷ kind) u e
     → Wrote u e (32 ∷ []) v f
     → letter ≡ letter_of (noted t cell) → Wrote v f (letter ∷ []) x g
     → words_from t bound ≡ drop 4 (noted t cell).words → Wrote x g (marked 32 (words_from t bound)) z i
     → Wrote o a (rule_words key n (noted t cell)) z i
 unfolding rule_words joined marked
-rule-listed t key cell n bound l wk wn ep wp ek wd wb el wl es wm =
+rule-listed t key cell n bound wk wn ep wp ek wd wb el wl es wm =
     wrote_as
-    (wk then wn then wrote_as wp (ap (λ (w : List ℕ). 32 ∷ w) (ep ∙ line_first t cell l)) then wrote_as wd (ap (λ (w : List ℕ). 32 ∷ w) (ek ∙ line_second t cell l)) then wb
+    (wk then wn then wrote_as wp (ap (λ (w : List ℕ). 32 ∷ w) (ep ∙ sym (noted-first t cell))) then wrote_as wd (ap (λ (w : List ℕ). 32 ∷ w) (ek ∙ sym (noted_second t cell))) then wb
     then wrote_as wl (ap (λ (w : ℕ). w ∷ []) el) then wrote_as wm (ap (marked 32) es))
     refl
 
 -- and its line, from its parts
-pub parts_listed : (t key : List ℕ) (n spot rule : ℕ) (s : Statement) (later : List Statement) {o p q r z : List ℕ} {a b c d e : ℕ}
+pub parts_listed : (t key : List ℕ) (n spot : ℕ) (rule : Cell) (s : Statement) (later : List Statement) {o p q r z : List ℕ} {a b c d e : ℕ}
     → noted t rule ≡ amended spot s later
     → Wrote o a (rule_words key n (noted t rule)) p b
     → Wrote p b (remark_of t s) q c
@@ -82,10 +82,10 @@ parts_listed t key n spot rule s later l wr wo wl we =
     (ap (λ (rest : List ℕ). rule_words key n (amended spot s later) ++ rest) (sym (append_assoc (remark_of t s) (later_remarks t spot later) (line_feed ∷ []))))
 
 -- ---- what later lines remark
-module _ (t : List ℕ) (spot cell : ℕ) {mark : ℕ} (m : mark ≡ mark_of (noted t cell)) {b c : Bool}
-    (e : b ≡ (eqb (mark % 16) a_severity && eqb (mark / 16) spot)) (f : c ≡ (eqb (mark % 16) a_bound && eqb (mark / 16) spot)) where
+module _ (t : List ℕ) (spot : ℕ) (cell : Cell) (m : Marked t cell) {b c : Bool}
+    (e : b ≡ (eqb cell.verb a_severity && eqb cell.spot spot)) (f : c ≡ (eqb cell.verb a_bound && eqb cell.spot spot)) where
   changes-is : {d : Bool} → (b || c) ≡ d → changes spot (noted t cell) ≡ d
-  changes-is h = ap₂ ◌||◌ (sym (mark_says (noted t cell) m a_severity spot e)) (sym (mark_says (noted t cell) m a_bound spot f)) ∙ h
+  changes-is h = ap₂ ◌||◌ (sym (mark_says t cell m a_severity spot e)) (sym (mark_says t cell m a_bound spot f)) ∙ h
 
   pub change_put : (b || c) ≡ true → {o p : List ℕ} {at r : ℕ} → Wrote o at (remark_of t (noted t cell)) p r → Wrote o at (later_remarks t spot (noted t cell ∷ [])) p r
   unfolding later_remarks
@@ -96,61 +96,54 @@ module _ (t : List ℕ) (spot cell : ℕ) {mark : ℕ} (m : mark ≡ mark_of (no
   change_none h w = wrote_as w (sym (rw (changes-is h)))
 
 -- the next of them, and those after it
-module _ (t : List ℕ) (spot : ℕ) {left : List ℕ} where
-  pub changes_next : {cell : ℕ} {cells : List ℕ} → left ≡ cell ∷ cells → later_remarks t spot (map (noted t) left) ≡ later_remarks t spot (noted t cell ∷ []) ++ later_remarks t spot (map (noted t) cells)
+module _ (t : List ℕ) (spot : ℕ) (cells : List Cell) (i : ℕ) where
+  pub changes_next : i < length cells → later_remarks t spot (map (noted t) (drop i cells)) ≡ later_remarks t spot (noted t (get_or cells i no_cell) ∷ []) ++ later_remarks t spot (map (noted t) (drop (i + 1) cells))
   unfolding later_remarks
-  changes_next {cell} {cells} e = ap (λ (l : List ℕ). later_remarks t spot (map (noted t) l)) e ∙ by (changes spot (noted t cell)) (remark_of t (noted t cell)) (later_remarks t spot (map (noted t) cells))
+  changes_next h =
+      ap (later_remarks t spot) (cells_step (noted t) cells i h)
+      ∙ by (changes spot (noted t (get_or cells i no_cell))) (remark_of t (noted t (get_or cells i no_cell))) (later_remarks t spot (map (noted t) (drop (i + 1) cells)))
     where
       by : (b : Bool) (own later : List ℕ) → cond b (own ++ later) later ≡ cond b (own ++ []) [] ++ later
       by true own later = ap (λ (l : List ℕ). l ++ later) (sym (append-nil own))
       by false own later = refl
 
-  pub changes-none : left ≡ [] → later_remarks t spot (map (noted t) left) ≡ []
+  pub changes-none : length cells ≤ i → later_remarks t spot (map (noted t) (drop i cells)) ≡ []
   unfolding later_remarks
-  changes-none e = ap (λ (l : List ℕ). later_remarks t spot (map (noted t) l)) e
-
-pub marks_next : (t : List ℕ) {left cells others marks : List ℕ} {cell mark : ℕ} → left ≡ cell ∷ cells → others ≡ mark ∷ marks → Marks (map (noted t) left) others → (mark ≡ mark_of (noted t cell)) × Marks (map (noted t) cells) marks
-marks_next t {cell = cell} {mark = mark} e f m =
-    let both = sym f ∙ m ∙ ap (λ (l : List ℕ). map mark_of (map (noted t) l)) e in
-    (ap (λ (l : List ℕ). get_or l 0 0) both, ap (drop 1) both)
+  changes-none h = ap (later_remarks t spot) (cells_done (noted t) cells i h)
 
 -- ---- a rule that stays
-module _ (marks : List ℕ) (i : ℕ) (s : Statement) (later : List Statement) (m : get_or marks i 0 ≡ mark_of s) (n : Marks later (drop (i + 1) marks))
-    {v : ℕ} {b : Bool} (f : v ≡ get_or marks i 0 % 16) (g : b ≡ of_rule v) where
-  ruled : {c : Bool} → b ≡ c → makes_rule s ≡ c
-  ruled e = ap of_rule (sym (mark_verb s m) ∙ sym f) ∙ sym g ∙ e
+module _ (t : List ℕ) (cells : List Cell) (i : ℕ) (m : Marks t cells) (h : i < length cells) where
+  abbrev it : Cell
+  it = get_or cells i no_cell
 
-  pub stays-not : b ≡ false → false ≡ stays s later
-  stays-not e = sym (ap (λ (x : Bool). x && not (dropped (spot_of s) later)) (ruled e))
-
-  pub stays_if : {spot : ℕ} {gone : Bool} → b ≡ true → spot ≡ get_or marks i 0 / 16
-      → ((ss : List Statement) → Marks ss (take (length marks - (i + 1)) (drop (i + 1) marks)) → gone ≡ dropped spot ss) → not gone ≡ stays s later
-  stays_if e k d =
-      ap not (d later (tail-whole marks (i + 1) ∙ n) ∙ ap (λ (x : ℕ). dropped x later) (k ∙ mark_spot s m))
-      ∙ sym (ap (λ (x : Bool). x && not (dropped (spot_of s) later)) (ruled e))
-
--- the same of the statement in a cell
-module _ (t cells marks : List ℕ) (i : ℕ) (m : Marks (map (noted t) cells) marks) (h : i < length cells) where
   abbrev s : Statement
-  s = noted t (get_or cells i 0)
+  s = noted t it
 
   abbrev after_it : List Statement
   after_it = map (noted t) (drop (i + 1) cells)
 
-  pub stays_here : {b : Bool} → ((s : Statement) (later : List Statement) → get_or marks i 0 ≡ mark_of s → Marks later (drop (i + 1) marks) → b ≡ stays s later) → b ≡ stays s after_it
-  stays_here k = k s after_it (marks_at t cells marks i m h) (marks_after t cells marks (i + 1) m)
+  module _ {b : Bool} (g : b ≡ of_rule it.verb) where
+    ruled : {c : Bool} → b ≡ c → makes_rule s ≡ c
+    ruled e = ap of_rule (sym (mark_at t cells i m h).by_verb) ∙ sym g ∙ e
+
+    pub stays-not : b ≡ false → false ≡ stays s after_it
+    stays-not e = sym (ap (λ (x : Bool). x && not (dropped (spot_of s) after_it)) (ruled e))
+
+    pub stays_if : {gone : Bool} → b ≡ true → ((t : List ℕ) → Marks t (part_cells t cells i) → gone ≡ dropped it.spot (map (noted t) (part_cells t cells i))) → not gone ≡ stays s after_it
+    stays_if e d =
+        ap not (d t (part_marks t cells i m) ∙ ap₂ dropped (mark_at t cells i m h).by_spot (part_noted t cells i))
+        ∙ sym (ap (λ (x : Bool). x && not (dropped (spot_of s) after_it)) (ruled e))
 
   pub stays-rule : {b : Bool} → b ≡ stays s after_it → b ≡ true → makes_rule s ≡ true
   stays-rule e f = (and_both (makes_rule s) (not (dropped (spot_of s) after_it)) (sym e ∙ f)).0
 
   -- its line, by the part of the cells that follows
-  pub line-listed : (key : List ℕ) (n : ℕ) {spot : ℕ} {o p : List ℕ} {a b : ℕ}
-      → spot ≡ get_or marks i 0 / 16
-      → Wrote o a (rule_legend t key n (amended spot s (map (noted t) (part_cells t cells marks i m))) (remark_of t s ++ later_remarks t spot (map (noted t) (part_cells t cells marks i m)))) p b
+  pub line-listed : (key : List ℕ) (n : ℕ) {o p : List ℕ} {a b : ℕ}
+      → Wrote o a (rule_legend t key n (amended it.spot s (map (noted t) (part_cells t cells i))) (remark_of t s ++ later_remarks t it.spot (map (noted t) (part_cells t cells i)))) p b
       → Wrote o a (line_of_rule t key n s after_it) p b
-  line-listed key n k w =
+  line-listed key n w =
       wrote_as w
-      (ap₂ (λ (spot : ℕ) (ss : List Statement). rule_legend t key n (amended spot s ss) (remark_of t s ++ later_remarks t spot ss)) (k ∙ mark_spot s (marks_at t cells marks i m h)) (later_cells t cells marks i m))
+      (ap₂ (λ (spot : ℕ) (ss : List Statement). rule_legend t key n (amended spot s ss) (remark_of t s ++ later_remarks t spot ss)) (mark_at t cells i m h).by_spot (part_noted t cells i))
 
   -- if it stays
   pub made-listed : (key : List ℕ) (n : ℕ) {b : Bool} {o p : List ℕ} {a c : ℕ} → b ≡ stays s after_it → b ≡ true → Wrote o a (line_of_rule t key n s after_it) p c → Wrote o a (line_if_stays t key n s after_it) p c
@@ -171,34 +164,34 @@ module _ (t cells marks : List ℕ) (i : ℕ) (m : Marks (map (noted t) cells) m
       by false = refl
 
 -- whoever lists the rules of the cells left has listed all, and no number is larger than the cells let it be
-pub record Listing (t key cells o : List ℕ) (at : ℕ) (out : List ℕ) (to n i : ℕ) : Type 0 where
+pub record Listing (t key : List ℕ) (cells : List Cell) (o : List ℕ) (at : ℕ) (out : List ℕ) (to n i : ℕ) : Type 0 where
   pub few : n ≤ i + 1
   pub lists : Completes (rules_legend t key 1 (map (noted t) cells)) (rules_legend t key n (map (noted t) (drop i cells))) o at out to
 
-pub listing_none : (t key cells o : List ℕ) (at : ℕ) → Listing t key cells o at o at 1 0
+pub listing_none : (t key : List ℕ) (cells : List Cell) (o : List ℕ) (at : ℕ) → Listing t key cells o at o at 1 0
 listing_none t key cells o at = record { few = omega arith; lists = λ after r w. w }
 
-module _ {t key cells o : List ℕ} {at : ℕ} {out : List ℕ} {to n i : ℕ} (l : Listing t key cells o at out to n i) where
-  pub listing_more : (marks : List ℕ) (m : Marks (map (noted t) cells) marks) (h : i < length cells) {next : List ℕ} {end k : ℕ}
-      → Wrote out to (line_if_stays t key n (noted t (get_or cells i 0)) (map (noted t) (drop (i + 1) cells))) next end
-      → ((s : Statement) (later : List Statement) → get_or marks i 0 ≡ mark_of s → Marks later (drop (i + 1) marks) → k ≡ cond (stays s later) (n + 1) n) × (k ≤ n + 1)
+module _ {t key : List ℕ} {cells : List Cell} {o : List ℕ} {at : ℕ} {out : List ℕ} {to n i : ℕ} (l : Listing t key cells o at out to n i) where
+  pub listing_more : (m : Marks t cells) (h : i < length cells) {next : List ℕ} {end k : ℕ}
+      → Wrote out to (line_if_stays t key n (noted t (get_or cells i no_cell)) (map (noted t) (drop (i + 1) cells))) next end
+      → ((t : List ℕ) → Marks t cells → k ≡ cond (stays (noted t (get_or cells i no_cell)) (map (noted t) (drop (i + 1) cells))) (n + 1) n) × (k ≤ n + 1)
       → Listing t key cells o at next end k (i + 1)
-  listing_more marks m h {k = k} w e =
+  listing_more m h {k = k} w e =
       record {
         few = omega (arith, l.few, e.1);
         lists =
             completes_more l.lists
-            (ap (rules_legend t key n) (from_step (noted t) cells i h)
-            ∙ rules_go_on t cells marks i m h key n k (e.0 (noted t (get_or cells i 0)) (map (noted t) (drop (i + 1) cells)) (marks_at t cells marks i m h) (marks_after t cells marks (i + 1) m)))
+            (ap (rules_legend t key n) (cells_step (noted t) cells i h)
+            ∙ rules_go_on t cells i m h key n k (e.0 t m))
             w;
       }
 
   pub listing_over : length cells ≤ i → {after : List ℕ} {r : ℕ} → Wrote out to [] after r → Wrote o at (rules_legend t key 1 (map (noted t) cells)) after r
   unfolding rules_legend
-  listing_over h w = completes_over l.lists (ap (rules_legend t key n) (from_done (noted t) cells i h)) w
+  listing_over h w = completes_over l.lists (ap (rules_legend t key n) (cells_done (noted t) cells i h)) w
 
 -- ---- a section
-pub all_noted : (t : List ℕ) (head : ℕ) {cells : List ℕ} {count next : ℕ} → next ≡ next_line t head → Holds t cells count (expand (statements t) (body_from t next))
+pub all_noted : (t : List ℕ) (head : ℕ) {cells : List Cell} {count next : ℕ} → next ≡ next_line t head → Holds t cells count (expand (statements t) (body_from t next))
     → length (expand (statements t) (body_from t (next_line t head))) ≤ statement_limit → count ≤ statement_limit
 all_noted t head {count = count} {next} e h room = by (leb count statement_limit) refl
   where
@@ -206,7 +199,7 @@ all_noted t head {count = count} {next} e h room = by (leb count statement_limit
     by true f = leb-true count statement_limit f
     by false f = omega (arith, room, h.over (leb-false count statement_limit f), ap (λ (at : ℕ). length (expand (statements t) (body_from t at))) e)
 
-pub section-listed : (t : List ℕ) (head : ℕ) {key words o p q r u z cells : List ℕ} {a b c d e f count next : ℕ}
+pub section-listed : (t : List ℕ) (head : ℕ) {key words o p q r u z : List ℕ} {cells : List Cell} {a b c d e f count next : ℕ}
     → key ≡ word (statement_at t head 0) 1
     → next ≡ next_line t head → Holds t cells count (expand (statements t) (body_from t next)) → count ≤ statement_limit
     → Wrote o a key p b → Wrote p b (bytes " 0") q c

@@ -1,18 +1,18 @@
 // A line for each section of a text and each of its rules.
-ghost use Rattle.std.specs.Prelude.{◌≡◌, true, cond, List, [], ◌∷◌, ◌++◌, map, ◌+◌, ◌≤◌, ◌<◌, length, get_or, drop};
+ghost use Rattle.std.specs.Prelude.{◌≡◌, true, cond, List, ℕ, [], ◌∷◌, ◌++◌, map, ◌+◌, ◌≤◌, ◌<◌, length, get_or, drop};
 ghost use Rattle.ack.specs.Splice.{Wrote};
 ghost use Rattle.ack.specs.Layout.{marked};
-ghost use Rattle.booktext.specs.Lines.{Statement, statements, makes_rule, says, text_limit, a_section};
+ghost use Rattle.booktext.specs.Lines.{statements, makes_rule, says, text_limit, a_section};
 ghost use Rattle.booktext.specs.Meaning.{expand};
 ghost use Rattle.booktext.specs.Changes.{amended};
 ghost use Rattle.booktext.specs.Refusals.{statement_limit, refusal, written};
-ghost use Rattle.booktext.specs.Standing.{words_from, statement_at, next_line, left, body_from, noted, mark_of, Marks, Heads};
+ghost use Rattle.booktext.specs.Standing.{words_from, statement_at, next_line, left, body_from, noted, no_cell, Marked, Marks, Heads};
 ghost use Rattle.legend.specs.Legend.{remark, remark_of, later_remarks, rule_legend, stays, line_of_rule, rules_legend, section_legend, legend, legend_of};
 ghost use Rattle.legend.specs.Standing.{rule_words, line_if_stays, roomy};
 
 use crate::people::{LINE_FEED, people_at};
 use ack::output::{put, put_byte, put_field, put_number};
-use booktext::cell::{bound_at, line_in, note_marks, says_of, spot_in, verb_in};
+use booktext::cell::{Cell, NO_CELL};
 use booktext::change::{amended, is_dropped};
 use booktext::compile::make;
 use booktext::heads::{HEAD_LIMIT, note_heads};
@@ -54,59 +54,51 @@ fn put_words(out: &mut [u8], at: usize, t: &[u8], from: usize) -> usize
 }
 
 // The words of the rule in a cell, by its number in a section with a key.
-fn put_rule(out: &mut [u8], at: usize, t: &[u8], cell: usize, key: &[u8], n: usize) -> usize
+fn put_rule(out: &mut [u8], at: usize, t: &[u8], cell: Cell, key: &[u8], n: usize) -> usize
     requires { makes_rule (noted t.now cell) ≡ true }
     ensures { Wrote out.old at (rule_words key.now n (noted t.now cell)) out.new result }
 {
-    let line = line_in(cell);
     let second = put(out, at, key);
     let third = put_number(out, second, b' ', n);
-    let fourth = put_field(out, third, b' ', word_of(t, line, 1));
-    let fifth = put_field(out, fourth, b' ', word_of(t, line, 2));
+    let fourth = put_field(out, third, b' ', word_of(t, cell.line, 1));
+    let fifth = put_field(out, fourth, b' ', word_of(t, cell.line, 2));
     let sixth = put_byte(out, fifth, b' ');
     let seventh = put_byte(out, sixth, letter_of(t, cell));
-    put_words(out, seventh, t, bound_at(t, cell))
+    put_words(out, seventh, t, cell.bound_at(t))
 }
 
 // What the line of a cell remarks, where it gives a place and kind another severity or bound.
-fn put_change(out: &mut [u8], at: usize, t: &[u8], spot: usize, cell: usize, mark: usize) -> usize
-    requires { mark ≡ mark_of (noted t.now cell) }
+fn put_change(out: &mut [u8], at: usize, t: &[u8], spot: usize, cell: Cell) -> usize
+    requires { Marked t.now cell }
     ensures { Wrote out.old at (later_remarks t.now spot (noted t.now cell ∷ [])) out.new result }
 {
-    if says_of(mark, SEVERITY, spot) | says_of(mark, BOUND, spot) {
-        return put_remark(out, at, people_at(t, line_in(cell)));
+    if cell.says_of(SEVERITY, spot) | cell.says_of(BOUND, spot) {
+        return put_remark(out, at, people_at(t, cell.line));
     }
     put(out, at, b"")
 }
 
 // The same of all cells.
-fn put_changes(
-    out: &mut [u8],
-    at: usize,
-    t: &[u8],
-    spot: usize,
-    cells: &[usize],
-    marks: &[usize],
-) -> usize
-    requires { Marks (map (noted t.now) cells.now) marks.now }
+fn put_changes(out: &mut [u8], at: usize, t: &[u8], spot: usize, cells: &[Cell]) -> usize
+    requires { Marks t.now cells.now }
     ensures { Wrote out.old at (later_remarks t.now spot (map (noted t.now) cells.now)) out.new result }
 {
     let mut to = at;
-    for (cell, mark) in cells.iter().zip(marks) {
-        to = put_change(out, to, t, spot, *cell, *mark);
+    for &cell in cells {
+        to = put_change(out, to, t, spot, cell);
     }
     put(out, to, b"")
 }
 
 // ---- a section
 // Whether statement i makes a rule that none of those that follow drops.
-fn is_staying(marks: &[usize], i: usize) -> bool
-    requires { i < length marks.now }
-    ensures { (s : Statement) (later : List Statement) → get_or marks.now i 0 ≡ mark_of s → Marks later (drop (i + 1) marks.now) → result ≡ stays s later }
+fn is_staying(cells: &[Cell], i: usize) -> bool
+    requires { i < length cells.now }
+    ensures { (t : List ℕ) → Marks t cells.now → result ≡ stays (noted t (get_or cells.now i no_cell)) (map (noted t) (drop (i + 1) cells.now)) }
 {
-    let mark = marks[i];
-    if is_rule(verb_in(mark)) {
-        return !is_dropped(&marks[i + 1..], spot_in(mark));
+    let cell = cells[i];
+    if is_rule(cell.verb) {
+        return !is_dropped(&cells[i + 1..], cell.spot);
     }
     false
 }
@@ -116,20 +108,19 @@ fn put_amended(
     out: &mut [u8],
     at: usize,
     t: &[u8],
-    cell: usize,
+    cell: Cell,
     spot: usize,
-    cells: &[usize],
-    marks: &[usize],
+    cells: &[Cell],
     key: &[u8],
     n: usize,
 ) -> usize
-    requires { Marks (map (noted t.now) cells.now) marks.now × (makes_rule (noted t.now cell) ≡ true) }
+    requires { Marks t.now cells.now × (makes_rule (noted t.now cell) ≡ true) }
     ensures { Wrote out.old at (rule_legend t.now key.now n (amended spot (noted t.now cell) (map (noted t.now) cells.now)) (remark_of t.now (noted t.now cell) ++ later_remarks t.now spot (map (noted t.now) cells.now))) out.new result }
 {
-    let rule = amended(t, cell, spot, cells, marks);
+    let rule = amended(t, cell, spot, cells);
     let second = put_rule(out, at, t, rule, key, n);
-    let third = put_remark(out, second, people_at(t, line_in(cell)));
-    let fourth = put_changes(out, third, t, spot, cells, marks);
+    let third = put_remark(out, second, people_at(t, cell.line));
+    let fourth = put_changes(out, third, t, spot, cells);
     put_byte(out, fourth, LINE_FEED)
 }
 
@@ -138,19 +129,17 @@ fn put_line(
     out: &mut [u8],
     at: usize,
     t: &[u8],
-    cells: &[usize],
-    marks: &[usize],
+    cells: &[Cell],
     i: usize,
     key: &[u8],
     n: usize,
 ) -> usize
-    requires { Marks (map (noted t.now) cells.now) marks.now × (i < length cells.now) × (makes_rule (noted t.now (get_or cells.now i 0)) ≡ true) }
-    ensures { Wrote out.old at (line_of_rule t.now key.now n (noted t.now (get_or cells.now i 0)) (map (noted t.now) (drop (i + 1) cells.now))) out.new result }
+    requires { Marks t.now cells.now × (i < length cells.now) × (makes_rule (noted t.now (get_or cells.now i no_cell)) ≡ true) }
+    ensures { Wrote out.old at (line_of_rule t.now key.now n (noted t.now (get_or cells.now i no_cell)) (map (noted t.now) (drop (i + 1) cells.now))) out.new result }
 {
     let cell = cells[i];
-    let spot = spot_in(marks[i]);
     let later = &cells[i + 1..];
-    put_amended(out, at, t, cell, spot, later, &marks[i + 1..], key, n)
+    put_amended(out, at, t, cell, cell.spot, later, key, n)
 }
 
 // That line, if it stays.
@@ -158,46 +147,38 @@ fn put_made(
     out: &mut [u8],
     at: usize,
     t: &[u8],
-    cells: &[usize],
-    marks: &[usize],
+    cells: &[Cell],
     i: usize,
     key: &[u8],
     n: usize,
 ) -> usize
-    requires { Marks (map (noted t.now) cells.now) marks.now × (i < length cells.now) }
-    ensures { Wrote out.old at (line_if_stays t.now key.now n (noted t.now (get_or cells.now i 0)) (map (noted t.now) (drop (i + 1) cells.now))) out.new result }
+    requires { Marks t.now cells.now × (i < length cells.now) }
+    ensures { Wrote out.old at (line_if_stays t.now key.now n (noted t.now (get_or cells.now i no_cell)) (map (noted t.now) (drop (i + 1) cells.now))) out.new result }
 {
-    if is_staying(marks, i) {
-        return put_line(out, at, t, cells, marks, i, key, n);
+    if is_staying(cells, i) {
+        return put_line(out, at, t, cells, i, key, n);
     }
     put(out, at, b"")
 }
 
 // The number of the next rule after statement i.
-fn number_after(marks: &[usize], i: usize, n: usize) -> usize
-    requires { (n ≤ statement_limit) × (i < length marks.now) }
-    ensures { ((s : Statement) (later : List Statement) → get_or marks.now i 0 ≡ mark_of s → Marks later (drop (i + 1) marks.now) → result ≡ cond (stays s later) (n + 1) n) × (result ≤ n + 1) }
+fn number_after(cells: &[Cell], i: usize, n: usize) -> usize
+    requires { (n ≤ statement_limit) × (i < length cells.now) }
+    ensures { ((t : List ℕ) → Marks t cells.now → result ≡ cond (stays (noted t (get_or cells.now i no_cell)) (map (noted t) (drop (i + 1) cells.now))) (n + 1) n) × (result ≤ n + 1) }
 {
-    pick(is_staying(marks, i), n + 1, n)
+    pick(is_staying(cells, i), n + 1, n)
 }
 
 // The rules of the statements in the cells.
-fn put_rules(
-    out: &mut [u8],
-    at: usize,
-    t: &[u8],
-    cells: &[usize],
-    marks: &[usize],
-    key: &[u8],
-) -> usize
-    requires { Marks (map (noted t.now) cells.now) marks.now × (length cells.now ≤ statement_limit) }
+fn put_rules(out: &mut [u8], at: usize, t: &[u8], cells: &[Cell], key: &[u8]) -> usize
+    requires { Marks t.now cells.now × (length cells.now ≤ statement_limit) }
     ensures { Wrote out.old at (rules_legend t.now key.now 1 (map (noted t.now) cells.now)) out.new result }
 {
     let mut to = at;
     let mut n = 1;
     for i in 0..cells.len() {
-        to = put_made(out, to, t, cells, marks, i, key, n);
-        n = number_after(marks, i, n);
+        to = put_made(out, to, t, cells, i, key, n);
+        n = number_after(cells, i, n);
     }
     put(out, to, b"")
 }
@@ -210,10 +191,9 @@ fn put_section(
     heads: &[usize],
     rest: usize,
     head: usize,
-    cells: &mut [usize],
-    marks: &mut [usize],
+    cells: &mut [Cell],
 ) -> usize
-    requires { Heads t.now heads.now rest × (length t.now ≤ text_limit) × (head ≤ length t.now) × (length cells.old ≡ statement_limit) × (length marks.old ≡ statement_limit) × (length (expand (statements t.now) (body_from t.now (next_line t.now head))) ≤ statement_limit) }
+    requires { Heads t.now heads.now rest × (length t.now ≤ text_limit) × (head ≤ length t.now) × (length cells.old ≡ statement_limit) × (length (expand (statements t.now) (body_from t.now (next_line t.now head))) ≤ statement_limit) }
     ensures { Wrote out.old at (section_legend t.now (statements t.now) (statement_at t.now head 0) (left t.now (next_line t.now head))) out.new result }
 {
     let key = word_of(t, head, 1);
@@ -222,8 +202,7 @@ fn put_section(
     let third = put(out, second, b" 0");
     let fourth = put_remark(out, third, people_at(t, head));
     let fifth = put_byte(out, fourth, LINE_FEED);
-    note_marks(t, &cells[..count], marks);
-    put_rules(out, fifth, t, &cells[..count], &marks[..count], key)
+    put_rules(out, fifth, t, &cells[..count], key)
 }
 
 // ---- the text
@@ -235,34 +214,26 @@ fn put_any(
     heads: &[usize],
     rest: usize,
     line: usize,
-    cells: &mut [usize],
-    marks: &mut [usize],
+    cells: &mut [Cell],
 ) -> usize
-    requires { Heads t.now heads.now rest × (length t.now ≤ text_limit) × (line ≤ length t.now) × (length cells.old ≡ statement_limit) × (length marks.old ≡ statement_limit) × (roomy (statements t.now) (statement_at t.now line 0 ∷ left t.now (next_line t.now line)) ≡ true) }
+    requires { Heads t.now heads.now rest × (length t.now ≤ text_limit) × (line ≤ length t.now) × (length cells.old ≡ statement_limit) × (roomy (statements t.now) (statement_at t.now line 0 ∷ left t.now (next_line t.now line)) ≡ true) }
     ensures { Wrote out.old at (cond (says a_section (statement_at t.now line 0)) (section_legend t.now (statements t.now) (statement_at t.now line 0) (left t.now (next_line t.now line))) []) out.new result }
 {
     if verb_at(t, line) == SECTION {
-        return put_section(out, at, t, heads, rest, line, cells, marks);
+        return put_section(out, at, t, heads, rest, line, cells);
     }
     put(out, at, b"")
 }
 
 // The sections of a text, from its first line on.
-fn put_sections(
-    out: &mut [u8],
-    t: &[u8],
-    heads: &[usize],
-    rest: usize,
-    cells: &mut [usize],
-    marks: &mut [usize],
-) -> usize
-    requires { Heads t.now heads.now rest × (length t.now ≤ text_limit) × (roomy (statements t.now) (statements t.now) ≡ true) × (length cells.old ≡ statement_limit) × (length marks.old ≡ statement_limit) }
+fn put_sections(out: &mut [u8], t: &[u8], heads: &[usize], rest: usize, cells: &mut [Cell]) -> usize
+    requires { Heads t.now heads.now rest × (length t.now ≤ text_limit) × (roomy (statements t.now) (statements t.now) ≡ true) × (length cells.old ≡ statement_limit) }
     ensures { Wrote out.old 0 (legend t.now) out.new result }
 {
     let mut to = 0;
     let mut line = next_statement(t, 0);
     while line <= t.len() {
-        to = put_any(out, to, t, heads, rest, line, cells, marks);
+        to = put_any(out, to, t, heads, rest, line, cells);
         line = next_statement(t, next_line(t, line));
     }
     put(out, to, b"")
@@ -273,9 +244,8 @@ fn put_legend(out: &mut [u8], t: &[u8], heads: &[usize], rest: usize) -> usize
     requires { Heads t.now heads.now rest × (length t.now ≤ text_limit) × (roomy (statements t.now) (statements t.now) ≡ true) }
     ensures { Wrote out.old 0 (legend t.now) out.new result }
 {
-    let mut cells = [0usize; STATEMENT_LIMIT];
-    let mut marks = [0usize; STATEMENT_LIMIT];
-    put_sections(out, t, heads, rest, &mut cells, &mut marks)
+    let mut cells = [NO_CELL; STATEMENT_LIMIT];
+    put_sections(out, t, heads, rest, &mut cells)
 }
 
 // It is written onto no byte first, which tells its length.

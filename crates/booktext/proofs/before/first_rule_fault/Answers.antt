@@ -9,7 +9,7 @@ rule_fault-fault-requires c = (c.requires.0, c.requires.1, c.loop-i-test.true)
 pub returns-then-fault-ne0 : goal.returns-then-fault-ne0
 returns-then-fault-ne0 c =
     let a = c.args in
-    fault-told a.t.now a.cells.now a.head c.loop-i.i c.loop-i-test.true c.rule_fault-fault.ensures c.if-fault-ne0.true c.line_in.ensures.0 c.line_of.ensures c.line_of-then-fault-ne0.ensures c.tell.ensures
+    fault-told a.t.now a.cells.now a.head c.loop-i.i c.loop-i-test.true c.rule_fault-fault.ensures c.if-fault-ne0.true c.line_of.ensures c.line_of-then-fault-ne0.ensures c.tell.ensures
     ∙ sym c.loop-i.invariant
 
 pub loop-i-preserved : goal.loop-i-preserved

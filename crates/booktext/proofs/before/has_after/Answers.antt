@@ -7,14 +7,14 @@ use Rattle.booktext.proofs.before.has_after.Goals as goal
 pub returns-then-not-is_codes : goal.returns-then-not-is_codes
 returns-then-not-is_codes c =
     let a = c.args in
-    after_other a.t.now a.name.now a.code.now a.so a.cell a.mark c.requires c.verb_in-verb.ensures c.is_codes.ensures (ap not c.if-not-is_codes.true)
+    after_other a.t.now a.name.now a.code.now a.so a.cell c.requires c.is_codes.ensures (ap not c.if-not-is_codes.true)
 
 pub returns-then-names_code : goal.returns-then-names_code
 returns-then-names_code c =
     let a = c.args in
-    after-named a.t.now a.name.now a.code.now a.so a.cell a.mark c.requires c.verb_in-verb.ensures c.is_codes.ensures (ap not c.if-not-is_codes.false) c.line_in.ensures.0 c.names_code.ensures c.if-names_code.true
+    after-named a.t.now a.name.now a.code.now a.so a.cell c.requires c.is_codes.ensures (ap not c.if-not-is_codes.false) c.names_code.ensures c.if-names_code.true
 
 pub returns : goal.returns
 returns c =
     let a = c.args in
-    after-not a.t.now a.name.now a.code.now a.so a.cell a.mark c.requires c.verb_in-verb.ensures c.is_codes.ensures (ap not c.if-not-is_codes.false) c.line_in.ensures.0 c.names_code.ensures c.if-names_code.false
+    after-not a.t.now a.name.now a.code.now a.so a.cell c.requires c.is_codes.ensures (ap not c.if-not-is_codes.false) c.names_code.ensures c.if-names_code.false

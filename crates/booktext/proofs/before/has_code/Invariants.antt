@@ -1,11 +1,6 @@
 -- `booktext::before::has_code` meets its contract. The invariant of its loop: the set has the code after all if it has it after those that are left, where it had it or not after those passed. Assumes nothing.
-use Prim.Native.Nat.{◌-◌}
-use lib.ListN.{length}
 use Rattle.booktext.proofs.Preceding.{Has}
 use Rattle.booktext.proofs.before.has_code.Given as goal
 
-abbrev pub invariant-loop-i : goal.invariant-loop-i
-invariant-loop-i l = Has l.t l.name l.code l.cells l.so l.i
-
-abbrev pub decreases-loop-i : goal.decreases-loop-i
-decreases-loop-i l = length l.cells - l.i
+abbrev pub invariant-loop-cell : goal.invariant-loop-cell
+invariant-loop-cell l = Has l.t l.name l.code l.cells l.so l.cell-index

@@ -2,16 +2,16 @@
 use Rattle.booktext.proofs.Preceding.{stands-none, stands_more, stands-over}
 use Rattle.booktext.proofs.before.is_standing.Goals as goal
 
-pub loop-mark-init : goal.loop-mark-init
-loop-mark-init c =
-    let a = c.args in stands-none a.spot a.marks.now
+pub loop-cell-init : goal.loop-cell-init
+loop-cell-init c =
+    let a = c.args in stands-none a.spot a.cells.now
 
-pub loop-mark-preserved : goal.loop-mark-preserved
-loop-mark-preserved c =
+pub loop-cell-preserved : goal.loop-cell-preserved
+loop-cell-preserved c =
     let a = c.args in
-    stands_more a.spot a.marks.now c.loop-mark.so c.loop-mark.mark-index c.loop-mark.invariant c.loop-mark-test.true c.stands_after-so.result c.stands_after-so.ensures
+    stands_more a.spot a.cells.now c.loop-cell.so c.loop-cell.cell-index c.loop-cell.invariant c.loop-cell-test.true c.stands_after-so.result c.stands_after-so.ensures
 
 pub returns : goal.returns
 returns c =
     let a = c.args in
-    stands-over a.spot a.marks.now c.loop-mark.so c.loop-mark.mark-index c.loop-mark.invariant c.loop-mark-test.false
+    stands-over a.spot a.cells.now c.loop-cell.so c.loop-cell.cell-index c.loop-cell.invariant c.loop-cell-test.false

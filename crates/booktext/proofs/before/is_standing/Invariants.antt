@@ -2,5 +2,5 @@
 use Rattle.booktext.proofs.Preceding.{Stands}
 use Rattle.booktext.proofs.before.is_standing.Given as goal
 
-abbrev pub invariant-loop-mark : goal.invariant-loop-mark
-invariant-loop-mark l = Stands l.spot l.marks l.so l.mark-index
+abbrev pub invariant-loop-cell : goal.invariant-loop-cell
+invariant-loop-cell l = Stands l.spot l.cells l.so l.cell-index

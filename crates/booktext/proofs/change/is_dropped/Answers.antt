@@ -3,11 +3,11 @@ use mathlib.Core.Path.{refl}
 use Rattle.booktext.proofs.Changing.{drops_more, drops_over}
 use Rattle.booktext.proofs.change.is_dropped.Goals as goal
 
-pub loop-mark-preserved : goal.loop-mark-preserved
-loop-mark-preserved c = drops_more _ _ c.loop-mark.any _ c.loop-mark.invariant c.loop-mark-test.true _ c.says_of-any.ensures
+pub loop-cell-preserved : goal.loop-cell-preserved
+loop-cell-preserved c = drops_more _ _ c.loop-cell.any _ c.loop-cell.invariant c.loop-cell-test.true _ c.says_of-any.ensures
 
 pub returns : goal.returns
-returns c = drops_over _ _ _ _ c.loop-mark.invariant c.loop-mark-test.false
+returns c = drops_over _ _ _ _ c.loop-cell.invariant c.loop-cell-test.false
 
-pub loop-mark-init : goal.loop-mark-init
-loop-mark-init c = λ ss m. refl
+pub loop-cell-init : goal.loop-cell-init
+loop-cell-init c = λ t m. refl

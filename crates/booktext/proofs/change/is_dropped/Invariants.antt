@@ -2,5 +2,5 @@
 use Rattle.booktext.proofs.Changing.{Drops}
 use Rattle.booktext.proofs.change.is_dropped.Given as goal
 
-abbrev pub invariant-loop-mark : goal.invariant-loop-mark
-invariant-loop-mark l = Drops l.spot l.marks l.any l.mark-index
+abbrev pub invariant-loop-cell : goal.invariant-loop-cell
+invariant-loop-cell l = Drops l.spot l.cells l.any l.cell-index

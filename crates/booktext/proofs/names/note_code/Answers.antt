@@ -6,7 +6,7 @@ pub note_name-requires : goal.note_name-requires
 note_name-requires c = c.requires
 
 pub returns-then-asks_code : goal.returns-then-asks_code
-returns-then-asks_code c = code_noted _ _ _ c.line_in.ensures.0 c.asks_code.ensures _ _ c.if-asks_code.true c.bound_at.ensures c.next_word.ensures c.note_name.ensures
+returns-then-asks_code c = code_noted _ _ _ c.asks_code.ensures _ _ c.if-asks_code.true c.bound_at.ensures c.next_word.ensures c.note_name.ensures
 
 pub returns : goal.returns
-returns c = no_code _ _ _ c.line_in.ensures.0 c.asks_code.ensures c.if-asks_code.false
+returns c = no_code _ _ _ c.asks_code.ensures c.if-asks_code.false

@@ -7,7 +7,7 @@ pub overflow_add-n : goal.overflow_add-n
 overflow_add-n c = omega (arith, c.loop-cell.invariant.few)
 
 pub loop-cell-preserved : goal.loop-cell-preserved
-loop-cell-preserved c = counts_more _ _ c.loop-cell.invariant c.loop-cell-test.true c.line_in.ensures.0 c.verb_at.ensures.0 c.is_rule.ensures c.pick-n.ensures
+loop-cell-preserved c = counts_more _ _ c.loop-cell.invariant c.loop-cell-test.true c.verb_at.ensures.0 c.is_rule.ensures c.pick-n.ensures
 
 pub returns : goal.returns
 returns c = counts-over _ _ c.loop-cell.invariant c.loop-cell-test.false

@@ -2,9 +2,10 @@
 use mathlib.Core.Path.{ap}
 use mathlib.Core.List.{[], ◌∷◌}
 use Rattle.booktext.specs.Lines.{Statement}
-use Rattle.booktext.proofs.Noting.{noted-line, notes_as}
-use borrow.Author.Rules.{rules}
+use Rattle.booktext.proofs.Noting.{notes_as}
 use Rattle.booktext.proofs.section.note.Goals as goal
 
 pub returns : goal.returns
-returns c = notes_as _ _ _ _ _ _ (c.note_cell.ensures c.args.t.now) _ (ap (λ (s : Statement). s ∷ []) (noted-line _ _ _ c.requires.0 c.requires.1 (search rules)))
+returns c =
+    let cell = c.cell_at.ensures in
+    notes_as _ _ _ _ _ _ (c.note_cell.ensures c.args.t.now cell.1) _ (ap (λ (s : Statement). s ∷ []) cell.0)

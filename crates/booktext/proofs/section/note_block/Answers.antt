@@ -20,8 +20,7 @@ returns-then-n-gt-STATEMENT_LIMIT c = noting_over _ _ _ _ _ _ _ c.loop-at.invari
 
 pub note-n-requires : goal.note-n-requires
 note-n-requires c =
-    let pre = c.requires in
-    (pre.0, c.loop-at-test.true, c.loop-at.invariant.same ∙ pre.1)
+    c.loop-at.invariant.same ∙ c.requires
 
 pub loop-at-smaller : goal.loop-at-smaller
 loop-at-smaller c =

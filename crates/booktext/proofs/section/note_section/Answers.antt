@@ -21,7 +21,7 @@ returns-then-n-gt-STATEMENT_LIMIT c = noted-all _ _ _ _ _ (noting_over _ _ _ _ _
 pub note_both-n-requires : goal.note_both-n-requires
 note_both-n-requires c =
     let pre = c.requires in
-    (pre.0, pre.1, c.loop-at-test.true, c.loop-at.invariant.same ∙ pre.2)
+    (pre.0, c.loop-at.invariant.same ∙ pre.1)
 
 pub loop-at-smaller : goal.loop-at-smaller
 loop-at-smaller c =

@@ -11,6 +11,6 @@ is_staying-requires c = c.requires.1
 
 pub returns : goal.returns
 returns c = (
-  λ s later m n. c.pick.ensures ∙ ap (λ (b : Bool). cond b (c.args.n + 1) c.args.n) (c.is_staying.ensures s later m n),
+  λ t m. c.pick.ensures ∙ ap (λ (b : Bool). cond b (c.args.n + 1) c.args.n) (c.is_staying.ensures t m),
   omega (arith, picked_most _ (c.args.n + 1) c.args.n _ c.pick.ensures),
 )

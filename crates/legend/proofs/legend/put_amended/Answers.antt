@@ -10,13 +10,13 @@ pub amended-rule-requires : goal.amended-rule-requires
 amended-rule-requires c = (c.requires.1, c.requires.0)
 
 pub put_rule-second-requires : goal.put_rule-second-requires
-put_rule-second-requires c = ap makes_rule c.amended-rule.ensures ∙ amended-rule c.args.spot _ _ ∙ c.requires.1
+put_rule-second-requires c = ap makes_rule c.amended-rule.ensures.0 ∙ amended-rule c.args.spot _ _ ∙ c.requires.1
 
 pub put_changes-fourth-requires : goal.put_changes-fourth-requires
 put_changes-fourth-requires c = c.requires.0
 
 pub returns : goal.returns
-returns c = parts_listed c.args.t.now c.args.key.now c.args.n c.args.spot _ _ _ c.amended-rule.ensures c.put_rule-second.ensures (remark-noted c.args.t.now c.args.cell c.line_in.ensures.0 c.people_at.ensures c.put_remark-third.ensures) c.put_changes-fourth.ensures c.put_byte.ensures
+returns c = parts_listed c.args.t.now c.args.key.now c.args.n c.args.spot _ _ _ c.amended-rule.ensures.0 c.put_rule-second.ensures (remark-noted c.args.t.now c.args.cell c.people_at.ensures c.put_remark-third.ensures) c.put_changes-fourth.ensures c.put_byte.ensures
 
 pub shape_of-out : goal.shape_of-out
 shape_of-out c = wrote-length (returns c)

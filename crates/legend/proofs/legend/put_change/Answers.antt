@@ -3,7 +3,7 @@ use Rattle.legend.proofs.Listing.{remark-noted, change_put, change_none}
 use Rattle.legend.proofs.legend.put_change.Goals as goal
 
 pub returns-then-says_of : goal.returns-then-says_of
-returns-then-says_of c = change_put c.args.t.now c.args.spot c.args.cell c.requires c.says_of.ensures c.says_of-2.ensures c.if-says_of.true (remark-noted c.args.t.now c.args.cell c.line_in.ensures.0 c.people_at.ensures c.put_remark.ensures)
+returns-then-says_of c = change_put c.args.t.now c.args.spot c.args.cell c.requires c.says_of.ensures c.says_of-2.ensures c.if-says_of.true (remark-noted c.args.t.now c.args.cell c.people_at.ensures c.put_remark.ensures)
 
 pub returns : goal.returns
 returns c = change_none c.args.t.now c.args.spot c.args.cell c.requires c.says_of.ensures c.says_of-2.ensures c.if-says_of.false c.put.ensures

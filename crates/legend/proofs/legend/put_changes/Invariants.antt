@@ -1,10 +1,10 @@
--- `legend::legend::put_changes` meets its contract. The invariant of its loop: whoever writes what the cells left remark has written all, and their marks are those left. Assumes nothing.
+-- `legend::legend::put_changes` meets its contract. The invariant of its loop: whoever writes what the cells left remark has written all. Assumes nothing.
 use mathlib.Core.List.{map}
-use Rattle.booktext.specs.Standing.{noted, Marks}
+use lib.ListN.{drop}
+use Rattle.booktext.specs.Standing.{noted}
 use Rattle.booktext.proofs.Completing.{Completes}
 use Rattle.legend.specs.Legend.{later_remarks}
 use Rattle.legend.proofs.legend.put_changes.Given as goal
 
 abbrev pub invariant-loop-cell : goal.invariant-loop-cell
-invariant-loop-cell l = Marks (map (noted l.t) l.cell-iterator.a.rest.now) l.cell-iterator.b.rest.now
-    × Completes (later_remarks l.t l.spot (map (noted l.t) l.cells)) (later_remarks l.t l.spot (map (noted l.t) l.cell-iterator.a.rest.now)) l.initial.out l.at l.out l.to
+invariant-loop-cell l = Completes (later_remarks l.t l.spot (map (noted l.t) l.cells)) (later_remarks l.t l.spot (map (noted l.t) (drop l.cell-index l.cells))) l.initial.out l.at l.out l.to

@@ -1,17 +1,15 @@
 -- `legend::legend::put_made` meets its contract. Assumes nothing.
-use native.Mathlib.Omega.{arith}
-use Rattle.booktext.proofs.Marking.{marks_length}
-use Rattle.legend.proofs.Listing.{stays_here, stays-rule, made-listed, none-listed}
+use Rattle.legend.proofs.Listing.{stays-rule, made-listed, none-listed}
 use Rattle.legend.proofs.legend.put_made.Goals as goal
 
 pub is_staying-requires : goal.is_staying-requires
-is_staying-requires c = omega (arith, marks_length c.args.t.now c.args.cells.now _ c.requires.0, c.requires.1)
+is_staying-requires c = c.requires.1
 
 pub put_line-requires : goal.put_line-requires
-put_line-requires c = (c.requires.0, c.requires.1, stays-rule c.args.t.now c.args.cells.now c.args.marks.now c.args.i c.requires.0 c.requires.1 (stays_here c.args.t.now c.args.cells.now c.args.marks.now c.args.i c.requires.0 c.requires.1 c.is_staying.ensures) c.if-is_staying.true)
+put_line-requires c = (c.requires.0, c.requires.1, stays-rule c.args.t.now c.args.cells.now c.args.i c.requires.0 c.requires.1 (c.is_staying.ensures c.args.t.now c.requires.0) c.if-is_staying.true)
 
 pub returns-then-is_staying : goal.returns-then-is_staying
-returns-then-is_staying c = made-listed c.args.t.now c.args.cells.now c.args.marks.now c.args.i c.requires.0 c.requires.1 c.args.key.now c.args.n (stays_here c.args.t.now c.args.cells.now c.args.marks.now c.args.i c.requires.0 c.requires.1 c.is_staying.ensures) c.if-is_staying.true c.put_line.ensures
+returns-then-is_staying c = made-listed c.args.t.now c.args.cells.now c.args.i c.requires.0 c.requires.1 c.args.key.now c.args.n (c.is_staying.ensures c.args.t.now c.requires.0) c.if-is_staying.true c.put_line.ensures
 
 pub returns : goal.returns
-returns c = none-listed c.args.t.now c.args.cells.now c.args.marks.now c.args.i c.requires.0 c.requires.1 c.args.key.now c.args.n (stays_here c.args.t.now c.args.cells.now c.args.marks.now c.args.i c.requires.0 c.requires.1 c.is_staying.ensures) c.if-is_staying.false c.put.ensures
+returns c = none-listed c.args.t.now c.args.cells.now c.args.i c.requires.0 c.requires.1 c.args.key.now c.args.n (c.is_staying.ensures c.args.t.now c.requires.0) c.if-is_staying.false c.put.ensures

@@ -1,54 +1,30 @@
 -- `legend::legend::put_section` meets its contract. Assumes nothing.
-use mathlib.Core.Path.{◌≡◌, sym}
+use mathlib.Core.Path.{sym}
 use native.Mathlib.Omega.{arith}
-use lib.ListN.{length, take}
 use lib.Seq.{length-take-le}
 use Rattle.ack.proofs.Writing.{wrote-length}
-use Rattle.booktext.proofs.Making.{marks_noted}
 use Rattle.legend.proofs.Listing.{all_noted, section-listed}
 use Rattle.legend.proofs.legend.put_section.Goals as goal
 
-pub slice_bounds-note_marks-end : goal.slice_bounds-note_marks-end
-slice_bounds-note_marks-end c = omega (arith, all_noted c.args.t.now c.args.head c.next_line.ensures c.note_section-count.ensures c.requires.5, c.cells-1.given, c.requires.3)
-
-pub slice_bounds-note_marks-end-2 : goal.slice_bounds-note_marks-end-2
-slice_bounds-note_marks-end-2 c = sym (length-take-le _ _ (omega (arith, all_noted c.args.t.now c.args.head c.next_line.ensures c.note_section-count.ensures c.requires.5, c.cells-1.given, c.requires.3)))
-
-pub note_marks-requires : goal.note_marks-requires
-note_marks-requires c =
-    let few = all_noted c.args.t.now c.args.head c.next_line.ensures c.note_section-count.ensures c.requires.5 in
-    omega (arith, length-take-le c.note_section-count.result c.note_section-count.new.cells (omega (arith, few, c.cells-1.given, c.requires.3)), few, c.requires.4)
-
 pub slice_bounds-put_rules-end : goal.slice_bounds-put_rules-end
-slice_bounds-put_rules-end c = omega (arith, all_noted c.args.t.now c.args.head c.next_line.ensures c.note_section-count.ensures c.requires.5, c.cells-1.given, c.requires.3)
+slice_bounds-put_rules-end c = omega (arith, all_noted c.args.t.now c.args.head c.next_line.ensures c.note_section-count.ensures c.requires.4, c.cells-1.given, c.requires.3)
 
-pub slice_bounds-put_rules-end-3 : goal.slice_bounds-put_rules-end-3
-slice_bounds-put_rules-end-3 c = omega (arith, all_noted c.args.t.now c.args.head c.next_line.ensures c.note_section-count.ensures c.requires.5, c.marks-1.given, c.requires.4)
+pub slice_bounds-put_rules-end-2 : goal.slice_bounds-put_rules-end-2
+slice_bounds-put_rules-end-2 c = sym (length-take-le _ _ (omega (arith, all_noted c.args.t.now c.args.head c.next_line.ensures c.note_section-count.ensures c.requires.4, c.cells-1.given, c.requires.3)))
 
 pub put_rules-requires : goal.put_rules-requires
 put_rules-requires c =
     let count = c.note_section-count.result in
-    let cells = c.note_section-count.new.cells in
-    let few = all_noted c.args.t.now c.args.head c.next_line.ensures c.note_section-count.ensures c.requires.5 in
-    let noted : length (take count cells) ≡ count = length-take-le count cells (omega (arith, few, c.cells-1.given, c.requires.3)) in
-    (marks_noted _ (sym noted) c.note_marks.ensures, omega (arith, noted, few))
+    let few = all_noted c.args.t.now c.args.head c.next_line.ensures c.note_section-count.ensures c.requires.4 in
+    (c.note_section-count.ensures.marks few, omega (arith, length-take-le count c.note_section-count.new.cells (omega (arith, few, c.cells-1.given, c.requires.3)), few))
 
 pub shape_of-cells : goal.shape_of-cells
 shape_of-cells c = c.cells-1.given
 
-pub shape_of-marks : goal.shape_of-marks
-shape_of-marks c = c.marks-1.given
-
 pub returns : goal.returns
 returns c =
-    section-listed c.args.t.now c.args.head c.word_of-key.ensures c.next_line.ensures c.note_section-count.ensures (all_noted c.args.t.now c.args.head c.next_line.ensures c.note_section-count.ensures c.requires.5)
+    section-listed c.args.t.now c.args.head c.word_of-key.ensures c.next_line.ensures c.note_section-count.ensures (all_noted c.args.t.now c.args.head c.next_line.ensures c.note_section-count.ensures c.requires.4)
     c.put-second.ensures c.put-third.ensures c.people_at.ensures c.put_remark-fourth.ensures c.put_byte-fifth.ensures c.put_rules.ensures
-
-pub slice_bounds-put_rules-end-2 : goal.slice_bounds-put_rules-end-2
-slice_bounds-put_rules-end-2 c = sym (length-take-le _ _ (omega (arith, all_noted c.args.t.now c.args.head c.next_line.ensures c.note_section-count.ensures c.requires.5, c.cells-1.given, c.requires.3)))
-
-pub slice_bounds-put_rules-end-4 : goal.slice_bounds-put_rules-end-4
-slice_bounds-put_rules-end-4 c = sym (length-take-le _ _ (omega (arith, all_noted c.args.t.now c.args.head c.next_line.ensures c.note_section-count.ensures c.requires.5, c.marks-1.given, c.requires.4)))
 
 pub shape_of-out : goal.shape_of-out
 shape_of-out c = wrote-length (returns c)

@@ -7,10 +7,10 @@ use Rattle.legend.proofs.Listing.{sections-none, sections-room, sections_more, s
 use Rattle.legend.proofs.legend.put_sections.Goals as goal
 
 pub loop-line-init : goal.loop-line-init
-loop-line-init c = (sections-none c.args.t.now c.args.out.now c.requires.2 c.next_statement-line.ensures, refl, refl)
+loop-line-init c = (sections-none c.args.t.now c.args.out.now c.requires.2 c.next_statement-line.ensures, refl)
 
 pub put_any-to-requires : goal.put_any-to-requires
-put_any-to-requires c = (c.requires.0, c.requires.1, c.loop-line-test.true, c.loop-line.invariant.1 ∙ c.requires.3, c.loop-line.invariant.2 ∙ c.requires.4, sections-room c.args.t.now c.loop-line.line c.loop-line.invariant.0 c.loop-line-test.true)
+put_any-to-requires c = (c.requires.0, c.requires.1, c.loop-line-test.true, c.loop-line.invariant.1 ∙ c.requires.3, sections-room c.args.t.now c.loop-line.line c.loop-line.invariant.0 c.loop-line-test.true)
 
 pub loop-line-smaller : goal.loop-line-smaller
 loop-line-smaller c = onward_fewer c.args.t.now (left c.args.t.now) c.loop-line-test.true c.next_line.ensures c.next_statement-line-in-loop-line.ensures
@@ -19,7 +19,6 @@ pub loop-line-preserved : goal.loop-line-preserved
 loop-line-preserved c = (
   sections_more c.args.t.now c.loop-line.line c.loop-line.invariant.0 c.loop-line-test.true c.put_any-to.ensures c.next_line.ensures c.next_statement-line-in-loop-line.ensures,
   c.cells-1.given ∙ c.loop-line.invariant.1,
-  c.marks-1.given ∙ c.loop-line.invariant.2,
 )
 
 pub returns : goal.returns
