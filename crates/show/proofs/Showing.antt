@@ -1,74 +1,44 @@
 -- Laws of `specs/Shown.antt`: a line feed for each CR, in place; how long a text is, and which one is shown. Assumes nothing.
 use mathlib.Core.Path.{◌≡◌, refl, sym, ap, ap₂, ◌∙◌}
 use mathlib.Core.Bool.{Bool, true, false, cond}
-use mathlib.Core.List.{List, ◌∷◌, [], ◌++◌, map, map-append}
+use mathlib.Core.List.{List, ◌∷◌, [], ◌++◌, map, map-append, append_assoc, append-nil}
 use Prim.Native.Nat.{ℕ, ◌+◌, ◌≤◌, ◌<◌, min}
 use native.Mathlib.Numerals.{add-one}
-use native.Mathlib.Nat.{add-zero}
 use native.Mathlib.Omega.{arith}
-use lib.Dec.{eqb, ltb}
-use lib.ListN.{length, get_or, take, drop, set, length-append, length-map, length-set, length-take, take-append-drop, drop_of_length-le}
-use lib.Seq.{take_all, take-suc, take-suc-set, take_at, drop-set-lt, get_or-drop, drop-drop}
-use borrow.Author.Tests.{eq-eqb, ne_eqb, ltb-true, ltb-false}
+use lib.Dec.{eqb}
+use lib.ListN.{length, get_or, take, drop, set, length-append, length-map, length-take, drop_of_length-le}
+use lib.Seq.{take_all, take-suc, take_at}
+use Rattle.std.proofs.lemmas.List.{set_at, get_or_at, length-take-le}
+use lib.Seq.{drop-cons}
+use borrow.Author.Tests.{eq-eqb, ne_eqb}
 use Rattle.hl7.specs.Refusals.{Told}
 use Rattle.ack.specs.Splice.{splice, Wrote}
 use Rattle.ack.proofs.Decimals.{decimal-short}
 use Rattle.ack.proofs.Writing.{splice-at-start}
 use Rattle.show.specs.Shown.{line_feed, line_feeds, refusal, refusal_room, printed_in, printed_length, Printed, shown}
 
--- ---- line feeds for CRs, in place
--- the first i of the first `end` bytes of `before` have been turned; `end` is `count`, or the whole where that is less
-pub record Turning (before : List ℕ) (count end : ℕ) (after : List ℕ) (i : ℕ) : Type 0 where
-  pub inside : i ≤ end
-  pub within : end ≤ length before
-  pub least : end ≡ min count (length before)
-  pub front : take end before ≡ take count before
-  pub back : drop end before ≡ drop count before
-  pub room : length after ≡ length before
-  pub turned : take i after ≡ map line_feed (take i before)
-  pub rest : drop i after ≡ drop i before
+-- ---- line feeds for CRs, in place: of a text the first i bytes have been turned
+module _ (s : List ℕ) (i : ℕ) {now : List ℕ} (e : now ≡ map line_feed (take i s) ++ drop i s) where
+  pub turned_more : {x : ℕ} → i < length s → x ≡ line_feed (get_or now i 0) → set now i x ≡ map line_feed (take (i + 1) s) ++ drop (i + 1) s
+  turned_more {x} h f =
+      let y = get_or s i 0 in
+      let done = map line_feed (take i s) in
+      let rest = drop (i + 1) s in
+      let long : length done ≡ i = length-map (take i s) line_feed ∙ length-take-le i s (omega arith) in
+      let here : now ≡ done ++ (y ∷ rest) = e ∙ ap (λ (l : List ℕ). done ++ l) (drop-cons s i 0 h ∙ ap (λ (n : ℕ). y ∷ drop n s) (sym (add-one i))) in
+      let byte : get_or now i 0 ≡ y = ap (λ (l : List ℕ). get_or l i 0) here ∙ get_or_at done y rest 0 i long in
+      let more : map line_feed (take (i + 1) s) ≡ done ++ (line_feed y ∷ []) = ap (map line_feed) (ap (λ (n : ℕ). take n s) (add-one i) ∙ take-suc s i 0 h) ∙ map-append line_feed (take i s) (y ∷ []) in
+      ap (λ (l : List ℕ). set l i x) here
+      ∙ set_at done y rest x i long
+      ∙ ap (λ (z : ℕ). done ++ (z ∷ rest)) (f ∙ ap line_feed byte)
+      ∙ sym (ap (λ (l : List ℕ). l ++ rest) more ∙ append_assoc done (line_feed y ∷ []) rest)
 
-pub turning_start : (before : List ℕ) (count : ℕ) {end : ℕ} → end ≡ cond (ltb count (length before)) count (length before) → Turning before count end before 0
-turning_start before count {end} e = by-test (ltb count (length before)) refl
-  where
-    start_at_lem : end ≡ min count (length before) → take end before ≡ take count before → drop end before ≡ drop count before → Turning before count end before 0
-    start_at_lem h f g = record { inside = omega arith; within = omega arith; least = h; front = f; back = g; room = refl; turned = refl; rest = refl }
-
-    by-test : (b : Bool) → ltb count (length before) ≡ b → Turning before count end before 0
-    by-test true t =
-        let here : end ≡ count = e ∙ rw t in
-        start_at_lem (omega (arith, ltb-true)) (ap (λ (k : ℕ). take k before) here) (ap (λ (k : ℕ). drop k before) here)
-    by-test false t =
-        let here : end ≡ length before = e ∙ rw t in
-        let past = ltb-false count (length before) t in
-        start_at_lem (omega arith) (take_all end before (omega arith) ∙ sym (take_all count before past)) (drop_of_length-le before {i = end} (omega arith) ∙ sym (drop_of_length-le before {i = count} past))
-
-module _ {before : List ℕ} {count end : ℕ} {after : List ℕ} {i : ℕ} (t : Turning before count end after i) where
-  pub turning_more : {x : ℕ} → i < end → x ≡ line_feed (get_or after i 0) → Turning before count end (set after i x) (i + 1)
-  turning_more {x} h e =
-      let within : i < length after = omega (arith, t.room, t.within) in
-      let inside : i < length before = omega (arith, t.within) in
-      let here : get_or after i 0 ≡ get_or before i 0 = rw (← add-zero i, ← get_or-drop i after 0 0, ← get_or-drop i before 0 0, t.rest) in
-      record {
-        inside = omega arith;
-        within = t.within;
-        least = t.least;
-        front = t.front;
-        back = t.back;
-        room = length-set after i x ∙ t.room;
-        turned =
-            rw (add-one i, take-suc-set after i x within, t.turned, take-suc before i 0 inside)
-            (ap (λ (y : ℕ). map line_feed (take i before) ++ (y ∷ [])) (e ∙ ap line_feed here) ∙ sym (map-append line_feed (take i before) (get_or before i 0 ∷ [])));
-        rest = rw (drop-set-lt (i + 1) after i x (omega arith), ← drop-drop 1 i after, ← drop-drop 1 i before, t.rest);
-      }
-
-  pub turning_done : end ≤ i → (after ≡ line_feeds (take count before) ++ drop count before) × (i ≡ min count (length before))
+  pub turned_all : length s ≤ i → now ≡ line_feeds s
   unfolding line_feeds
-  turning_done h =
-      let all : i ≡ end = omega arith in
-      let front : map line_feed (take i before) ≡ map line_feed (take count before) = ap (map line_feed) (ap (λ (k : ℕ). take k before) all ∙ t.front) in
-      let back : drop i before ≡ drop count before = ap (λ (k : ℕ). drop k before) all ∙ t.back in
-      (sym (take-append-drop i after) ∙ ap₂ ◌++◌ (t.turned ∙ front) (t.rest ∙ back), all ∙ t.least)
+  turned_all h =
+      e
+      ∙ ap₂ (λ (l r : List ℕ). map line_feed l ++ r) (take_all i s h) (drop_of_length-le s {i = i} h)
+      ∙ append-nil (map line_feed s)
 
 -- ---- texts
 pub refusal-short : (number detail : ℕ) → length (refusal number detail) ≤ refusal_room

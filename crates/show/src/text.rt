@@ -4,24 +4,27 @@ ghost use Rattle.grade.specs.Admission.{paper};
 ghost use Rattle.ack.specs.Splice.{Wrote};
 ghost use Rattle.show.specs.Shown.{line_feed, line_feeds, refusal, bad_text, Printed};
 
-use ack::output::{put, put_byte, put_number};
+use ack::output::Output;
 use grade::refusal::Answer;
-use hl7::bytes::pick;
 
 fn put_refusal(text: &mut [u8], number: u8, detail: usize) -> usize
     ensures { Wrote text.old 0 (refusal number detail) text.new result }
 {
-    let after_word = put(text, 0, b"refused");
-    let after_number = put_number(text, after_word, b' ', number as usize);
-    let after_detail = put_number(text, after_number, b' ', detail);
-    put_byte(text, after_detail, b'\n')
+    let mut line = Output { bytes: text, at: 0 };
+    line.put(b"refused");
+    line.put_number(b' ', number as usize);
+    line.put_number(b' ', detail);
+    line.put_byte(b'\n');
+    line.at
 }
 
 // The text for a bad line.
 pub fn put_bad_line(text: &mut [u8]) -> usize
     ensures { Wrote text.old 0 bad_text text.new result }
 {
-    put(text, 0, b"bad line\n")
+    let mut line = Output { bytes: text, at: 0 };
+    line.put(b"bad line\n");
+    line.at
 }
 
 fn line_feed_for(b: u8) -> u8
@@ -37,13 +40,11 @@ fn line_feed_for(b: u8) -> u8
 fn turn_lines(text: &mut [u8], count: usize) -> usize
     ensures { (text.new ≡ line_feeds (take count text.old) ++ drop count text.old) × (result ≡ min count (length text.old)) }
 {
-    let end = pick(count < text.len(), count, text.len());
-    let mut i = 0;
-    while i < end {
-        text[i] = line_feed_for(text[i]);
-        i += 1;
+    let end = count.min(text.len());
+    for b in text[..end].iter_mut() {
+        *b = line_feed_for(*b);
     }
-    i
+    end
 }
 
 // The text for an answer, in the output that was lent for it; it ends where the function answers.

@@ -1,15 +1,13 @@
 -- `show::text::put_refusal` meets its contract. Assumes nothing.
-use Rattle.ack.proofs.Writing.{◌then◌, wrote-length}
+use native.Mathlib.Omega.{arith}
+use borrow.Author.Rules.{rules}
+use Rattle.ack.proofs.Adding.{◌next◌, wrote_lent}
 use Rattle.show.specs.Shown.{refusal}
 use Rattle.show.proofs.text.put_refusal.Goals as goal
 
 pub returns : goal.returns
 unfolding refusal
 returns c =
-    c.put-after_word.ensures
-    then c.put_number-after_number.ensures
-    then c.put_number-after_detail.ensures
-    then c.put_byte.ensures
-
-pub shape_of-text : goal.shape_of-text
-shape_of-text c = wrote-length (returns c)
+    wrote_lent
+    (c.put.ensures next c.put_number.ensures next c.put_number-2.ensures next c.put_byte.ensures)
+    (omega arith) (omega arith) (search rules)

@@ -1,10 +1,9 @@
 -- `show::text::turn_lines` meets its contract: what is passed is turned, the rest is as it was. Assumes nothing.
-use Prim.Native.Nat.{◌-◌}
-use Rattle.show.proofs.Showing.{Turning}
+use mathlib.Core.Path.{◌≡◌}
+use mathlib.Core.List.{◌++◌, map}
+use lib.ListN.{take, drop}
+use Rattle.show.specs.Shown.{line_feed}
 use Rattle.show.proofs.text.turn_lines.Given as goal
 
-abbrev pub invariant-loop-i : goal.invariant-loop-i
-invariant-loop-i l = Turning l.initial.text l.count l.end l.text l.i
-
-abbrev pub decreases-loop-i : goal.decreases-loop-i
-decreases-loop-i l = l.end - l.i
+abbrev pub invariant-loop-b : goal.invariant-loop-b
+invariant-loop-b l = l.b-items ≡ map line_feed (take l.b-index l.initial.b-items) ++ drop l.b-index l.initial.b-items
