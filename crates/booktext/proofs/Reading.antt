@@ -16,7 +16,7 @@ use Rattle.hl7.specs.Counted.{too_large}
 use Rattle.hl7.specs.Cut.{end_from}
 use Rattle.hl7.specs.Number.{value_of}
 use Rattle.hl7.specs.Text.{bytes}
-use Rattle.hl7.proofs.Comparing.{and_both, picked_most}
+use Rattle.hl7.proofs.Comparing.{and_both}
 use Rattle.hl7.proofs.Cutting.{first-front}
 use Rattle.grade.specs.Rule.{name_of_letters, place_fits, severity_of}
 use Rattle.grade.specs.declared.rule.Place.{Place}
@@ -25,7 +25,7 @@ use Rattle.booktext.specs.Lines.{number_from, verbs, verb_of}
 use Rattle.booktext.specs.Words.{is_number, number_in, field_word, place_in, is_place, is_severity, kind_names, kind_number}
 
 -- ---- names of verbs and kinds
-number-few : (n : ℕ) (w : List ℕ) (names : List (List ℕ)) → number_from (suc n) w names ≤ n + length names
+pub number-few : (n : ℕ) (w : List ℕ) (names : List (List ℕ)) → number_from (suc n) w names ≤ n + length names
 unfolding number_from
 number-few n w [] = omega arith
 number-few n w (name ∷ names) = by (same w name) (number-few (suc n) w names)
@@ -33,10 +33,6 @@ number-few n w (name ∷ names) = by (same w name) (number-few (suc n) w names)
     by : (b : Bool) → number_from (suc (suc n)) w names ≤ suc n + length names → cond b (suc n) (number_from (suc (suc n)) w names) ≤ n + length (name ∷ names)
     by true later = omega arith
     by false later = omega (arith, later)
-
--- a number that was picked is small where both choices are
-pub picked_few : (n : ℕ) (test : Bool) {r rest : ℕ} → leb n 255 ≡ true → r ≡ cond test n rest → rest ≤ 255 → r ≤ 255
-picked_few n test h picked later = omega (arith, leb-true n 255 h, picked_most test n _ _ picked)
 
 -- the verbs that change rules or sets
 pub asked_change : (w : List ℕ) {severity bound dropped more less : Bool} {a b c d e : ℕ}
@@ -46,28 +42,23 @@ pub asked_change : (w : List ℕ) {severity bound dropped more less : Bool} {a b
 unfolding verbs number_from
 asked_change w b1 b2 b3 b4 b5 e1 e2 e3 e4 e5 = rw (e1, e2, e3, e4, e5, b1, b2, b3, b4, b5)
 
--- their numbers fit a byte
-pub change_few : (w : List ℕ) {r : ℕ} → r ≡ number_from 10 w (drop 9 verbs) → r ≤ 255
-unfolding verbs
-change_few w is = omega (arith, is, number-few 9 w (drop 9 verbs))
-
-pub asked_verb : (w : List ℕ) {book set common section code uses sets rule also : Bool} {a b c d e f g h i j r : ℕ}
+pub asked_verb : (w : List ℕ) {book set common section code uses sets rule also : Bool} {a b c d e f g h i j : ℕ}
     → book ≡ same w (bytes "book") → set ≡ same w (bytes "set") → common ≡ same w (bytes "common") → section ≡ same w (bytes "section") → code ≡ same w (bytes "code")
     → uses ≡ same w (bytes "use") → sets ≡ same w (bytes "sets") → rule ≡ same w (bytes "rule") → also ≡ same w (bytes "also")
-    → r ≡ a → a ≡ cond book 1 b → b ≡ cond set 2 c → c ≡ cond common 3 d → d ≡ cond section 4 e → e ≡ cond code 5 f → f ≡ cond uses 6 g → g ≡ cond sets 7 h → h ≡ cond rule 8 i → i ≡ cond also 9 j → j ≡ number_from 10 w (drop 9 verbs)
-    → (r ≡ verb_of w) × (r ≤ 14)
+    → a ≡ cond book 1 b → b ≡ cond set 2 c → c ≡ cond common 3 d → d ≡ cond section 4 e → e ≡ cond code 5 f → f ≡ cond uses 6 g → g ≡ cond sets 7 h → h ≡ cond rule 8 i → i ≡ cond also 9 j → j ≡ number_from 10 w (drop 9 verbs)
+    → (a ≡ verb_of w) × (a ≤ 14)
 unfolding verb_of verbs number_from
-asked_verb w {r = r} b1 b2 b3 b4 b5 b6 b7 b8 b9 e0 e1 e2 e3 e4 e5 e6 e7 e8 e9 e10 =
-    let is : r ≡ verb_of w = rw (e0, e1, e2, e3, e4, e5, e6, e7, e8, e9, e10, b1, b2, b3, b4, b5, b6, b7, b8, b9) in
+asked_verb w {a = a} b1 b2 b3 b4 b5 b6 b7 b8 b9 e1 e2 e3 e4 e5 e6 e7 e8 e9 e10 =
+    let is : a ≡ verb_of w = rw (e1, e2, e3, e4, e5, e6, e7, e8, e9, e10, b1, b2, b3, b4, b5, b6, b7, b8, b9) in
     (is, omega (arith, is, number-few 0 w verbs))
 
-pub asked_kind : (w : List ℕ) {required length number date time code : Bool} {a b c d e f r : ℕ}
+pub asked_kind : (w : List ℕ) {required length number date time code : Bool} {a b c d e f : ℕ}
     → required ≡ same w (bytes "REQUIRED") → length ≡ same w (bytes "LENGTH") → number ≡ same w (bytes "NUMBER") → date ≡ same w (bytes "DATE") → time ≡ same w (bytes "TIME") → code ≡ same w (bytes "CODE")
-    → r ≡ a → a ≡ cond required 1 b → b ≡ cond length 2 c → c ≡ cond number 3 d → d ≡ cond date 4 e → e ≡ cond time 5 f → f ≡ cond code 6 0
-    → (r ≡ kind_number w) × (r ≤ 6)
+    → a ≡ cond required 1 b → b ≡ cond length 2 c → c ≡ cond number 3 d → d ≡ cond date 4 e → e ≡ cond time 5 f → f ≡ cond code 6 0
+    → (a ≡ kind_number w) × (a ≤ 6)
 unfolding kind_number kind_names number_from
-asked_kind w {r = r} b1 b2 b3 b4 b5 b6 e0 e1 e2 e3 e4 e5 e6 =
-    let is : r ≡ kind_number w = rw (e0, e1, e2, e3, e4, e5, e6, b1, b2, b3, b4, b5, b6) in
+asked_kind w {a = a} b1 b2 b3 b4 b5 b6 e1 e2 e3 e4 e5 e6 =
+    let is : a ≡ kind_number w = rw (e1, e2, e3, e4, e5, e6, b1, b2, b3, b4, b5, b6) in
     (is, omega (arith, is, number-few 0 w kind_names))
 
 -- ---- numbers

@@ -8,11 +8,11 @@ use lib.Dec.{eqb, leb}
 use lib.ListN.{length, get_or, drop, length-drop}
 use lib.Seq.{get_or-drop}
 use borrow.Author.Tests.{eqb-true, leb-true, le-leb}
-use Rattle.hl7.specs.Bytes.{within, same}
+use Rattle.hl7.specs.Bytes.{within}
 use Rattle.hl7.proofs.Comparing.{and_both}
 use Rattle.grade.specs.Encoding.{each}
 use Rattle.grade.specs.Rule.{severity_of}
-use Rattle.booktext.specs.Lines.{Statement, word, verb, says, of_place, makes_rule, number_from, a_severity, a_bound}
+use Rattle.booktext.specs.Lines.{Statement, word, verb, says, of_place, makes_rule, a_severity, a_bound}
 use Rattle.booktext.specs.Words.{place_in, is_place, is_severity, is_severity_word, kind_names, kind_number, bound_fits}
 use Rattle.booktext.specs.Meaning.{give}
 use Rattle.booktext.specs.Changes.{spot_number, spot_of, says_of, bind, amend, amended, dropped, settled_as, settled}
@@ -20,23 +20,14 @@ use Rattle.booktext.specs.Faults.{count_right, key_right, codes_right, place_rig
 use Rattle.booktext.specs.Standing.{sound, ready}
 use Rattle.booktext.proofs.Each.{each_append}
 use Rattle.booktext.proofs.Sounding.{Sounds, sounds}
+use Rattle.booktext.proofs.Reading.{number-few}
 use Rattle.booktext.proofs.Changing.{amend-rule, amend-spot}
 use Rattle.booktext.proofs.Ruling.{rule_verb_lem, rule-place, rule_kind, rule-own}
-
--- the numbers of names go up to how many there are
-number_below : (n : ℕ) (w : List ℕ) (names : List (List ℕ)) → number_from (suc n) w names ≤ n + length names
-unfolding number_from
-number_below n w [] = omega arith
-number_below n w (name ∷ names) = by (same w name) (number_below (suc n) w names)
-  where
-    by : (b : Bool) → number_from (suc (suc n)) w names ≤ suc n + length names → cond b (suc n) (number_from (suc (suc n)) w names) ≤ n + suc (length names)
-    by true ih = omega arith
-    by false ih = omega (arith, ih)
 
 -- a kind's number
 pub kind_few : (w : List ℕ) → kind_number w ≤ 6
 unfolding kind_number kind_names
-kind_few w = number_below 0 w kind_names
+kind_few w = number-few 0 w kind_names
 
 -- ---- one rule
 

@@ -1,5 +1,5 @@
 // The rules of a section whose statements are noted in cells: how many there are, and their bytes.
-ghost use Rattle.std.specs.Prelude.{◌≡◌, true, cond, [], ◌∷◌, map, ◌≤◌, length};
+ghost use Rattle.std.specs.Prelude.{◌≡◌, true, [], ◌∷◌, map, ◌≤◌, length};
 ghost use Rattle.grade.specs.Encoding.{each, spell_all, rule_bytes};
 ghost use Rattle.ack.specs.Splice.{Wrote};
 ghost use Rattle.booktext.specs.Lines.{number_from, makes_rule};
@@ -41,20 +41,10 @@ pub fn letter_of(t: &[u8], cell: Cell) -> u8
 fn put_bound(out: &mut [u8], at: usize, kind: u8, set: u8, low: u8, high: u8) -> usize
     ensures { Wrote out.old at (bound_bytes kind set low high) out.new result }
 {
-    let second = put_byte(out, at, unless(kind == CODE_KIND, set));
-    let third = put_byte(
-        out,
-        second,
-        unless((kind == LENGTH_KIND) | (kind == TIME_KIND), low),
-    );
-    put_byte(out, third, unless(kind == LENGTH_KIND, high))
-}
-
-// A byte, or 0.
-fn unless(test: bool, byte: u8) -> u8
-    ensures { result ≡ cond test byte 0 }
-{
-    if test { byte } else { 0 }
+    let second = put_byte(out, at, pick(kind == CODE_KIND, set, 0));
+    let timed = (kind == LENGTH_KIND) | (kind == TIME_KIND);
+    let third = put_byte(out, second, pick(timed, low, 0));
+    put_byte(out, third, pick(kind == LENGTH_KIND, high, 0))
 }
 
 // The number of the set with a name, 0 for none.

@@ -48,29 +48,21 @@ pub(crate) const TIME_KIND: u8 = 5;
 pub(crate) const CODE_KIND: u8 = 6;
 
 // ---- names
-// A number of a small table.
-fn short(n: usize) -> u8
-    requires { n ≤ 255 }
-    ensures { result ≡ n }
-{
-    n as u8
-}
-
 // The number of a verb that changes rules or sets, 0 for any other word.
-fn change_of(w: &[u8]) -> usize
+fn change_of(w: &[u8]) -> u8
     ensures { result ≡ number_from 10 w.now (drop 9 verbs) }
 {
     let codes = pick(
         same_bytes(w, b"more"),
-        13,
-        pick(same_bytes(w, b"less"), 14, 0),
+        MORE,
+        pick(same_bytes(w, b"less"), LESS, 0),
     );
     let rules = pick(
         same_bytes(w, b"bound"),
-        11,
-        pick(same_bytes(w, b"drop"), 12, codes),
+        BOUND,
+        pick(same_bytes(w, b"drop"), DROP, codes),
     );
-    pick(same_bytes(w, b"severity"), 10, rules)
+    pick(same_bytes(w, b"severity"), SEVERITY, rules)
 }
 
 // The number of a verb, 0 for any other word.
@@ -79,28 +71,28 @@ pub(crate) fn verb_of(w: &[u8]) -> u8
 {
     let later = pick(
         same_bytes(w, b"rule"),
-        8,
-        pick(same_bytes(w, b"also"), 9, change_of(w)),
+        RULE,
+        pick(same_bytes(w, b"also"), ALSO, change_of(w)),
     );
     let inner = pick(
         same_bytes(w, b"code"),
-        5,
+        CODE,
         pick(
             same_bytes(w, b"use"),
-            6,
-            pick(same_bytes(w, b"sets"), 7, later),
+            USE,
+            pick(same_bytes(w, b"sets"), SETS, later),
         ),
     );
     let heads = pick(
         same_bytes(w, b"common"),
-        3,
-        pick(same_bytes(w, b"section"), 4, inner),
+        COMMON,
+        pick(same_bytes(w, b"section"), SECTION, inner),
     );
-    short(pick(
+    pick(
         same_bytes(w, b"book"),
-        1,
-        pick(same_bytes(w, b"set"), 2, heads),
-    ))
+        BOOK,
+        pick(same_bytes(w, b"set"), SET, heads),
+    )
 }
 
 // The number of a kind, 0 for any other word.
@@ -112,16 +104,16 @@ pub(crate) fn kind_number(w: &[u8]) -> u8
         4,
         pick(
             same_bytes(w, b"TIME"),
-            5,
-            pick(same_bytes(w, b"CODE"), 6, 0),
+            TIME_KIND,
+            pick(same_bytes(w, b"CODE"), CODE_KIND, 0),
         ),
     );
     let all = pick(
         same_bytes(w, b"LENGTH"),
-        2,
+        LENGTH_KIND,
         pick(same_bytes(w, b"NUMBER"), 3, later),
     );
-    short(pick(same_bytes(w, b"REQUIRED"), 1, all))
+    pick(same_bytes(w, b"REQUIRED"), 1, all)
 }
 
 // Whether a verb makes a rule.

@@ -6,4 +6,4 @@ pub returns : goal.returns
 returns c =
     let start = c.args in
     bound-written start.kind start.set start.low start.high c.put_byte-second.ensures c.put_byte-third.ensures c.put_byte.ensures
-    c.unless.ensures c.unless-2.ensures c.unless-3.ensures
+    c.pick.ensures c.pick-2.ensures c.pick-3.ensures

@@ -11,7 +11,6 @@ returns c =
     c.same_bytes.ensures
     c.same_bytes-2.ensures
     c.same_bytes-3.ensures
-    c.short.ensures
     c.pick-4.ensures
     c.pick-all.ensures
     c.pick-3.ensures
