@@ -7,20 +7,17 @@ ghost use Rattle.batch.specs.Reply.{answers};
 
 use batchfile::batch::answer_batch;
 use hl7::bytes::front;
-use line::kept::{Line, State, line_says};
+use line::kept::{State, line_says};
 use show::text::{put_answer, put_bad_line};
 
 // The text that is printed, put into the output that was lent for the ACKs. A bad line is told before anything else.
 pub fn reply(state: State, file: &[u8], book: &[u8], out: &mut [u8]) -> usize
     ensures { (input : List ℕ) → Fed input state → Replies (said (line_of input)) (answers file.now book.now out.old) out.old out.new result }
 {
-    match line_says(state) {
-        Line::Bad => put_bad_line(out),
-        Line::Good { control, stamp } => {
-            let head = state.head;
-            let bytes = head.bytes;
-            let answer = answer_batch(file, book, front(&bytes, stamp), control, out);
-            put_answer(out, answer)
-        }
-    }
+    let Some(line) = line_says(state) else {
+        return put_bad_line(out);
+    };
+    let stamp = front(&state.head.bytes, line.stamp);
+    let answer = answer_batch(file, book, stamp, line.control, out);
+    put_answer(out, answer)
 }

@@ -89,11 +89,11 @@ module _ (b starts : List ℕ) where
           let t = totals_few b starts stand in
           (omega (arith, t.0, adding_more.ruled), omega (arith, t.1, adding_more.held))
 
-  pub adding_done : {rules sets i : ℕ} → Adding b starts rules sets i → length starts ≤ i → record { sections = i; rules = rules; sets = sets } ≡ counts_of (map (contents_at b) starts)
+  pub adding_done : {rules sets i : ℕ} → Adding b starts rules sets i → length starts ≤ i → record { sections = length starts; rules = rules; sets = sets } ≡ counts_of (map (contents_at b) starts)
   unfolding rule_total set_total
   adding_done {rules} {sets} {i} a h =
       let over : drop i starts ≡ [] = drop_of_length-le starts h in
-      let n : i ≡ length (map (contents_at b) starts) = omega (arith, length-map starts (contents_at b), a.inside) in
+      let n : length starts ≡ length (map (contents_at b) starts) = sym (length-map starts (contents_at b)) in
       let r : rules ≡ rule_total (map (contents_at b) starts) = omega (arith, ap (λ (l : List ℕ). rule_total (map (contents_at b) l)) over, a.ruled) in
       let s : sets ≡ set_total (map (contents_at b) starts) = omega (arith, ap (λ (l : List ℕ). set_total (map (contents_at b) l)) over, a.held) in
       rw (n, r, s)

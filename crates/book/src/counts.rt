@@ -7,7 +7,6 @@ ghost use Rattle.book.specs.Counts.{sections_in};
 ghost use Rattle.book.specs.Standing.{counts_of};
 
 use grade::book::{Indexed, index_book, site_at};
-use hl7::bytes::wide;
 
 // How many sections a book has, and how many rules and sets they have together.
 #[derive(Clone, Copy)]
@@ -24,15 +23,13 @@ fn add_up(book: &[u8], starts: &[usize]) -> Counts
 {
     let mut rules = 0;
     let mut sets = 0;
-    let mut i = 0;
-    while i < starts.len() {
-        let site = site_at(book, starts[i]);
+    for start in starts {
+        let site = site_at(book, *start);
         rules += site.rule_count;
-        sets += wide(site.set_count);
-        i += 1;
+        sets += site.set_count as usize;
     }
     Counts {
-        sections: i,
+        sections: starts.len(),
         rules,
         sets,
     }

@@ -28,13 +28,6 @@ use std::{fs, io};
 // How many names are tried for a new file: as many as its six digits can tell apart.
 const NAME_COUNT: usize = 1_000_000;
 
-// What came of a file that was to be read: its length, up to the room; or the length of the line which tells that it cannot be.
-#[derive(Clone, Copy)]
-enum Named {
-    Read(usize),
-    Refused(usize),
-}
-
 // Puts a word of the command line at the front of a room, and answers its length: 0 where there is no such word, or no room for all of it.
 fn put_word(rt: &impl Env, word: usize, room: &mut [u8]) -> usize {
     rt.arg(word, room).unwrap_or(0)
@@ -52,10 +45,7 @@ fn word_count(rt: &impl Env) -> usize {
 
 // The text of a path. One that is no UTF-8 names no file that can be opened.
 fn path_text(path: &[u8]) -> io::Result<&str> {
-    match str::from_utf8(path) {
-        Ok(text) => Ok(text),
-        Err(_) => Err(Error::from(ErrorKind::InvalidFilename)),
-    }
+    str::from_utf8(path).map_err(|_| Error::from(ErrorKind::InvalidFilename))
 }
 
 // Reads until there is no more room, or the file ends, and answers how much there is. A read that fails is not taken for the end.
@@ -90,10 +80,7 @@ fn fill(mut file: impl Write + OpenFile + Drop, book: &[u8]) -> io::Result<()> {
 
 // Fills a new file by this name, which is then given the book's own; or leaves nothing behind.
 fn finish<R: Files>(rt: &R, file: R::File, name: &str, path: &str, book: &[u8]) -> io::Result<()> {
-    let placed = match fill(file, book) {
-        Ok(()) => fs::rename(rt, name, path),
-        Err(e) => Err(e),
-    };
+    let placed = fill(file, book).and_then(|()| fs::rename(rt, name, path));
     if placed.is_err() {
         let _ = fs::remove_file(rt, name);
     }
@@ -159,70 +146,46 @@ fn keep(rt: &(impl Env + Files), told: Told, output: &mut [u8]) -> usize {
     put_told(output, told)
 }
 
-// Reads the file that a word of the command line names; or puts the line which tells that it cannot be read. A path has room for the longest that can
-// be opened: a longer one is taken for an empty one, which cannot.
-fn read_named(rt: &(impl Env + Files), word: usize, input: &mut [u8], output: &mut [u8]) -> Named {
+// Reads the file that a word of the command line names, and answers its length, up to the room; or puts the line which tells that it cannot be read, and
+// answers where that ends. A path has room for the longest that can be opened: a longer one is taken for an empty one, which cannot.
+fn read_named(
+    rt: &(impl Env + Files),
+    word: usize,
+    input: &mut [u8],
+    output: &mut [u8],
+) -> Result<usize, usize> {
     let mut path = [0u8; 4096];
     let length = put_word(rt, word, &mut path);
     match read_whole(rt, front(&path, length), input) {
-        Ok(count) => Named::Read(count),
-        Err(_) => Named::Refused(put_file(output, b"read", front(&path, length))),
+        Ok(count) => Ok(count),
+        Err(_) => Err(put_file(output, b"read", front(&path, length))),
     }
 }
 
-// Compiles the source, and puts what is to be printed; with `kept` the book is written.
-fn make(rt: &(impl Env + Files), input: &mut [u8], output: &mut [u8], kept: bool) -> usize {
-    match read_named(rt, 2, input, output) {
-        Named::Read(length) => {
-            let told = compile(front(input, length), output);
-            if kept {
-                return keep(rt, told, output);
-            }
-            put_told(output, told)
-        }
-        Named::Refused(end) => end,
-    }
+// What is put for the file that the first word after the command names.
+fn put_for<F: FnOnce(&[u8], &mut [u8]) -> usize>(
+    rt: &(impl Env + Files),
+    input: &mut [u8],
+    output: &mut [u8],
+    put: F,
+) -> Result<usize, usize>
+    requires { F.IsAlwaysCallable put }
+{
+    let length = read_named(rt, 2, input, output)?;
+    Ok(put(front(input, length), output))
 }
 
-// The same for the book that is shown.
-fn show_first(rt: &(impl Env + Files), input: &mut [u8], output: &mut [u8]) -> usize {
-    match read_named(rt, 2, input, output) {
-        Named::Read(length) => {
-            let told = show(front(input, length), output);
-            put_shown(output, told)
-        }
-        Named::Refused(end) => end,
-    }
-}
-
-// The same for the source whose legend is asked for.
-fn explain_first(rt: &(impl Env + Files), input: &mut [u8], output: &mut [u8]) -> usize {
-    match read_named(rt, 2, input, output) {
-        Named::Read(length) => {
-            let told = legend(front(input, length), output);
-            put_legend(output, told)
-        }
-        Named::Refused(end) => end,
-    }
-}
-
-// The same for the two books that are compared.
-fn compare_both(
+// What is put for the two books that are compared.
+fn put_for_both(
     rt: &(impl Env + Files),
     input: &mut [u8],
     second: &mut [u8],
     output: &mut [u8],
-) -> usize {
-    let old = match read_named(rt, 2, input, output) {
-        Named::Read(length) => length,
-        Named::Refused(end) => return end,
-    };
-    let new = match read_named(rt, 3, second, output) {
-        Named::Read(length) => length,
-        Named::Refused(end) => return end,
-    };
+) -> Result<usize, usize> {
+    let old = read_named(rt, 2, input, output)?;
+    let new = read_named(rt, 3, second, output)?;
     let told = difference(front(input, old), front(second, new), output);
-    put_diff(output, told)
+    Ok(put_diff(output, told))
 }
 
 // What the command line asks for: what is to be printed stands at the output's front. Further commands have their arms here, and their words in command.rt.
@@ -234,13 +197,28 @@ fn answer(
 ) -> usize {
     let mut verb = [0u8; 8];
     let length = put_word(rt, 1, &mut verb);
-    match command_of(word_count(rt), front(&verb, length)) {
-        Command::Compile => make(rt, input, output, true),
-        Command::Check => make(rt, input, output, false),
-        Command::Show => show_first(rt, input, output),
-        Command::Legend => explain_first(rt, input, output),
-        Command::Diff => compare_both(rt, input, second, output),
-        Command::Unknown => put_usage(output),
+    let put = match command_of(word_count(rt), front(&verb, length)) {
+        Command::Compile => put_for(rt, input, output, |source, output| {
+            let told = compile(source, output);
+            keep(rt, told, output)
+        }),
+        Command::Check => put_for(rt, input, output, |source, output| {
+            let told = compile(source, output);
+            put_told(output, told)
+        }),
+        Command::Show => put_for(rt, input, output, |book, output| {
+            let told = show(book, output);
+            put_shown(output, told)
+        }),
+        Command::Legend => put_for(rt, input, output, |source, output| {
+            let told = legend(source, output);
+            put_legend(output, told)
+        }),
+        Command::Diff => put_for_both(rt, input, second, output),
+        Command::Unknown => Ok(put_usage(output)),
+    };
+    match put {
+        Ok(end) | Err(end) => end,
     }
 }
 

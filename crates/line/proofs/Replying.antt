@@ -5,6 +5,7 @@ use Prim.Native.Nat.{ℕ, ◌≤◌}
 use native.Mathlib.Omega.{arith}
 use lib.ListN.{length, take, drop}
 use lib.Seq.{take_at}
+use Rattle.std.proofs.Common.{Option}
 use Rattle.grade.specs.declared.refusal.Answer.{Answer}
 use Rattle.grade.specs.Admission.{paper}
 use Rattle.ack.specs.Answers.{Outcome, Gives}
@@ -19,7 +20,7 @@ use Rattle.line.specs.declared.kept.Line.{Line}
 use Rattle.line.specs.declared.kept.State.{State}
 
 -- the answer about the line is determined, whatever chunks the input came in
-pub line_once : {input : List ℕ} {s s' : State} (r r' : Line) → Fed input s → Fed input s' → Says s r → Says s' r' → heard s.head r ≡ heard s'.head r'
+pub line_once : {input : List ℕ} {s s' : State} (r r' : Option Line) → Fed input s → Fed input s' → Says s r → Says s' r' → heard s.head r ≡ heard s'.head r'
 line_once r r' f f' says says' = says _ f ∙ sym (says' _ f')
 
 module _ (answers : List ℕ → ℕ → Outcome) {out after : List ℕ} {r : ℕ} where

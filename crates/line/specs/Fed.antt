@@ -1,6 +1,6 @@
 -- Inner: only contracts inside the crates use these names; nothing here has to be believed.
 -- What the reader of the line keeps of the input. Assumes nothing.
-use Rattle.std.specs.Prelude.{ℕ, min, ◌≡◌, not, List, eqb, ltb, length, take}
+use Rattle.std.specs.Prelude.{ℕ, min, ◌≡◌, cond, not, List, Option, Some, None, eqb, ltb, length, take}
 use Rattle.hl7.specs.Bytes.{is_digit, all}
 use Rattle.hl7.specs.Number.{value_of}
 use Rattle.hl7.specs.Counted.{too_large}
@@ -9,7 +9,6 @@ use Rattle.line.specs.declared.kept.Head.{Head}
 use Rattle.line.specs.declared.kept.Item.{Item}
 use Rattle.line.specs.declared.kept.State.{State}
 use Rattle.line.specs.declared.kept.Line.{Line}
-use Rattle.line.specs.declared.kept.Line.TheVariants.{Bad, Good}
 
 -- one byte more than a stamp has
 abbrev pub head_length : ℕ
@@ -21,13 +20,19 @@ pub record Heads (line : List ℕ) (h : Head) : Type 0 where
   pub count : h.count ≡ min (length line) head_length
   pub holds : take h.count h.bytes ≡ take head_length line
 
+-- how many bytes stand before the last space, as far as there is room for them
+abbrev pub stamp_in : List ℕ → Option ℕ
+stamp_in line = cond (occurs space line) (Some (min (length (stamp_of line)) head_length)) None
+
+-- the value of digits, as far as values are told apart
+abbrev pub number_in : List ℕ → Option ℕ
+number_in item = cond (all is_digit item) (Some (min (value_of item) too_large)) None
+
 -- i tells what stands before and after the line's last space
 pub record Items (line : List ℕ) (i : Item) : Type 0 where
-  pub spaced : i.spaced ≡ occurs space line
-  pub stamp : i.stamp ≡ min (length (stamp_of line)) head_length
+  pub stamp : i.stamp ≡ stamp_in line
   pub filled : i.filled ≡ not (eqb (length (last_item line)) 0)
-  pub digits : i.digits ≡ all is_digit (last_item line)
-  pub value : i.value ≡ min (value_of (last_item line)) too_large
+  pub number : i.number ≡ number_in (last_item line)
 
 -- s is what was kept of this input
 pub record Fed (input : List ℕ) (s : State) : Type 0 where
@@ -41,12 +46,12 @@ shortened bad_line = bad_line
 shortened (good_line stamp control) = good_line (take head_length stamp) control
 
 -- an answer of the code, with the kept bytes, on paper
-abbrev pub heard : Head → Line → Said
-heard h Bad = bad_line
-heard h (Good control stamp) = good_line (take stamp h.bytes) control
+abbrev pub heard : Head → Option Line → Said
+heard h None = bad_line
+heard h (Some line) = good_line (take line.stamp h.bytes) line.control
 
 -- r is what the line says, of whatever input s was kept
-abbrev pub Says : State → Line → Type 0
+abbrev pub Says : State → Option Line → Type 0
 Says s r = (input : List ℕ) → Fed input s → heard s.head r ≡ shortened (said (line_of input))
 
 -- s is what was kept of some input

@@ -1,6 +1,6 @@
 // The line of standard input, read byte by byte. What is kept of it has one size for lines of any length.
 ghost use Rattle.std.specs.Prelude.{◌≡◌, List, ◌++◌, ◌∷◌, [], ℕ, min, length};
-ghost use Rattle.line.specs.Fed.{head_length, Heads, Items, Fed, Says};
+ghost use Rattle.line.specs.Fed.{head_length, number_in, Heads, Items, Fed, Says};
 
 use hl7::bytes::is_within;
 use hl7::number::{TOO_LARGE, with_digit};
@@ -15,15 +15,13 @@ pub struct Head {
     pub count: usize,
 }
 
-// The last space: whether there is one, and how many of the head's bytes stand before it. What stands after it: whether
-// there is a byte, whether all are digits, and their value, counted up to one past the largest control number.
+// How many of the head's bytes stand before the last space, if there is one. What stands after it: whether
+// there is a byte, and the value, if all are digits, counted up to one past the largest control number.
 #[derive(Clone, Copy)]
 pub struct Item {
-    pub spaced: bool,
-    pub stamp: usize,
+    pub stamp: Option<usize>,
     pub filled: bool,
-    pub digits: bool,
-    pub value: usize,
+    pub number: Option<usize>,
 }
 
 // What is kept of the input: whether its line has ended, and the line.
@@ -34,11 +32,11 @@ pub struct State {
     pub item: Item,
 }
 
-// What the line says; the stamp is the first so many bytes of the head.
+// A line that can be used; the stamp is the first so many bytes of the head.
 #[derive(Clone, Copy)]
-pub enum Line {
-    Bad,
-    Good { control: u32, stamp: usize },
+pub struct Line {
+    pub control: u32,
+    pub stamp: usize,
 }
 
 impl Head {
@@ -55,6 +53,17 @@ impl Head {
     }
 }
 
+// The value with one byte more, if that is a digit too.
+fn number_with(number: Option<usize>, byte: u8) -> Option<usize>
+    ensures { (item : List ℕ) → number ≡ number_in item → result ≡ number_in (item ++ (byte ∷ [])) }
+{
+    let value = number?;
+    if is_within(byte, b'0', b'9') {
+        return Some(with_digit(value, byte));
+    }
+    None
+}
+
 impl Item {
     // One byte more on a line that has so many bytes in its head.
     fn push(self, byte: u8, count: usize) -> Item
@@ -62,19 +71,15 @@ impl Item {
     {
         if byte == b' ' {
             return Item {
-                spaced: true,
-                stamp: count,
+                stamp: Some(count),
                 filled: false,
-                digits: true,
-                value: 0,
+                number: Some(0),
             };
         }
         Item {
-            spaced: self.spaced,
             stamp: self.stamp,
             filled: true,
-            digits: self.digits & is_within(byte, b'0', b'9'),
-            value: with_digit(self.value, byte),
+            number: number_with(self.number, byte),
         }
     }
 }
@@ -90,11 +95,9 @@ pub fn start() -> State
             count: 0,
         },
         item: Item {
-            spaced: false,
-            stamp: 0,
+            stamp: None,
             filled: false,
-            digits: true,
-            value: 0,
+            number: Some(0),
         },
     }
 }
@@ -129,27 +132,23 @@ pub fn feed(state: State, chunk: &[u8]) -> State
     ensures { (input : List ℕ) → Fed input state → Fed (input ++ chunk.now) result }
 {
     let mut fed = state;
-    let mut i = 0;
-    while i < chunk.len() {
-        fed = fed.push(chunk[i]);
-        i += 1;
+    for byte in chunk {
+        fed = fed.push(*byte);
     }
     fed
 }
 
-// What the line of the input says.
-pub fn line_says(state: State) -> Line
+// What the line of the input says; none where it is bad.
+pub fn line_says(state: State) -> Option<Line>
     ensures { Says state result }
 {
-    let item = state.item;
-    if TOO_LARGE <= item.value {
-        return Line::Bad;
+    let stamp = state.item.stamp?;
+    let number = state.item.number?;
+    if state.item.filled & (number < TOO_LARGE) {
+        return Some(Line {
+            control: number as u32,
+            stamp,
+        });
     }
-    if item.spaced & item.filled & item.digits {
-        return Line::Good {
-            control: item.value as u32,
-            stamp: item.stamp,
-        };
-    }
-    Line::Bad
+    None
 }

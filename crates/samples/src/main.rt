@@ -9,9 +9,6 @@
 
 #![tactic(auto)]
 
-ghost use Rattle.std.specs.Prelude.{◌≡◌};
-ghost use Rattle.samples.specs.Pack.{number_of};
-
 use ack::lamp::lamp;
 use ack::lent::grade_and_write;
 use batchfile::batch::answer_batch;
@@ -20,102 +17,97 @@ use booktext::told::Told;
 use canonical::show::show;
 use difference::difference::difference;
 use grade::refusal::Answer;
-use hl7::bytes::{front, wide};
+use hl7::bytes::front;
 use hl7::locate::locate;
 use legend::legend::legend;
 use line::input::read_full;
 use show::text::put_answer;
 use std::io::Read;
+use std::rt::Files;
 use std::{fs, io};
 
-const MESSAGE: u32 = 1;
-
-const BATCH: u32 = 2;
-
-const TEXT: u32 = 3;
-
-const BOOK: u32 = 4;
-
-const LEGEND: u32 = 5;
-
-const DIFFERENCE: u32 = 6;
-
-// A number of the pack: how many of its bytes there were, and its value.
-#[derive(Clone, Copy)]
-struct Number {
-    count: usize,
-    value: u32,
+// What a case asks for.
+#[derive(Clone, Copy, PartialEq)]
+enum Kind {
+    Message,
+    Batch,
+    Text,
+    Book,
+    Legend,
+    Difference,
 }
 
-fn number_of(four: &[u8; 4]) -> u32
-    ensures { result ≡ number_of four.now }
-{
-    let high = 256 * wide(four[0]) + wide(four[1]);
-    let low = 256 * wide(four[2]) + wide(four[3]);
-    (65536 * high + low) as u32
+// Why no more cases are run: the pack breaks off or has no such case, or what is to be printed cannot be.
+#[derive(Drop)]
+enum Fault {
+    BadPack,
+    Unprinted(io::Error),
 }
 
-fn read_number(pack: &mut impl Read) -> Number {
+impl From<io::Error> for Fault {
+    fn from(error: io::Error) -> Fault {
+        Fault::Unprinted(error)
+    }
+}
+
+impl TryFrom<u32> for Kind {
+    type Error = Fault;
+
+    fn try_from(number: u32) -> Result<Kind, Fault> {
+        match number {
+            1 => Ok(Kind::Message),
+            2 => Ok(Kind::Batch),
+            3 => Ok(Kind::Text),
+            4 => Ok(Kind::Book),
+            5 => Ok(Kind::Legend),
+            6 => Ok(Kind::Difference),
+            _ => Err(Fault::BadPack),
+        }
+    }
+}
+
+// ---- what is read
+// The kind of the next case; none at the end of the pack.
+fn read_kind(pack: &mut impl Read) -> Result<Option<Kind>, Fault> {
     let mut four = [0u8; 4];
-    let count = read_full(pack, &mut four);
-    Number {
-        count,
-        value: number_of(&four),
+    match read_full(pack, &mut four) {
+        0 => Ok(None),
+        4 => Ok(Some(Kind::try_from(u32::from_be_bytes(four))?)),
+        _ => Err(Fault::BadPack),
     }
 }
 
-// Bytes of the pack with their length before them: whether all are there and had room, and how many they are.
-#[derive(Clone, Copy)]
-struct Part {
-    whole: bool,
-    length: usize,
-}
-
-fn read_part(pack: &mut impl Read, into: &mut [u8]) -> Part {
-    let number = read_number(pack);
-    let length = number.value as usize;
-    if into.len() < length {
-        return Part {
-            whole: false,
-            length,
-        };
+fn read_number(pack: &mut impl Read) -> Result<u32, Fault> {
+    let mut four = [0u8; 4];
+    if read_full(pack, &mut four) < 4 {
+        return Err(Fault::BadPack);
     }
-    let count = read_full(pack, &mut into[0..length]);
-    Part {
-        whole: (number.count == 4) & (count == length),
-        length,
+    Ok(u32::from_be_bytes(four))
+}
+
+// Bytes with their length before them, as far as there is room.
+fn read_part<'a>(pack: &mut impl Read, room: &'a mut [u8]) -> Result<&'a [u8], Fault> {
+    let length = read_number(pack)? as usize;
+    if room.len() < length {
+        return Err(Fault::BadPack);
     }
-}
-
-// A place that is asked for.
-#[derive(Clone, Copy)]
-struct Asked {
-    segment: Number,
-    field: Number,
-    repetition: Number,
-    component: Number,
-}
-
-fn read_place(pack: &mut impl Read) -> Asked {
-    Asked {
-        segment: read_number(pack),
-        field: read_number(pack),
-        repetition: read_number(pack),
-        component: read_number(pack),
+    let part = &mut room[..length];
+    if read_full(pack, part) < length {
+        return Err(Fault::BadPack);
     }
+    Ok(part)
 }
 
-// Prints the place, a part of the message, and a line feed.
-fn print_place(rt: &impl Print, message: &[u8], asked: Asked) -> io::Result<()> {
-    let part = locate(
-        message,
-        asked.segment.value as usize,
-        asked.field.value as usize,
-        asked.repetition.value as usize,
-        asked.component.value as usize,
-    );
-    rt.write_all(part)?;
-    rt.write_all(b"\n")
+// ---- cases of a message or a batch file
+// Reads the place that is asked for, and prints what stands there in the message, and a line feed.
+fn print_place(rt: &impl Print, pack: &mut impl Read, message: &[u8]) -> Result<(), Fault> {
+    let segment = read_number(pack)? as usize;
+    let field = read_number(pack)? as usize;
+    let repetition = read_number(pack)? as usize;
+    let component = read_number(pack)? as usize;
+    rt.write_all(locate(message, segment, field, repetition, component))?;
+    rt.write_all(b"\n")?;
+    Ok(())
 }
 
 // Prints what the lamp tells on a line.
@@ -124,128 +116,74 @@ fn print_lamp(rt: &impl Print, message: &[u8], book: &[u8], stamp: &[u8]) -> io:
     println!(rt; "{} {}", told.number, told.detail)
 }
 
-// The place and the lamp of a message's case; a batch file's asks for neither. Answers whether the case is whole.
-fn run_asked(
-    rt: &impl Print,
-    pack: &mut impl Read,
-    kind: u32,
-    input: &[u8],
-    book: &[u8],
-    stamp: &[u8],
-) -> io::Result<bool> {
-    if kind == MESSAGE {
-        let asked = read_place(pack);
-        // the last number is there only where the ones before it are
-        if asked.component.count < 4 {
-            return Ok(false);
-        }
-        print_place(rt, input, asked)?;
-        print_lamp(rt, input, book, stamp)?;
-    }
-    Ok(true)
-}
-
 // The answer to a message, which is graded and then written, or to a batch file.
 fn answer_to(
-    kind: u32,
+    kind: Kind,
     input: &[u8],
     book: &[u8],
     stamp: &[u8],
     control: u32,
     out: &mut [u8],
 ) -> Answer {
-    if kind == BATCH {
+    if kind == Kind::Batch {
         return answer_batch(input, book, stamp, control, out);
     }
     grade_and_write(input, book, stamp, control, out)
 }
 
-// Answers a case with the first so many bytes of out lent, and prints the answer. Answers whether there are so many.
+// Answers with the first so many bytes of out lent, and prints the answer.
 fn print_answer(
     rt: &impl Print,
-    kind: u32,
+    kind: Kind,
     input: &[u8],
     book: &[u8],
     stamp: &[u8],
     control: u32,
     out: &mut [u8],
     length: usize,
-) -> io::Result<bool> {
+) -> Result<(), Fault> {
     if out.len() < length {
-        return Ok(false);
+        return Err(Fault::BadPack);
     }
-    let answer = answer_to(kind, input, book, stamp, control, &mut out[0..length]);
+    let answer = answer_to(kind, input, book, stamp, control, &mut out[..length]);
     let end = put_answer(out, answer);
     rt.write_all(front(out, end))?;
-    Ok(true)
+    Ok(())
 }
 
-// The rest of a case, after the stamp. Answers whether it is whole.
-fn run_rest(
+// For a message the place and the lamp come first.
+fn run_case(rt: &impl Print, pack: &mut impl Read, kind: Kind) -> Result<(), Fault> {
+    let mut input_room = [0u8; 131072];
+    let input = read_part(pack, &mut input_room)?;
+    let mut book_room = [0u8; 65537];
+    let book = read_part(pack, &mut book_room)?;
+    let mut stamp_room = [0u8; 1024];
+    let stamp = read_part(pack, &mut stamp_room)?;
+    let control = read_number(pack)?;
+    let length = read_number(pack)? as usize;
+    if kind == Kind::Message {
+        print_place(rt, pack, input)?;
+        print_lamp(rt, input, book, stamp)?;
+    }
+    let out = &mut [0u8; 131072];
+    print_answer(rt, kind, input, book, stamp, control, out, length)
+}
+
+// ---- cases of a text or of books
+// Makes what is asked for with the first so many bytes of out lent. Prints number, detail and section on a line, and what was made if nothing was refused.
+fn print_made<F: FnOnce(&mut [u8]) -> Told>(
     rt: &impl Print,
-    pack: &mut impl Read,
-    kind: u32,
-    input: &[u8],
-    book: &[u8],
-    stamp: &[u8],
-) -> io::Result<bool> {
-    let control = read_number(pack);
-    let length = read_number(pack);
-    if (length.count == 4) && run_asked(rt, pack, kind, input, book, stamp)? {
-        return print_answer(
-            rt,
-            kind,
-            input,
-            book,
-            stamp,
-            control.value,
-            &mut [0u8; 131072],
-            length.value as usize,
-        );
+    make: F,
+    out: &mut [u8],
+    length: usize,
+) -> Result<(), Fault>
+    requires { F.IsAlwaysCallable make }
+{
+    if out.len() < length {
+        return Err(Fault::BadPack);
     }
-    Ok(false)
-}
-
-// A case of this kind. Answers whether it is whole.
-fn run_case(rt: &impl Print, pack: &mut impl Read, kind: u32) -> io::Result<bool> {
-    let mut input = [0u8; 131072];
-    let input_part = read_part(pack, &mut input);
-    let mut book = [0u8; 65537];
-    let book_part = read_part(pack, &mut book);
-    let mut stamp = [0u8; 1024];
-    let stamp_part = read_part(pack, &mut stamp);
-    if input_part.whole & book_part.whole & stamp_part.whole {
-        return run_rest(
-            rt,
-            pack,
-            kind,
-            front(&input, input_part.length),
-            front(&book, book_part.length),
-            front(&stamp, stamp_part.length),
-        );
-    }
-    Ok(false)
-}
-
-// Prints number, detail and section on a line.
-fn print_told(rt: &impl Print, told: Told) -> io::Result<()> {
-    println!(rt; "{} {} {}", told.number, told.detail, told.section)
-}
-
-// What the call for a text or a book tells.
-fn told_of(kind: u32, input: &[u8], out: &mut [u8]) -> Told {
-    if kind == BOOK {
-        return show(input, out);
-    }
-    if kind == LEGEND {
-        return legend(input, out);
-    }
-    compile(input, out)
-}
-
-// Prints what is told, and what was made if nothing was refused.
-fn print_result(rt: &impl Print, told: Told, out: &[u8]) -> io::Result<()> {
-    print_told(rt, told)?;
+    let told = make(&mut out[..length]);
+    println!(rt; "{} {} {}", told.number, told.detail, told.section)?;
     if told.number == 0 {
         rt.write_all(front(out, told.detail))?;
         rt.write_all(b"\n")?;
@@ -253,115 +191,69 @@ fn print_result(rt: &impl Print, told: Told, out: &[u8]) -> io::Result<()> {
     Ok(())
 }
 
-// Makes what is asked for with the first so many bytes of out lent, and prints the answer and what was made. Answers whether there are so many.
-fn print_made(
+// A text, or a book to be shown.
+fn run_text<F: Fn(&[u8], &mut [u8]) -> Told>(
     rt: &impl Print,
-    kind: u32,
-    input: &[u8],
-    out: &mut [u8],
-    length: usize,
-) -> io::Result<bool> {
-    if out.len() < length {
-        return Ok(false);
-    }
-    let told = told_of(kind, input, &mut out[0..length]);
-    print_result(rt, told, out)?;
-    Ok(true)
+    pack: &mut impl Read,
+    make: F,
+) -> Result<(), Fault>
+    requires { F.IsAlwaysCallable make }
+{
+    let mut input_room = [0u8; 131072];
+    let input = read_part(pack, &mut input_room)?;
+    let length = read_number(pack)? as usize;
+    print_made(rt, |out| make(input, out), &mut [0u8; 131072], length)
 }
 
-// The same for what differs between two books.
-fn print_difference(
-    rt: &impl Print,
-    old: &[u8],
-    new: &[u8],
-    out: &mut [u8],
-    length: usize,
-) -> io::Result<bool> {
-    if out.len() < length {
-        return Ok(false);
-    }
-    let told = difference(old, new, &mut out[0..length]);
-    print_result(rt, told, out)?;
-    Ok(true)
+// Two books.
+fn run_books(rt: &impl Print, pack: &mut impl Read) -> Result<(), Fault> {
+    let mut old_room = [0u8; 65537];
+    let old = read_part(pack, &mut old_room)?;
+    let mut new_room = [0u8; 65537];
+    let new = read_part(pack, &mut new_room)?;
+    let length = read_number(pack)? as usize;
+    print_made(
+        rt,
+        |out| difference(old, new, out),
+        &mut [0u8; 131072],
+        length,
+    )
 }
 
-// The case of a text, or of a book to be shown. Answers whether it is whole.
-fn run_text(rt: &impl Print, pack: &mut impl Read, kind: u32) -> io::Result<bool> {
-    let mut input = [0u8; 131072];
-    let part = read_part(pack, &mut input);
-    let length = read_number(pack);
-    if part.whole & (length.count == 4) {
-        return print_made(
-            rt,
-            kind,
-            front(&input, part.length),
-            &mut [0u8; 131072],
-            length.value as usize,
-        );
+// ---- the pack
+fn run_kind(rt: &impl Print, pack: &mut impl Read, kind: Kind) -> Result<(), Fault> {
+    match kind {
+        Kind::Message | Kind::Batch => run_case(rt, pack, kind),
+        Kind::Text => run_text(rt, pack, compile),
+        Kind::Book => run_text(rt, pack, show),
+        Kind::Legend => run_text(rt, pack, legend),
+        Kind::Difference => run_books(rt, pack),
     }
-    Ok(false)
-}
-
-// The case of two books. Answers whether it is whole.
-fn run_books(rt: &impl Print, pack: &mut impl Read) -> io::Result<bool> {
-    let mut old = [0u8; 65537];
-    let old_part = read_part(pack, &mut old);
-    let mut new = [0u8; 65537];
-    let new_part = read_part(pack, &mut new);
-    let length = read_number(pack);
-    if old_part.whole & new_part.whole & (length.count == 4) {
-        return print_difference(
-            rt,
-            front(&old, old_part.length),
-            front(&new, new_part.length),
-            &mut [0u8; 131072],
-            length.value as usize,
-        );
-    }
-    Ok(false)
-}
-
-// A case of any kind. Answers whether it is whole, and of a kind that there is.
-fn run_kind(rt: &impl Print, pack: &mut impl Read, kind: u32) -> io::Result<bool> {
-    if (kind == TEXT) | (kind == BOOK) | (kind == LEGEND) {
-        return run_text(rt, pack, kind);
-    }
-    if kind == DIFFERENCE {
-        return run_books(rt, pack);
-    }
-    if (kind == MESSAGE) | (kind == BATCH) {
-        return run_case(rt, pack, kind);
-    }
-    Ok(false)
-}
-
-// The next case, if there is one. Answers whether to go on.
-fn run_next(rt: &impl Print, pack: &mut impl Read) -> io::Result<bool> {
-    let kind = read_number(pack);
-    if kind.count == 0 {
-        return Ok(false);
-    }
-    let is_whole = run_kind(rt, pack, kind.value)?;
-    if !is_whole {
-        rt.write_all(b"bad pack\n")?;
-    }
-    Ok(is_whole)
 }
 
 // A proved loop has to end, so the cases have a bound, which no pack comes to.
-fn run_all(rt: &impl Print, pack: &mut impl Read) -> io::Result<()> {
+fn run_all(rt: &impl Print, pack: &mut impl Read) -> Result<(), Fault> {
     for _ in 0..usize::MAX {
-        if !run_next(rt, pack)? {
+        let Some(kind) = read_kind(pack)? else {
             break;
-        }
+        };
+        run_kind(rt, pack, kind)?;
     }
     Ok(())
 }
 
+fn run_file(rt: &(impl Print + Files)) -> Result<(), Fault> {
+    let Ok(mut pack) = fs::open(rt, "cases.pack") else {
+        return Err(Fault::BadPack);
+    };
+    run_all(rt, &mut pack)
+}
+
 // A text that cannot be printed is an error.
 fn main(rt: HostRuntime) -> io::Result<()> {
-    match fs::open(&rt, "cases.pack") {
-        Ok(mut pack) => run_all(&rt, &mut pack),
-        Err(_) => rt.write_all(b"bad pack\n"),
+    match run_file(&rt) {
+        Ok(()) => Ok(()),
+        Err(Fault::BadPack) => rt.write_all(b"bad pack\n"),
+        Err(Fault::Unprinted(error)) => Err(error),
     }
 }

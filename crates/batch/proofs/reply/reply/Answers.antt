@@ -1,14 +1,7 @@
 -- `batch::reply::reply` meets its contract. Assumes nothing.
-use Rattle.line.proofs.Replying.{replies_bad, replies_good}
+use Rattle.line.proofs.Replying.{replies_good}
 use Rattle.batch.proofs.Replying.{answers-stamp}
 use Rattle.batch.proofs.reply.reply.Goals as goal
 
-pub returns-in-Bad : goal.returns-in-Bad
-returns-in-Bad c input f =
-    let told = rw c.in-Bad.is at (c.line_says.ensures input f) in
-    replies_bad _ _ told c.put_bad_line.ensures
-
-pub returns-in-Good : goal.returns-in-Good
-returns-in-Good c input f =
-    let told = rw c.in-Good.is at (c.line_says.ensures input f) in
-    replies_good _ (answers-stamp _ _ _) _ _ _ told c.front.ensures c.answer_batch-answer.ensures c.put_answer.ensures
+pub returns : goal.returns
+returns c input f = replies_good _ (answers-stamp _ _ _) _ _ _ (c.in-Some.ensures input f) c.front-stamp.ensures c.answer_batch-answer.ensures c.put_answer.ensures

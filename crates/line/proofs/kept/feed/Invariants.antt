@@ -1,12 +1,9 @@
--- `line::kept::feed` meets its contract. The invariant: the first i bytes of the chunk were fed. Assumes nothing.
+-- `line::kept::feed` meets its contract. The invariant: so many first bytes of the chunk were fed. Assumes nothing.
 use mathlib.Core.List.{List, ◌++◌}
-use Prim.Native.Nat.{ℕ, ◌-◌, ◌≤◌}
-use lib.ListN.{length, take}
+use Prim.Native.Nat.{ℕ}
+use lib.ListN.{take}
 use Rattle.line.specs.Fed.{Fed}
 use Rattle.line.proofs.kept.feed.Given as goal
 
-abbrev pub invariant-loop-i : goal.invariant-loop-i
-invariant-loop-i l = (l.i ≤ length l.chunk) × ((input : List ℕ) → Fed input l.initial.fed → Fed (input ++ take l.i l.chunk) l.fed)
-
-abbrev pub decreases-loop-i : goal.decreases-loop-i
-decreases-loop-i l = length l.chunk - l.i
+abbrev pub invariant-loop-byte : goal.invariant-loop-byte
+invariant-loop-byte l = (input : List ℕ) → Fed input l.initial.fed → Fed (input ++ take l.byte-index l.chunk) l.fed
