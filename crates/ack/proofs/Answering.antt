@@ -2,6 +2,7 @@
 -- Assumes nothing.
 use mathlib.Core.Path.{◌≡◌, refl, sym, ap, ap₂, ◌∙◌}
 use mathlib.Core.Bool.{Bool, true, false, cond}
+use Rattle.std.specs.Prelude.{Ok, Err}
 use mathlib.Core.Logic.{◌↔◌}
 use mathlib.Core.List.{List, [], ◌∷◌, ◌++◌, append_assoc}
 use Prim.Native.Nat.{ℕ, ◌+◌, ◌^◌, ◌≤◌, ◌<◌}
@@ -13,11 +14,12 @@ use Rattle.hl7.specs.declared.place.Delims.{Delims}
 use Rattle.hl7.specs.Refusals.{message_limit, Told, told, Row, first_row, passes, numbers_of, apart, holds_at, First}
 use Rattle.hl7.proofs.Refusing.{rows_append, row-exactly, none-exactly}
 use Rattle.grade.specs.Values.{is_stamp}
-use Rattle.grade.specs.Admission.{admit_rows, stamp_row, ten_rows}
+use Rattle.grade.specs.Admission.{admit_rows, stamp_row, ten_rows, Answer}
 use Rattle.grade.specs.Grading.{findings_for, grade_of}
 use Rattle.grade.specs.declared.finding.Finding.{Finding}
 use Rattle.grade.proofs.Admitting.{admit_apart, ten_apart}
-use Rattle.grade.specs.declared.refusal.Answer.{Answer}
+use Rattle.grade.specs.declared.refusal.Refusal.{Refusal}
+use Rattle.grade.proofs.Telling.{paper_once}
 use Rattle.ack.specs.Splice.{Wrote}
 use Rattle.ack.specs.Layout.{verdict, ack_bytes}
 use Rattle.ack.specs.Answers.{Outcome, outcome, outcome_by, by_rows, short_row, write_rows, write_of, then_write, ack_of, ack_for, answer_of, Gives}
@@ -29,9 +31,9 @@ use Rattle.ack.proofs.Sizes.{ack-short}
 
 -- any two results that a promise allows have the same number, detail and output
 pub gives_once : {o : Outcome} {a a' : Answer} {after after' : List ℕ} → Gives a after o → Gives a' after' o → (a ≡ a') × (after ≡ after')
-gives_once p q =
+gives_once {a = a} {a'} p q =
     let same = p ∙ sym q in
-    (ap (λ (o : Outcome). record { number = o.told.number; detail = o.told.detail }) same, ap (λ (o : Outcome). o.output) same)
+    (paper_once a a' (ap (λ (o : Outcome). o.told) same), ap (λ (o : Outcome). o.output) same)
 
 -- ---- what a table gives
 module _ (t : Told) (ack out : List ℕ) where
@@ -126,12 +128,12 @@ module _ (d : Delims) (msh stamp : List ℕ) (control : ℕ) (findings : List Fi
     pub need_fits : a + b < 2 ^ 63
     need_fits = omega (arith, need_is, ack-short d msh stamp control findings h s few)
 
-    pub too_short : length out < a + b → Gives (record { number = 11; detail = a + b }) out (short_or (ack_bytes d msh stamp control findings) out)
+    pub too_short : length out < a + b → Gives (Err (Refusal.ShortOutput (a + b))) out (short_or (ack_bytes d msh stamp control findings) out)
     unfolding first_row
     too_short less = rw (lt-ltb (length out) (length (ack_bytes d msh stamp control findings)) (omega (arith, need_is))) (ap (λ (n : ℕ). outcome (told 11 n) out) need_is)
 
     pub fits : {p after : List ℕ} {at end second : ℕ} → a + b ≤ length out → second ≡ verdict findings → Wrote out 0 (heading d msh stamp control second) p at → Wrote p at (errs d findings) after end
-        → Gives (record { number = 0; detail = end }) after (short_or (ack_bytes d msh stamp control findings) out)
+        → Gives (Ok end) after (short_or (ack_bytes d msh stamp control findings) out)
     unfolding first_row
     fits {end = end} room e w v =
         let ack = ack_bytes d msh stamp control findings in

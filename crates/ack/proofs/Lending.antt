@@ -1,6 +1,6 @@
 -- Grading into a table and then writing what it gave is answering, where the table has room; where it has none it is 12. Assumes nothing.
 use Prim.Native.Nat.{ℕ, ◌≤◌}
-use mathlib.Core.Path.{◌≡◌, refl, sym, ap, ◌∙◌}
+use mathlib.Core.Path.{◌≡◌, refl, sym, ap, ap₂, ◌∙◌}
 use mathlib.Core.Bool.{Bool, true, false, cond, not, ◌&&◌, ◌||◌, true≢false}
 use mathlib.Core.Logic.{◌↔◌}
 use mathlib.Core.List.{List, ◌++◌}
@@ -8,22 +8,25 @@ use native.Mathlib.Omega.{arith}
 use lib.Dec.{eqb, leb, ltb}
 use lib.ListN.{length, drop, length-append}
 use lib.Seq.{take-append_seam}
-use borrow.Author.Tests.{eq-eqb, eqb-true, eqb-false, lt-ltb, le-ltb, leb-true, leb-false, not-false}
+use Rattle.std.specs.Prelude.{Err}
+use borrow.Author.Tests.{eq-eqb, ne_eqb, eqb-true, eqb-false, lt-ltb, le-ltb, leb-true, leb-false, not-false}
 use Rattle.hl7.specs.Place.{delims_of}
 use Rattle.hl7.specs.Refusals.{Told, told, first_row, passes, message_rows, form_rows}
 use Rattle.hl7.proofs.Refusing.{none-exactly}
 use Rattle.grade.specs.Values.{is_stamp}
 use Rattle.grade.specs.Header.{msh_of}
-use Rattle.grade.specs.Admission.{has_control_id, book_rows, admit_rows, six_rows}
+use Rattle.grade.specs.Admission.{has_control_id, book_rows, admit_rows, six_rows, Answer, refusal_told}
 use Rattle.grade.specs.Grading.{findings_for}
 use Rattle.grade.specs.Range.{all_in_range}
 use Rattle.grade.specs.Table.{Filled, grade_into}
 use Rattle.grade.specs.declared.finding.Finding.{Finding}
-use Rattle.grade.specs.declared.refusal.Answer.{Answer}
+use Rattle.grade.specs.declared.refusal.Refusal.{Refusal}
+use Rattle.grade.proofs.Telling.{refusal_some}
+use Rattle.grade.proofs.Tabling.{into_fits}
 use Rattle.grade.proofs.Admitting.{admit_apart, admits_passed, admitted_by, six_sound}
 use Rattle.grade.proofs.Planning.{into_refused, into_short, into_room}
 use Rattle.grade.proofs.Ranging.{graded-in_range}
-use Rattle.ack.specs.Answers.{Outcome, outcome, write_of, answer_of}
+use Rattle.ack.specs.Answers.{Outcome, outcome, write_of, answer_of, Gives}
 use Rattle.ack.specs.Records.{write_records, write_from, lent_of}
 use Rattle.ack.proofs.Answering.{write_stamp, write_stamped, by_admission, answer_unstamped}
 use Rattle.ack.proofs.Promises.{output-length, answer_bounded}
@@ -35,8 +38,7 @@ unfolding admit_rows message_rows form_rows book_rows first_row
 six_admitted m b none =
     let sound = (admitted_by m b (admits_passed m b none)).sound in
     let named = not-false (has_control_id (delims_of m) (msh_of m)) ((none-exactly (admit_rows m b) (admit_apart m b)).0 none 5) in
-    let zero : Answer = record { number = 0; detail = 0 } in
-    sym (ap (λ (t : Told). t.number) (six_sound m {a = zero} sound refl refl (rw named refl)))
+    sym (ap (λ (t : Told). t.number) (six_sound m {t = told 0 0} sound refl refl (rw named refl)))
 
 module _ (m b stamp : List ℕ) (control : ℕ) (out : List ℕ) where
   abbrev found : List Finding
@@ -110,3 +112,22 @@ pub lent-unstamped : (table : List Finding) (m b stamp : List ℕ) (control : �
     ≡ cond (passes (admit_rows m b) && ltb (length table) (length (findings_for m b))) (outcome (told 12 (length (findings_for m b))) out)
     (cond (passes (admit_rows m b)) (outcome (told 10 0) out) (outcome (first_row (admit_rows m b)) out))
 lent-unstamped table m b stamp control out e = lent-answers m b stamp control out table ∙ rw (answer_unstamped m b stamp control out e) refl
+
+-- ---- what the code does
+module _ (m b stamp : List ℕ) (control : ℕ) (out : List ℕ) (table : List Finding) where
+  -- a refusal of grading is told, and nothing is written
+  pub lent_refused : (a : Refusal) → refusal_told a ≡ (grade_into m b table).told → Gives (Err a) out (lent_of table m b stamp control out)
+  unfolding lent_of
+  lent_refused a is = rw (ne_eqb _ 0 (λ zero. refusal_some a (ap (λ (t : Told). t.number) is ∙ zero))) (ap (λ (t : Told). outcome t out) is)
+
+  -- what grading gave is written
+  pub lent_written : {found : ℕ} {graded : List Finding} (a : Answer) {after : List ℕ} → told 0 found ≡ (grade_into m b table).told → graded ≡ (grade_into m b table).table
+      → Gives a after (write_from m graded found stamp control out) → Gives a after (lent_of table m b stamp control out)
+  unfolding lent_of
+  lent_written a is left w =
+      let zero : (grade_into m b table).told.number ≡ 0 = sym (ap (λ (t : Told). t.number) is) in
+      rw (eq-eqb _ 0 zero) (w ∙ ap₂ (λ (t : List Finding) (n : ℕ). write_from m t n stamp control out) left (ap (λ (t : Told). t.detail) is))
+
+  -- no more is found than the table has records
+  pub lent_few : {found : ℕ} → told 0 found ≡ (grade_into m b table).told → found ≤ length table
+  lent_few is = omega (arith, ap (λ (t : Told). t.detail) is, into_fits m b table (sym (ap (λ (t : Told). t.number) is)))

@@ -8,7 +8,6 @@ pub mod Answering
 pub mod Admitting
 pub mod Recording
 pub mod Recorded
-pub mod Settling
 pub mod Texts
 pub mod Reading
 pub mod Promises

@@ -16,10 +16,9 @@ use Rattle.hl7.proofs.Placing.{segment-short}
 use Rattle.hl7.proofs.Refusing.{reading_bounded, sound-short}
 use Rattle.grade.specs.Values.{is_stamp}
 use Rattle.grade.specs.Header.{msh_of}
-use Rattle.grade.specs.Admission.{has_control_id, six_rows}
+use Rattle.grade.specs.Admission.{has_control_id, six_rows, Answer}
 use Rattle.grade.specs.Range.{all_in_range}
 use Rattle.grade.specs.declared.finding.Finding.{Finding}
-use Rattle.grade.specs.declared.refusal.Answer.{Answer}
 use Rattle.grade.proofs.Admitting.{six_passes, six_sound, six_refused}
 use Rattle.ack.specs.Answers.{Outcome, outcome, ack_of, Gives}
 use Rattle.ack.specs.Records.{record_rows, write_records, write_from}
@@ -98,15 +97,12 @@ module _ (m : List ℕ) (table : List Finding) (count : ℕ) (stamp : List ℕ) 
     where
       by : (sound named : Bool) → is_sound m ≡ sound → has_control_id (delims_of m) (msh_of m) ≡ named → Small (first_row (six_rows m))
       by true true e f =
-          let zero : Answer = record { number = 0; detail = 0 } in
-          subst Small (six_sound m {a = zero} e refl refl (rw f refl)) (omega arith, omega arith)
+          subst Small (six_sound m {t = told 0 0} e refl refl (rw f refl)) (omega arith, omega arith)
       by true false e f =
-          let six : Answer = record { number = 6; detail = 0 } in
-          subst Small (six_sound m {a = six} e refl refl (rw f refl)) (omega arith, omega arith)
+          subst Small (six_sound m {t = told 6 0} e refl refl (rw f refl)) (omega arith, omega arith)
       by false named e f =
-          let reading : Answer = record { number = (first_row (message_rows m)).number; detail = (first_row (message_rows m)).detail } in
           let told = reading_bounded m in
-          subst Small (six_refused m {a = reading} e refl) (omega arith, omega arith)
+          subst Small (six_refused m e refl) (omega arith, omega arith)
 
   pub record_bounded : count < 2 ^ 32 → Small given.told
   record_bounded few = ways (λ (o : Outcome). Small o.told) (λ _. six_small) (omega arith, omega arith) (omega arith, omega arith) (λ none stamped. fit none stamped (dec_le (length ack) (length out)))

@@ -5,6 +5,7 @@ use Prim.Native.Char.{code}
 use native.Mathlib.Omega.{arith}
 use mathlib.Core.Path.{◌≡◌, refl, sym, ap, subst, ◌∙◌}
 use mathlib.Core.Bool.{Bool, true, false, cond, not}
+use Rattle.std.specs.Prelude.{Ok, Err}
 use mathlib.Core.Logic.{◌↔◌}
 use mathlib.Core.List.{List, [], ◌∷◌}
 use lib.Dec.{eqb, ltb}
@@ -17,15 +18,15 @@ use Rattle.hl7.proofs.Comparing.{or_neither}
 use Rattle.hl7.proofs.Refusing.{row-exactly, none-exactly}
 use Rattle.grade.specs.Values.{is_stamp}
 use Rattle.grade.specs.Header.{msh_of, header_of, any_wrong, header_or}
-use Rattle.grade.specs.Admission.{book_rows, admit_rows, ten_rows, paper}
+use Rattle.grade.specs.Admission.{book_rows, admit_rows, ten_rows, Answer, paper, refusal_told}
 use Rattle.grade.specs.Grading.{findings_by, findings_for, Graded, grade_of}
 use Rattle.grade.specs.Standing.{AdmitsStamped}
 use Rattle.grade.specs.Rest.{findings_in}
-use Rattle.grade.specs.declared.refusal.Answer.{Answer}
+use Rattle.grade.specs.declared.refusal.Refusal.{Refusal}
+use Rattle.grade.specs.declared.step.Terms.{Terms}
+use Rattle.grade.proofs.Telling.{paper_once}
 use Rattle.grade.specs.declared.finding.Finding.{Finding}
 use Rattle.grade.specs.declared.header.Header.{Header}
-use Rattle.grade.specs.declared.walk.Section.{Section}
-use Rattle.grade.specs.declared.admit.Admitted.TheVariants.{Refused, By}
 use Rattle.grade.proofs.Admitting.{admitted_by, refused-some, ten_apart, ten_first, ten_bounded, ten_refuses, stamped_passes, stamped_admitted}
 use Rattle.grade.proofs.Grading.{listed}
 use Rattle.grade.specs.Deciding.{has, is_fault}
@@ -67,17 +68,17 @@ module _ (m b stamp : List ℕ) where
   unfolding lamp_of
   lamp_passed e = rw e
 
-  pub lamp_refused : {a : Answer} → AdmitsStamped m b stamp (Refused a) → paper a ≡ lamp_of m b stamp
+  pub lamp_refused : {a : Refusal} → AdmitsStamped m b stamp (Err a) → refusal_told a ≡ lamp_of m b stamp
   lamp_refused w = w.told_is ∙ sym (lamp_stopped (ne_eqb _ 0 (refused-some w)))
 
-  pub lamp_admitted : {a : Answer} {s : Section} {h : Header} {aa : Bool} → AdmitsStamped m b stamp (By s h) → aa ≡ gets_aa (findings_in b s h m) → paper a ≡ yes_or_no aa → paper a ≡ lamp_of m b stamp
-  lamp_admitted {s = s} {h} w is p =
+  pub lamp_admitted : {t : Terms} {aa : Bool} {detail : ℕ} → AdmitsStamped m b stamp (Ok t) → aa ≡ gets_aa (findings_in b t.section t.header m) → detail ≡ cond aa 1 0 → told 0 detail ≡ lamp_of m b stamp
+  lamp_admitted {t} w is one =
       let by = admitted_by m b (stamped_admitted m b stamp w) in
-      p ∙ rw (is, listed m b s by.opens by.reads, lamp_passed (stamped_passes m b stamp w))
+      rw (one, is, listed m b t.section by.opens by.reads, lamp_passed (stamped_passes m b stamp w))
 
 -- any two answers that the contract of `lamp` allows are equal
 pub lamp_once : {t : Told} {a a' : Answer} → paper a ≡ t → paper a' ≡ t → a ≡ a'
-lamp_once p q = ap (λ (t : Told). record { number = t.number; detail = t.detail }) (p ∙ sym q)
+lamp_once {a = a} {a'} p q = paper_once a a' (p ∙ sym q)
 
 -- ---- it is what the full grading says
 -- what grading gave, a refusal or findings, and a stamp

@@ -3,10 +3,9 @@ use Rattle.std.specs.Prelude.{ℕ, ◌≡◌, cond, List, [], ◌∷◌, ◌++�
 use Rattle.hl7.specs.Refusals.{Told, told, Row, first_row}
 use Rattle.hl7.specs.Place.{delims_of}
 use Rattle.grade.specs.Header.{msh_of}
-use Rattle.grade.specs.Admission.{stamp_row, ten_rows, paper}
+use Rattle.grade.specs.Admission.{stamp_row, ten_rows, Answer, paper}
 use Rattle.grade.specs.Grading.{findings_for, Graded}
 use Rattle.grade.specs.declared.finding.Finding.{Finding}
-use Rattle.grade.specs.declared.refusal.Answer.{Answer}
 use Rattle.ack.specs.Layout.{ack_bytes}
 
 -- number and detail, and the output afterwards

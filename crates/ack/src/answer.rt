@@ -13,13 +13,13 @@ use crate::errs::put_errs;
 use crate::layout::{letter_of, put_heading};
 use crate::measure::heading_length;
 use crate::output::Output;
-use grade::admit::{Admitted, admit_stamped};
+use grade::admit::admit_stamped;
 use grade::book::Indexed;
 use grade::header::any_wrong;
-use grade::refusal::Answer;
+use grade::refusal::{Answer, Refusal};
 use grade::sheet::first_sheet;
 use grade::step::Terms;
-use hl7::place::{MSH_PLACES, delims_of, note_fields, segment};
+use hl7::place::{MSH_PLACES, note_fields, segment};
 
 // The ACK of a message that is graded, where it fits: its findings are gone through once to measure, and once more to write.
 fn answer_listed(
@@ -46,19 +46,13 @@ fn answer_listed(
     let count = note_fields(d, msh, &mut starts);
     let need = heading_length(d, msh, &starts, count, stamp, control) + measured.at;
     if out.len() < need {
-        return Answer {
-            number: 11,
-            detail: need,
-        };
+        return Err(Refusal::ShortOutput(need));
     }
     let second = letter_of(any_wrong(by.header), fault);
     let mut ack = Output { bytes: out, at: 0 };
     put_heading(&mut ack, d, msh, &starts, count, stamp, control, second);
     put_errs(&mut ack, m, book, first);
-    Answer {
-        number: 0,
-        detail: ack.at,
-    }
+    Ok(ack.at)
 }
 
 // The answer to a message by a book whose sections' starts were noted by `index_book`: many messages can be answered by one index.
@@ -74,12 +68,6 @@ pub fn answer_indexed(
     requires { Indexes book.now sections.now indexed }
     ensures { Gives result out.new (answer_of m.now book.now stamp.now control out.old) }
 {
-    match admit_stamped(m, book, sections, indexed, stamp) {
-        Admitted::By(section, header) => {
-            let d = delims_of(m);
-            let by = Terms { d, section, header };
-            answer_listed(out, by, m, book, segment(m, 1), stamp, control)
-        }
-        Admitted::Refused(answer) => answer,
-    }
+    let by = admit_stamped(m, book, sections, indexed, stamp)?;
+    answer_listed(out, by, m, book, segment(m, 1), stamp, control)
 }

@@ -5,17 +5,15 @@ ghost use Rattle.hl7.specs.Refusals.{message_limit};
 ghost use Rattle.grade.specs.Admission.{paper};
 ghost use Rattle.grade.specs.Standing.{Holds};
 ghost use Rattle.grade.specs.Rest.{findings_in};
-ghost use Rattle.ack.specs.Lamp.{gets_aa, yes_or_no, lamp_of};
+ghost use Rattle.ack.specs.Lamp.{gets_aa, lamp_of};
 
-use grade::admit::{Admitted, admit_stamped};
+use grade::admit::admit_stamped;
 use grade::book::index_book;
 use grade::header::any_wrong;
 use grade::limits::SECTION_LIMIT;
 use grade::refusal::Answer;
 use grade::sheet::{first_sheet, next_sheet};
 use grade::step::Terms;
-use hl7::bytes::pick;
-use hl7::place::delims_of;
 
 // Whether a message gets AA: a header finding decides before any rule is looked up, and then the first E or W, at which the sheets end.
 fn gets_aa(by: Terms, m: &[u8], book: &[u8]) -> bool
@@ -32,26 +30,12 @@ fn gets_aa(by: Terms, m: &[u8], book: &[u8]) -> bool
     !sheet.fault
 }
 
-fn yes_or_no(yes: bool) -> Answer
-    ensures { paper result ≡ yes_or_no yes }
-{
-    Answer {
-        number: 0,
-        detail: pick(yes, 1, 0),
-    }
-}
-
-// Whether a message would get AA by a book: detail 1 or 0, or the first of refusals 1 to 10 that applies.
+// Whether a message would get AA by a book: 1 or 0, or the first of refusals 1 to 10 that applies.
 pub fn lamp(m: &[u8], book: &[u8], stamp: &[u8]) -> Answer
     ensures { paper result ≡ lamp_of m.now book.now stamp.now }
 {
     let mut sections = [0usize; SECTION_LIMIT];
     let indexed = index_book(book, &mut sections);
-    match admit_stamped(m, book, &sections, indexed, stamp) {
-        Admitted::By(section, header) => {
-            let d = delims_of(m);
-            yes_or_no(gets_aa(Terms { d, section, header }, m, book))
-        }
-        Admitted::Refused(answer) => answer,
-    }
+    let by = admit_stamped(m, book, &sections, indexed, stamp)?;
+    Ok(usize::from(gets_aa(by, m, book)))
 }

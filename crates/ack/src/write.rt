@@ -1,16 +1,14 @@
 // Writing the ACK from records that the caller lends.
-ghost use Rattle.std.specs.Prelude.{◌≡◌, true, List, ℕ, ◌≤◌, ◌<◌, ltb, length, get_or, take};
+ghost use Rattle.std.specs.Prelude.{◌≡◌, true, ◌≤◌, ◌<◌, length};
 ghost use Rattle.hl7.specs.Place.{delims_of, is_msh};
 ghost use Rattle.hl7.specs.Refusals.{message_limit};
 ghost use Rattle.grade.specs.Header.{msh_of};
-ghost use Rattle.grade.specs.Admission.{paper};
 ghost use Rattle.grade.specs.Sheet.{finding_limit};
-ghost use Rattle.grade.specs.declared.finding.Finding.{Finding};
 ghost use Rattle.ack.specs.Answers.{ack_of, Gives};
 ghost use Rattle.ack.specs.Pieces.{errs, short_or};
 ghost use Rattle.ack.specs.Splice.{limit, Wrote};
-ghost use Rattle.ack.specs.Records.{write_records, write_from, blank};
-ghost use Rattle.ack.specs.Drafts.{weightless, weighed_by, weigh_all, looked_at, Drafts, Fronts};
+ghost use Rattle.ack.specs.Records.{write_from};
+ghost use Rattle.ack.specs.Drafts.{weightless, weighed_by, weigh_all};
 
 use crate::errs::put_each;
 use crate::layout::{letter_of, put_heading};
@@ -20,10 +18,9 @@ use grade::admit::admit_message;
 use grade::date::is_stamp;
 use grade::finding::Finding;
 use grade::range::{in_range, is_header};
-use grade::refusal::{Answer, refused};
+use grade::refusal::{Answer, Refusal};
 use grade::sheet::is_fault;
-use hl7::bytes::pick;
-use hl7::place::{Delims, MSH_PLACES, delims_of, note_fields, segment};
+use hl7::place::{MSH_PLACES, delims_of, note_fields, segment};
 
 // Of records: whether all are in range, how long their ERRs are, whether one is about the header, and whether an E or W is among them.
 #[derive(Clone, Copy)]
@@ -32,15 +29,6 @@ pub struct Weight {
     pub length: usize,
     pub header: bool,
     pub fault: bool,
-}
-
-// What is answered; and unless it is a refusal, how many records are written, by which delimiters, and the letter of MSA-1.
-#[derive(Clone, Copy)]
-pub struct Draft {
-    pub answer: Answer,
-    pub count: usize,
-    pub d: Delims,
-    pub letter: u8,
 }
 
 // Of no records.
@@ -67,146 +55,46 @@ fn weighed(weight: Weight, finding: Finding) -> Weight
     }
 }
 
-// How many records are looked at: the stated count, or none where the table has fewer.
-fn looked_at(count: u32, room: usize) -> usize
-    ensures { result ≡ looked_at count room }
-{
-    let stated = count as usize;
-    if stated <= room { stated } else { 0 }
-}
-
-// One record.
-fn recorded(table: &[Finding], at: usize) -> Finding
-    requires { at < length table.now }
-    ensures { result ≡ get_or table.now at blank }
-{
-    table[at]
-}
-
-// What the first so many records weigh.
-fn weigh(table: &[Finding], count: usize) -> Weight
-    requires { count ≤ length table.now }
-    ensures { result ≡ weigh_all weightless (take count table.now) }
+// What records weigh.
+fn weigh(records: &[Finding]) -> Weight
+    ensures { result ≡ weigh_all weightless records.now }
 {
     let mut weight = no_weight();
-    let mut i: usize = 0;
-    while i < count {
-        let finding = recorded(table, i);
-        weight = weighed(weight, finding);
-        i += 1;
+    for finding in records {
+        weight = weighed(weight, *finding);
     }
     weight
 }
 
-// The ERRs of the first so many records.
-fn put_records(out: &mut [u8], from: usize, d: Delims, table: &[Finding], count: usize) -> usize
-    requires { (from ≤ limit) × (length out.old < limit) × (count ≤ length table.now) }
-    ensures { Wrote out.old from (errs d (take count table.now)) out.new result }
-{
-    let mut ack = Output {
-        bytes: out,
-        at: from,
-    };
-    put_each(&mut ack, d, &table[..count]);
-    ack.at
-}
-
-// Row 11, or the length of the ACK: its heading's, and what its ERRs have.
-fn measured(m: &[u8], stamp: &[u8], control: u32, tail: usize, space: usize) -> Answer
-    requires { (is_msh (msh_of m.now) ≡ true) × (length m.now ≤ message_limit) × (length stamp.now ≤ 19) }
-    ensures { (records : List Finding) → length records ≤ finding_limit → tail ≡ length (errs (delims_of m.now) records) → (out : List ℕ) → length out ≡ space → paper result ≡ (short_or (ack_of m.now records stamp.now control) out).told }
+// Row 11, or the ACK: its heading, and the ERRs of the records that were weighed.
+fn put_ack(
+    out: &mut [u8],
+    m: &[u8],
+    records: &[Finding],
+    weight: Weight,
+    stamp: &[u8],
+    control: u32,
+) -> Answer
+    requires { (is_msh (msh_of m.now) ≡ true) × (length m.now ≤ message_limit) × (length stamp.now ≤ 19) × (length records.now ≤ finding_limit) × (weight ≡ weigh_all weightless records.now) }
+    ensures { Gives result out.new (short_or (ack_of m.now records.now stamp.now control) out.old) }
 {
     let d = delims_of(m);
     let msh = segment(m, 1);
     let mut starts = [0usize; MSH_PLACES];
     let count = note_fields(d, msh, &mut starts);
-    let need = advanced(tail, heading_length(d, msh, &starts, count, stamp, control));
-    if space < need {
-        return Answer {
-            number: 11,
-            detail: need,
-        };
+    let need = heading_length(d, msh, &starts, count, stamp, control) + weight.length;
+    if out.len() < need {
+        return Err(Refusal::ShortOutput(need));
     }
-    Answer {
-        number: 0,
-        detail: need,
-    }
-}
-
-// Rows 1 to 6, 13, 10 and 11, or the length of the ACK.
-fn answered(
-    m: &[u8],
-    stamp: &[u8],
-    control: u32,
-    over: bool,
-    weight: Weight,
-    space: usize,
-) -> Answer
-    ensures { (records : List Finding) → length records ≤ finding_limit → weight ≡ weigh_all weightless records → (out : List ℕ) → length out ≡ space → paper result ≡ (write_records m.now over records stamp.now control out).told }
-{
-    let admitted = admit_message(m);
-    if 0 < admitted.number {
-        return admitted;
-    }
-    if over | !weight.sound {
-        return refused(13);
-    }
-    if !is_stamp(stamp) {
-        return refused(10);
-    }
-    measured(m, stamp, control, weight.length, space)
-}
-
-// What is answered to a message with so many records of this weight, of a table of so many.
-fn drafted(
-    m: &[u8],
-    stamp: &[u8],
-    control: u32,
-    count: u32,
-    room: usize,
-    weight: Weight,
-    space: usize,
-) -> Draft
-    ensures { (records : List Finding) → length records ≡ looked_at count room → weight ≡ weigh_all weightless records → Drafts m.now (ltb room count) records stamp.now control space result }
-{
-    let answer = answered(m, stamp, control, room < count as usize, weight, space);
-    let looked = looked_at(count, room);
-    Draft {
-        answer,
-        count: pick(answer.number == 0, looked, 0),
-        d: delims_of(m),
-        letter: letter_of(weight.header, weight.fault),
-    }
-}
-
-// Writes the first two segments, unless something is refused.
-fn put_front(out: &mut [u8], m: &[u8], stamp: &[u8], control: u32, draft: Draft) -> usize
-    requires { draft.answer.number ≡ 0 → is_msh (msh_of m.now) ≡ true }
-    ensures { Fronts m.now stamp.now control draft out.old out.new result }
-{
-    if 0 < draft.answer.number {
-        return 0;
-    }
-    let d = draft.d;
-    let msh = segment(m, 1);
-    let mut starts = [0usize; MSH_PLACES];
-    let count = note_fields(d, msh, &mut starts);
+    let second = letter_of(weight.header, weight.fault);
     let mut ack = Output { bytes: out, at: 0 };
-    put_heading(
-        &mut ack,
-        d,
-        msh,
-        &starts,
-        count,
-        stamp,
-        control,
-        draft.letter,
-    );
-    ack.at
+    put_heading(&mut ack, d, msh, &starts, count, stamp, control, second);
+    put_each(&mut ack, d, records);
+    Ok(ack.at)
 }
 
-// Writes the ACK to a message from the first so many records of a table, by the stated count: number 0 and the ACK's length, or the first of refusals 1 to 6, 13, 10
-// and 11 that applies, which alters nothing.
+// Writes the ACK to a message from the first so many records of a table, by the stated count, and answers the ACK's length, or the first of refusals 1 to 6, 13,
+// 10 and 11 that applies, which alters nothing.
 pub fn write(
     m: &[u8],
     table: &[Finding],
@@ -217,12 +105,18 @@ pub fn write(
 ) -> Answer
     ensures { Gives result out.new (write_from m.now table.now count stamp.now control out.old) }
 {
-    let room = table.len();
-    let space = out.len();
-    let looked = looked_at(count, room);
-    let weight = weigh(table, looked);
-    let draft = drafted(m, stamp, control, count, room, weight, space);
-    let at = put_front(out, m, stamp, control, draft);
-    put_records(out, at, draft.d, table, draft.count);
-    draft.answer
+    admit_message(m)?;
+    let stated = count as usize;
+    if table.len() < stated {
+        return Err(Refusal::WrongRecord);
+    }
+    let records = &table[..stated];
+    let weight = weigh(records);
+    if !weight.sound {
+        return Err(Refusal::WrongRecord);
+    }
+    if !is_stamp(stamp) {
+        return Err(Refusal::WrongStamp);
+    }
+    put_ack(out, m, records, weight, stamp, control)
 }

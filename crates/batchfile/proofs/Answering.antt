@@ -13,8 +13,9 @@ use Rattle.hl7.specs.Delimiters.{opens}
 use Rattle.hl7.specs.Place.{delims_of}
 use Rattle.hl7.specs.Refusals.{told, row_at, is_some, first_row}
 use Rattle.hl7.proofs.Comparing.{and_both, or_neither, none_of}
-use Rattle.grade.specs.declared.refusal.Answer.{Answer}
-use Rattle.grade.specs.Admission.{paper}
+use Rattle.std.specs.Prelude.{Ok, Err}
+use Rattle.grade.specs.Admission.{Answer}
+use Rattle.grade.specs.declared.refusal.Refusal.{Refusal}
 use Rattle.ack.specs.Answers.{outcome, outcome_by, by_rows, short_row, Gives}
 use Rattle.ack.specs.Splice.{Wrote}
 use Rattle.ack.proofs.Writing.{splice-at-start, wrote-length, ◌then◌}
@@ -22,23 +23,11 @@ use Rattle.batchfile.specs.Messages.{gathered}
 use Rattle.batchfile.specs.Frame.{fhs_of, bhs_of, body_of, messages_in, trailer_of, bts_of, fts_of, keeps_rows, is_segment, is_none, is_framed, is_counted}
 use Rattle.batchfile.specs.Batch.{file_limit, controls, is_wrong, meets_one, refused_from, acks_from, batch_of}
 use Rattle.batchfile.specs.Walk.{messages_at, Framing}
-use Rattle.batchfile.specs.Sized.{Starts, MeasuresAll, joined_of, left_of, Keeps}
+use Rattle.batchfile.specs.Sized.{Starts, Totals, Lowest, joined_of, left_of, Keeps}
 use Rattle.batchfile.specs.declared.batch.Kept.{Kept}
-use Rattle.batchfile.specs.declared.batch.Sizes.{Sizes}
 use Rattle.batchfile.specs.declared.frame.Frame.{Frame}
 
 -- ---- the messages
--- the first ordinal is none of the numbers before it, so that 0 stands for none
-ordinal-from : (book stamp : List ℕ) (n : ℕ) (ms : List (List ℕ)) → get_or (refused_from book stamp (suc n) ms) 0 0 ≡ 0 → refused_from book stamp (suc n) ms ≡ []
-unfolding refused_from
-ordinal-from book stamp n [] e = refl
-ordinal-from book stamp n (m ∷ ms) e = by (meets_one book stamp m) e (ordinal-from book stamp (suc n) ms)
-  where
-    by : (b : Bool) → get_or (cond b (suc n ∷ refused_from book stamp (suc (suc n)) ms) (refused_from book stamp (suc (suc n)) ms)) 0 0 ≡ 0
-        → (get_or (refused_from book stamp (suc (suc n)) ms) 0 0 ≡ 0 → refused_from book stamp (suc (suc n)) ms ≡ []) → cond b (suc n ∷ refused_from book stamp (suc (suc n)) ms) (refused_from book stamp (suc (suc n)) ms) ≡ []
-    by true e ih = absurd (omega arith)
-    by false e ih = ih e
-
 -- counted from another number, the ordinals are as many, and each further by as much
 refused_shift : (book stamp : List ℕ) (k n : ℕ) (ms : List (List ℕ)) → refused_from book stamp (k + n) ms ≡ map (λ (i : ℕ). k + i) (refused_from book stamp n ms)
 unfolding refused_from
@@ -53,43 +42,36 @@ refused_shift book stamp k n (m ∷ ms) =
     by false ih = ih
 
 -- there are none
-pub joined_empty : (ms : List (List ℕ)) (book stamp : List ℕ) (control : ℕ) (out : List ℕ) {a : Answer} → ms ≡ [] → paper a ≡ told 0 0 → Gives a out (joined_of ms book stamp control out)
+pub joined_empty : (ms : List (List ℕ)) (book stamp : List ℕ) (control : ℕ) (out : List ℕ) → ms ≡ [] → Gives (Ok 0) out (joined_of ms book stamp control out)
 unfolding first_row refused_from acks_from
-joined_empty ms book stamp control out none e = rw (none, e, le-ltb (length out) 0 (omega arith))
+joined_empty ms book stamp control out none = rw (none, le-ltb (length out) 0 (omega arith))
 
-module _ (kept : List ℕ) (k : ℕ) (ms : List (List ℕ)) (book stamp : List ℕ) (control : ℕ) (out : List ℕ) {sizes : Sizes} (known : MeasuresAll ms book stamp control sizes) where
+module _ (kept : List ℕ) (k : ℕ) (ms : List (List ℕ)) (book stamp : List ℕ) (control : ℕ) (out : List ℕ) where
   -- one of them is refused
-  pub left-refused : 0 < sizes.refused → Gives (record { number = 15; detail = k + sizes.refused }) out (left_of kept k ms book stamp control out)
+  pub left-refused : {ordinal : ℕ} → Lowest ms book stamp ordinal → Gives (Err (Refusal.WrongMessage (k + ordinal))) out (left_of kept k ms book stamp control out)
   unfolding first_row
-  left-refused some = rw (known.refused, refused_shift book stamp k 1 ms) (by (refused_from book stamp 1 ms) (omega (arith, known.refused)))
-    where
-      by : (l : List ℕ) → 0 < get_or l 0 0
-          → outcome (told 15 (k + get_or l 0 0)) out
-          ≡ outcome_by (cond (is_some (map (λ (i : ℕ). k + i) l)) (told 15 (get_or (map (λ (i : ℕ). k + i) l) 0 0)) (first_row (short_row (kept ++ acks_from book stamp control ms) out ∷ []))) (kept ++ acks_from book stamp control ms) out
-      by [] h = absurd (omega arith)
-      by (x ∷ l) h = refl
+  left-refused {ordinal} lowest =
+      let first : refused_from book stamp (k + 1) ms ≡ (k + ordinal) ∷ map (λ (i : ℕ). k + i) lowest.others = refused_shift book stamp k 1 ms ∙ ap (map (λ (i : ℕ). k + i)) lowest.first in
+      rw first
 
-  module _ (none : sizes.refused ≤ 0) where
-    pub none-refused : refused_from book stamp 1 ms ≡ []
-    none-refused = ordinal-from book stamp 0 ms (omega (arith, known.refused))
-
+  module _ {total : ℕ} (known : Totals ms book stamp control total) where
     none-later : refused_from book stamp (k + 1) ms ≡ []
-    none-later = refused_shift book stamp k 1 ms ∙ ap (λ (l : List ℕ). map (λ (i : ℕ). k + i) l) none-refused
+    none-later = refused_shift book stamp k 1 ms ∙ ap (λ (l : List ℕ). map (λ (i : ℕ). k + i) l) known.none
 
     module _ {n : ℕ} (size : n ≡ length kept) where
-      need_is : n + sizes.total ≡ length (kept ++ acks_from book stamp control ms)
-      need_is = omega (arith, known.total none-refused, length-append kept (acks_from book stamp control ms))
+      need_is : n + total ≡ length (kept ++ acks_from book stamp control ms)
+      need_is = omega (arith, known.long, length-append kept (acks_from book stamp control ms))
 
       -- there is no room for all ACKs
-      pub left-short : length out < n + sizes.total → Gives (record { number = 11; detail = n + sizes.total }) out (left_of kept k ms book stamp control out)
+      pub left-short : length out < n + total → Gives (Err (Refusal.ShortOutput (n + total))) out (left_of kept k ms book stamp control out)
       unfolding first_row
       left-short h = rw (none-later, need_is, lt-ltb (length out) (length (kept ++ acks_from book stamp control ms)) (omega (arith, need_is)))
 
       -- there is
-      pub left-room : {before : List ℕ} {to : ℕ} → n + sizes.total ≤ length out → Wrote out 0 kept before to → to + length (acks_from book stamp control ms) ≤ length before
+      pub left-room : {before : List ℕ} {to : ℕ} → n + total ≤ length out → Wrote out 0 kept before to → to + length (acks_from book stamp control ms) ≤ length before
       left-room h first = omega (arith, need_is, length-append kept (acks_from book stamp control ms), first.ends, wrote-length first)
 
-      pub left-written : {before after : List ℕ} {to end : ℕ} → n + sizes.total ≤ length out → Wrote out 0 kept before to → Wrote before to (acks_from book stamp control ms) after end → Gives (record { number = 0; detail = end }) after (left_of kept k ms book stamp control out)
+      pub left-written : {before after : List ℕ} {to end : ℕ} → n + total ≤ length out → Wrote out 0 kept before to → Wrote before to (acks_from book stamp control ms) after end → Gives (Ok end) after (left_of kept k ms book stamp control out)
       unfolding first_row
       left-written {before} {after} {to} {end} h first others =
           let all = kept ++ acks_from book stamp control ms in
@@ -100,9 +82,9 @@ module _ (kept : List ℕ) (k : ℕ) (ms : List (List ℕ)) (book stamp : List �
           rw (none-later, le-ltb (length out) (length all) room, ends, holds)
 
 -- those that are left and those that are kept are all
-pub joined-left : (f : List ℕ) (at count : ℕ) (book stamp : List ℕ) (control : ℕ) (room out : List ℕ) {kept : Kept} {next : ℕ} {a : Answer} {after : List ℕ} → Keeps f at count book stamp control room kept → next ≡ control + kept.count
+pub joined-left : (f : List ℕ) (at count : ℕ) (book stamp : List ℕ) (control : ℕ) (room out : List ℕ) {kept : Kept} {next : ℕ} (a : Answer) {after : List ℕ} → Keeps f at count book stamp control room kept → next ≡ control + kept.count
     → Gives a after (left_of (take kept.to room) kept.count (messages_at f kept.from) book stamp next out) → Gives a after (joined_of (messages_at f at) book stamp control out)
-joined-left f at count book stamp control room out {kept} w same g =
+joined-left f at count book stamp control room out {kept} a w same g =
     g
     ∙ ap (λ (c : ℕ). left_of (take kept.to room) kept.count (messages_at f kept.from) book stamp c out) same
     ∙ sym (ap₂ (λ (refused acks : List ℕ). by_rows (row_at 15 refused ∷ short_row acks out ∷ []) acks out) w.refused w.acks)
@@ -155,22 +137,22 @@ module _ (f : List ℕ) (control : ℕ) where
         omega (arith, ltb-false controls (control + length (messages_in f)) fits.1, w.count),
       )
 
-  -- what the code asks first, with the control number as a wider one
-  module _ {right : Bool} {first : ℕ} (asked : right ≡ not (is_wrong f first)) (same : first ≡ control) where
+  -- what the code asks first
+  module _ {right : Bool} (asked : right ≡ not (is_wrong f control)) where
     pub asked_wrong : not right ≡ true → is_wrong f control ≡ true
-    asked_wrong e = ap (is_wrong f) (sym same) ∙ not-false (is_wrong f first) (sym asked ∙ not-true right e)
+    asked_wrong e = not-false (is_wrong f control) (sym asked ∙ not-true right e)
 
     pub asked_right : not right ≡ false → is_wrong f control ≡ false
-    asked_right e = ap (is_wrong f) (sym same) ∙ not-true (is_wrong f first) (sym asked ∙ not-false right e)
+    asked_right e = not-true (is_wrong f control) (sym asked ∙ not-false right e)
 
 module _ (f book stamp : List ℕ) (control : ℕ) (out : List ℕ) where
-  pub batch_wrong : {a : Answer} → is_wrong f control ≡ true → paper a ≡ told 14 0 → Gives a out (batch_of f book stamp control out)
+  pub batch_wrong : is_wrong f control ≡ true → Gives (Err Refusal.WrongFile) out (batch_of f book stamp control out)
   unfolding batch_of first_row
-  batch_wrong wrong e = rw (wrong, e)
+  batch_wrong wrong = rw wrong
 
   -- the messages begin where BHS ends
-  pub batch_right : {a : Answer} {after : List ℕ} {frame : Frame} {first : ℕ} → is_wrong f control ≡ false → Framing f frame → first ≡ control
-      → Gives a after (joined_of (messages_at f frame.start) book stamp first out) → Gives a after (batch_of f book stamp control out)
+  pub batch_right : (a : Answer) {after : List ℕ} {frame : Frame} → is_wrong f control ≡ false → Framing f frame
+      → Gives a after (joined_of (messages_at f frame.start) book stamp control out) → Gives a after (batch_of f book stamp control out)
   unfolding batch_of first_row
-  batch_right right w same g =
-      g ∙ ap₂ (λ (ls : List (List ℕ)) (n : ℕ). joined_of (gathered ls).messages book stamp n out) w.body same ∙ rw right
+  batch_right a right w g =
+      g ∙ ap (λ (ls : List (List ℕ)). joined_of (gathered ls).messages book stamp control out) w.body ∙ rw right

@@ -8,18 +8,22 @@ use lib.ListN.{length, take, drop, length-take, length-drop, length-append, take
 use lib.Seq.{drop-drop, take_at}
 use Rattle.hl7.specs.Spans.{between}
 use Rattle.hl7.proofs.Comparing.{tail-whole}
-use Rattle.grade.specs.declared.refusal.Answer.{Answer}
+use Rattle.std.specs.Prelude.{Ok, Err}
+use Rattle.std.specs.Result.{IsOk}
+use Rattle.grade.specs.Admission.{Answer, paper, refusal_told}
+use Rattle.grade.specs.declared.refusal.Refusal.{Refusal}
+use Rattle.grade.proofs.Telling.{refusal_some}
 use Rattle.ack.specs.Answers.{Outcome, ack_for, answer_of, Gives}
 use Rattle.ack.specs.Splice.{limit, Wrote}
 use Rattle.ack.proofs.Promises.{refusal_alters_nothing}
 use Rattle.ack.proofs.Writing.{splice-fits, wrote-length, wrote_none, wrote_as, ◌then◌}
 use Rattle.batchfile.specs.Batch.{meets_one, refused_from, acks_from}
 use Rattle.batchfile.specs.Walk.{messages_at, MessageEnds}
-use Rattle.batchfile.specs.Sized.{Starts, AnswersAt, Keeps}
+use Rattle.batchfile.specs.Sized.{Starts, AnsweredAt, AnswersAt, Keeps}
 use Rattle.batchfile.proofs.Measuring.{answered, writes, writes_zero, refused-here, refused-later, acks_more, acks-none, Walked, walked_none, walked_all, message-here, walked_more}
 
 -- ---- a part of the output, from `at` on
-module _ (m book stamp : List ℕ) (control : ℕ) (out : List ℕ) (at : ℕ) {a : Answer} {part : List ℕ} (within : at ≤ length out) (small : length out < limit)
+module _ (m book stamp : List ℕ) (control : ℕ) (out : List ℕ) (at : ℕ) (a : Answer) {part : List ℕ} (within : at ≤ length out) (small : length out < limit)
     (given : Gives a part (answer_of m book stamp control (take (length out - at) (drop at out)))) where
   ack : List ℕ
   ack = ack_for m book stamp control
@@ -31,11 +35,11 @@ module _ (m book stamp : List ℕ) (control : ℕ) (out : List ℕ) (at : ℕ) {
   after = take at out ++ (part ++ drop (length out - at) (drop at out))
 
   -- an ACK at the start of the part is one written from `at` on
-  wrote-part : a.number ≡ 0 → (at + a.detail ≤ length out) × Wrote out at ack after (at + a.detail)
+  wrote-part : (paper a).number ≡ 0 → (at + (paper a).detail ≤ length out) × Wrote out at ack after (at + (paper a).detail)
   unfolding ack after
   wrote-part zero-told =
-      let fine = answered m book stamp control (take (length out - at) (drop at out)) given zero-told in
-      let done = writes m book stamp control (take (length out - at) (drop at out)) given fine.0 fine.1 in
+      let fine = answered m book stamp control (take (length out - at) (drop at out)) a given zero-told in
+      let done = writes m book stamp control (take (length out - at) (drop at out)) a given fine.0 fine.1 in
       let room : at + length (ack_for m book stamp control) ≤ length out = omega (arith, fine.1, rest-long) in
       let none : drop (length out - at) (drop at out) ≡ [] = drop-drop (length out - at) at out ∙ drop_of_length-le out {i = at + (length out - at)} (omega arith) in
       let rest : part ≡ ack_for m book stamp control ++ drop (at + length (ack_for m book stamp control)) out = done.1 ∙ rw (tail-whole out at, drop-drop (length (ack_for m book stamp control)) at out) in (
@@ -47,18 +51,27 @@ module _ (m book stamp : List ℕ) (control : ℕ) (out : List ℕ) (at : ℕ) {
         },
       )
 
-  pub answers_at : AnswersAt m book stamp control out at a (take at out ++ (part ++ drop (length out - at) (drop at out)))
-  unfolding ack after
-  answers_at =
-      record {
-        fine = λ e. (answered m book stamp control (take (length out - at) (drop at out)) given e).0;
-        room = λ e. (wrote-part e).0;
-        wrote = λ e. (wrote-part e).1;
-        refused = λ some.
-            let part-is = ap (λ (o : Outcome). o.output) given ∙ refusal_alters_nothing m book stamp control (take (length out - at) (drop at out)) (λ e. some (ap (λ (o : Outcome). o.told.number) given ∙ e)) in
-            rw part-is (ap (λ (l : List ℕ). take at out ++ l) (take-append-drop (length out - at) (drop at out)) ∙ take-append-drop at out);
-        passed = λ none room. writes_zero m book stamp control (take (length out - at) (drop at out)) given none (omega (arith, rest-long));
-      }
+  -- a refusal leaves the part as it was
+  kept-part : ((paper a).number ≡ 0 → ⊥) → after ≡ out
+  unfolding after
+  kept-part some =
+      let part-is = ap (λ (o : Outcome). o.output) given ∙ refusal_alters_nothing m book stamp control (take (length out - at) (drop at out)) (λ e. some (ap (λ (o : Outcome). o.told.number) given ∙ e)) in
+      rw part-is (ap (λ (l : List ℕ). take at out ++ l) (take-append-drop (length out - at) (drop at out)) ∙ take-append-drop at out)
+
+  passed-part : meets_one book stamp m ≡ false → at + length (ack_for m book stamp control) ≤ length out → (paper a).number ≡ 0
+  passed-part none room = writes_zero m book stamp control (take (length out - at) (drop at out)) a given none (omega (arith, rest-long))
+
+module _ (m book stamp : List ℕ) (control : ℕ) (out : List ℕ) (at : ℕ) {part : List ℕ} (within : at ≤ length out) (small : length out < limit) where
+  pub answers_at : (a : Answer) → Gives a part (answer_of m book stamp control (take (length out - at) (drop at out)))
+      → AnswersAt m book stamp control out at a (take at out ++ (part ++ drop (length out - at) (drop at out)))
+  unfolding after ack
+  answers_at (Ok n) given =
+      let wrote = wrote-part m book stamp control out at (Ok n) within small given refl in
+      record { fine = (answered m book stamp control (take (length out - at) (drop at out)) (Ok n) given refl).0; room = wrote.0; wrote = wrote.1 }
+  answers_at (Err refusal) given = (
+    kept-part m book stamp control out at (Err refusal) within small given (refusal_some refusal),
+    λ none room. refusal_some refusal (passed-part m book stamp control out at (Err refusal) within small given none room),
+  )
 
 -- ---- all ACKs
 module _ (f : List ℕ) (at count : ℕ) (book stamp : List ℕ) (control : ℕ) (before : List ℕ) (start : ℕ) where
@@ -98,17 +111,22 @@ module _ (f : List ℕ) (at count : ℕ) (book stamp : List ℕ) (control : ℕ)
     ack-room : {number : ℕ} → number ≡ control + k → to + length (ack_for (between f from r) book stamp number) ≤ length out
     ack-room counted = rw counted (omega (arith, p.room, ap length acks, length-append (ack_for (between f from r) book stamp (control + k)) (acks_from book stamp (suc (control + k)) (messages_at f r))))
 
-    module _ {number : ℕ} {a : Answer} {out' : List ℕ} (counted : number ≡ control + k) (is : AnswersAt (between f from r) book stamp number out to a out') where
-      zero-told : a.number ≡ 0
-      zero-told = is.passed none_met (ack-room counted)
+    -- so the message is answered
+    writes_some : {number : ℕ} (refusal : Refusal) (out' : List ℕ) → number ≡ control + k → AnswersAt (between f from r) book stamp number out to (Err refusal) out' → ⊥
+    writes_some refusal out' counted is = is.1 none_met (ack-room counted)
 
-      pub put_small : to + a.detail < limit
-      put_small = omega (arith, is.room zero-told, (is.wrote zero-told).room)
+    pub writes_ok : {number : ℕ} (a : Answer) (out' : List ℕ) → number ≡ control + k → AnswersAt (between f from r) book stamp number out to a out' → IsOk a
+    writes_ok (Ok n) out' counted is = refl
+    writes_ok (Err refusal) out' counted is = absurd (writes_some refusal out' counted is)
 
-      w : Wrote out to (ack_for (between f from r) book stamp (control + k)) out' (to + a.detail)
-      w = subst (λ (n : ℕ). Wrote out to (ack_for (between f from r) book stamp n) out' (to + a.detail)) counted (is.wrote zero-told)
+    module _ {number n : ℕ} {out' : List ℕ} (counted : number ≡ control + k) (is : AnsweredAt (between f from r) book stamp number out to n out') where
+      pub put_small : to + n < limit
+      put_small = omega (arith, is.room, is.wrote.room)
 
-      pub writing_more : Writing r (k + 1) (to + a.detail) out'
+      w : Wrote out to (ack_for (between f from r) book stamp (control + k)) out' (to + n)
+      w = subst (λ (c : ℕ). Wrote out to (ack_for (between f from r) book stamp c) out' (to + n)) counted is.wrote
+
+      pub writing_more : Writing r (k + 1) (to + n) out'
       writing_more =
           let rest = messages_at f r in
           let following : control + (k + 1) ≡ suc (control + k) = omega arith in
@@ -121,6 +139,10 @@ module _ (f : List ℕ) (at count : ℕ) (book stamp : List ℕ) (control : ℕ)
             same = wrote-length w ∙ p.same;
             joins = λ v. p.joins (wrote_as (w then (wrote_as v others)) (sym acks));
           }
+
+    -- with the message that was answered, one more is written
+    pub writing_told : {number n : ℕ} (a : Answer) {out' : List ℕ} → a ≡ Ok n → number ≡ control + k → AnswersAt (between f from r) book stamp number out to a out' → Writing r (k + 1) (to + n) out'
+    writing_told {number} {n} a {out'} is counted answered = writing_more counted (subst (λ (x : Answer). AnswersAt (between f from r) book stamp number out to x out') is answered)
 
 -- ---- the ACKs that are kept
 module _ (f : List ℕ) (at count : ℕ) (book stamp : List ℕ) (control : ℕ) where
@@ -146,34 +168,31 @@ module _ (f : List ℕ) (at count : ℕ) (book stamp : List ℕ) (control : ℕ)
         acks = p.acks;
       }
 
-  module _ (from k to : ℕ) (room : List ℕ) (r : ℕ) {number : ℕ} {a : Answer} {room' : List ℕ} (p : Keeping from k to room) (more : k < count) (e : MessageEnds f from r) (counted : number ≡ control + k)
-      (is : AnswersAt (between f from r) book stamp number room to a room') where
-    -- an answer that is none leaves the room as it was
-    pub keeping_stop : (a.number ≡ 0 → ⊥) → Keeps f at count book stamp control room' (record { from = from; count = k; to = to })
-    keeping_stop some = subst (λ (l : List ℕ). Keeps f at count book stamp control l (record { from = from; count = k; to = to })) (sym (is.refused some)) (keeping_ends from k to room p)
+  -- an answer that is none leaves the room as it was
+  pub keeping_stop : (from k to : ℕ) (room room' : List ℕ) → Keeping from k to room → room' ≡ room → Keeps f at count book stamp control room' (record { from = from; count = k; to = to })
+  keeping_stop from k to room room' p same = subst (λ (l : List ℕ). Keeps f at count book stamp control l (record { from = from; count = k; to = to })) (sym same) (keeping_ends from k to room p)
 
-    module _ (zero-told : a.number ≡ 0) where
-      pub keeping_more : Keeping r (k + 1) (to + a.detail) room'
-      keeping_more =
-          let ack = ack_for (between f from r) book stamp number in
-          let rest = messages_at f r in
-          let left = message-here f count from k r p.walked more e in
-          let wrote = is.wrote zero-told in
-          let fits = is.room zero-told in
-          let size : a.detail ≡ length ack = omega (arith, wrote.ends, wrote.room, fits) in
-          let front : take to room ++ ack ≡ take (to + a.detail) room' =
-          sym (ap (take (to + a.detail)) (wrote.holds ∙ splice-fits room to ack (omega (arith, size, fits))) ∙ take_at (take to room ++ ack) (drop (to + length ack) room) (to + a.detail) (omega (arith, length-append (take to room) ack, length-take to room, p.within, size))) in
-          let following : suc (control + k) ≡ control + (k + 1) = omega arith in
-          record {
-            walked = walked_more f count from k r p.walked more e;
-            within = omega (arith, fits, wrote-length wrote);
-            refused = p.refused ∙ refused-later book stamp (k + 1) (between f from r) rest left (is.fine zero-told) ∙ ap (λ (n : ℕ). refused_from book stamp n rest) (omega arith);
-            acks =
-                p.acks
-                ∙ ap (λ (l : List ℕ). take to room ++ l) (acks_more book stamp (control + k) (between f from r) rest left ∙ ap₂ (λ (n c : ℕ). ack_for (between f from r) book stamp n ++ acks_from book stamp c rest) (sym counted) following)
-                ∙ sym (append_assoc (take to room) ack (acks_from book stamp (control + (k + 1)) rest))
-                ∙ ap (λ (l : List ℕ). l ++ acks_from book stamp (control + (k + 1)) rest) front;
-          }
+  module _ (from k to : ℕ) (room : List ℕ) (r : ℕ) {number n : ℕ} {room' : List ℕ} (p : Keeping from k to room) (more : k < count) (e : MessageEnds f from r) (counted : number ≡ control + k)
+      (is : AnsweredAt (between f from r) book stamp number room to n room') where
+    pub keeping_more : Keeping r (k + 1) (to + n) room'
+    keeping_more =
+        let ack = ack_for (between f from r) book stamp number in
+        let rest = messages_at f r in
+        let left = message-here f count from k r p.walked more e in
+        let size : n ≡ length ack = omega (arith, is.wrote.ends, is.wrote.room, is.room) in
+        let front : take to room ++ ack ≡ take (to + n) room' =
+        sym (ap (take (to + n)) (is.wrote.holds ∙ splice-fits room to ack (omega (arith, size, is.room))) ∙ take_at (take to room ++ ack) (drop (to + length ack) room) (to + n) (omega (arith, length-append (take to room) ack, length-take to room, p.within, size))) in
+        let following : suc (control + k) ≡ control + (k + 1) = omega arith in
+        record {
+          walked = walked_more f count from k r p.walked more e;
+          within = omega (arith, is.room, wrote-length is.wrote);
+          refused = p.refused ∙ refused-later book stamp (k + 1) (between f from r) rest left is.fine ∙ ap (λ (n : ℕ). refused_from book stamp n rest) (omega arith);
+          acks =
+              p.acks
+              ∙ ap (λ (l : List ℕ). take to room ++ l) (acks_more book stamp (control + k) (between f from r) rest left ∙ ap₂ (λ (n c : ℕ). ack_for (between f from r) book stamp n ++ acks_from book stamp c rest) (sym counted) following)
+              ∙ sym (append_assoc (take to room) ack (acks_from book stamp (control + (k + 1)) rest))
+              ∙ ap (λ (l : List ℕ). l ++ acks_from book stamp (control + (k + 1)) rest) front;
+        }
 
-      pub keeping_same : length room' ≡ length room
-      keeping_same = wrote-length (is.wrote zero-told)
+    pub keeping_same : length room' ≡ length room
+    keeping_same = wrote-length is.wrote

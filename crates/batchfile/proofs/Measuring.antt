@@ -2,6 +2,7 @@
 use mathlib.Core.Path.{◌≡◌, refl, sym, ap, subst, ◌∙◌}
 use mathlib.Core.Bool.{Bool, true, false, cond, true≢false}
 use mathlib.Core.List.{List, [], ◌∷◌, ◌++◌}
+use Rattle.std.specs.Prelude.{Some}
 use Prim.Native.Nat.{ℕ, suc, ◌+◌, ◌-◌, ◌*◌, ◌^◌, ◌≤◌, ◌<◌}
 use native.Mathlib.Omega.{arith}
 use lib.Dec.{ltb}
@@ -9,8 +10,7 @@ use lib.ListN.{length, get_or, drop, length-take, length-drop, length-append}
 use borrow.Author.Tests.{ne_eqb, le-ltb, ltb-false, not-false}
 use Rattle.hl7.specs.Refusals.{Told, told, first_row, passes}
 use Rattle.hl7.specs.Spans.{between}
-use Rattle.grade.specs.Admission.{ten_rows, paper}
-use Rattle.grade.specs.declared.refusal.Answer.{Answer}
+use Rattle.grade.specs.Admission.{ten_rows, Answer, paper}
 use Rattle.grade.proofs.Admitting.{ten_passes, ten_refuses}
 use Rattle.ack.specs.Answers.{Outcome, outcome, outcome_by, ack_for, answer_of, Gives}
 use Rattle.ack.specs.Pieces.{short_or}
@@ -18,8 +18,7 @@ use Rattle.ack.proofs.Answering.{answer_ten_passed, answer_ten_stopped}
 use Rattle.ack.proofs.Promises.{ack-within}
 use Rattle.batchfile.specs.Batch.{file_limit, meets_one, refused_from, acks_from}
 use Rattle.batchfile.specs.Walk.{gathered_at, messages_at, MessageEnds}
-use Rattle.batchfile.specs.Sized.{Starts, is_refusal, measured_told, Measures, MeasuresAll}
-use Rattle.batchfile.specs.declared.batch.Measured.{Measured}
+use Rattle.batchfile.specs.Sized.{Starts, is_refusal, measured_told, Measures, Totals, Lowest}
 
 -- ---- one message
 -- row 11 and the ACK both tell the ACK's length
@@ -37,10 +36,7 @@ short-told ack out = by (ltb (length out) (length ack))
 refusal_is : (t : Told) → (t.number ≡ 0 → ⊥) × (t.number ≡ 11 → ⊥) → is_refusal t ≡ true
 refusal_is t some = rw (ne_eqb t.number 0 some.0, ne_eqb t.number 11 some.1)
 
-pub measured_is : (a : Answer) {n : ℕ} → n ≡ cond (is_refusal (paper a)) 0 a.detail → record { meets = is_refusal (paper a); length = n } ≡ measured_told (paper a)
-measured_is a e = rw e
-
-module _ (m book stamp : List ℕ) (control : ℕ) (out : List ℕ) {a : Answer} {after : List ℕ} (g : Gives a after (answer_of m book stamp control out)) where
+module _ (m book stamp : List ℕ) (control : ℕ) (out : List ℕ) (a : Answer) {after : List ℕ} (g : Gives a after (answer_of m book stamp control out)) where
   tells : paper a ≡ (answer_of m book stamp control out).told
   tells = ap (λ (o : Outcome). o.told) g
 
@@ -52,13 +48,13 @@ module _ (m book stamp : List ℕ) (control : ℕ) (out : List ℕ) {a : Answer}
           let is = tells ∙ ap (λ (o : Outcome). o.told) (answer_ten_passed m book stamp control out e) in
           let told_is_lem = short-told (ack_for m book stamp control) out in
           let fine : is_refusal (paper a) ≡ false = ap is_refusal is ∙ told_is_lem.0 in
-          let long : (measured_told (paper a)).length ≡ length (ack_for m book stamp control) = rw fine (ap (λ (t : Told). t.detail) is ∙ told_is_lem.1) in
+          let long : (paper a).detail ≡ length (ack_for m book stamp control) = ap (λ (t : Told). t.detail) is ∙ told_is_lem.1 in
           let right = ten_passes m book stamp e in
-          record { meets = rw (fine, e); long = λ _. long; within = omega (arith, long, ack-within m book stamp control right.0 right.1) }
+          rw fine (rw e, long, omega (arith, long, ack-within m book stamp control right.0 right.1))
       by false e =
           let is = tells ∙ ap (λ (o : Outcome). o.told) (answer_ten_stopped m book stamp control out e) in
           let refused : is_refusal (paper a) ≡ true = ap is_refusal is ∙ refusal_is (first_row (ten_rows m book stamp)) (ten_refuses m book stamp e) in
-          record { meets = rw (refused, e); long = λ none. absurd (true≢false (rw e at none)); within = rw refused (omega arith) }
+          rw refused (rw e)
 
   -- where it meets none and there is room
   module _ (none : meets_one book stamp m ≡ false) (room : length (ack_for m book stamp control) ≤ length out) where
@@ -66,14 +62,14 @@ module _ (m book stamp : List ℕ) (control : ℕ) (out : List ℕ) {a : Answer}
     unfolding first_row
     fitting = g ∙ answer_ten_passed m book stamp control out (not-false (passes (ten_rows m book stamp)) none) ∙ rw (le-ltb (length out) (length (ack_for m book stamp control)) room)
 
-    pub writes : (a.detail ≡ length (ack_for m book stamp control)) × (after ≡ ack_for m book stamp control ++ drop (length (ack_for m book stamp control)) out)
+    pub writes : ((paper a).detail ≡ length (ack_for m book stamp control)) × (after ≡ ack_for m book stamp control ++ drop (length (ack_for m book stamp control)) out)
     writes = (ap (λ (o : Outcome). o.told.detail) fitting, ap (λ (o : Outcome). o.output) fitting)
 
-    pub writes_zero : a.number ≡ 0
+    pub writes_zero : (paper a).number ≡ 0
     writes_zero = ap (λ (o : Outcome). o.told.number) fitting
 
   -- number 0 says both
-  pub answered : a.number ≡ 0 → (meets_one book stamp m ≡ false) × (length (ack_for m book stamp control) ≤ length out)
+  pub answered : (paper a).number ≡ 0 → (meets_one book stamp m ≡ false) × (length (ack_for m book stamp control) ≤ length out)
   unfolding first_row
   answered e = by (passes (ten_rows m book stamp)) refl
     where
@@ -158,49 +154,44 @@ module _ (f : List ℕ) (at count : ℕ) (book stamp : List ℕ) (control : ℕ)
         all = s.messages;
       }
 
-  pub measuring_done : (from k total : ℕ) → Measuring from k total → count ≤ k → MeasuresAll (messages_at f at) book stamp control (record { refused = 0; total = total })
+  pub measuring_done : (from k total : ℕ) → Measuring from k total → count ≤ k → Totals (messages_at f at) book stamp control total
   measuring_done from k total p h =
       let over = walked_all f count from k p.walked h in
-      let none = p.refused ∙ refused_none book stamp (k + 1) over in
       record {
-        refused = sym (ap (λ (l : List ℕ). get_or l 0 0) none);
-        few = omega arith;
-        total = λ _. omega (arith, p.lengths, ap length (acks-none book stamp (control + k) over));
+        none = p.refused ∙ refused_none book stamp (k + 1) over;
+        long = omega (arith, p.lengths, ap length (acks-none book stamp (control + k) over));
         fits = omega (arith, p.fits, p.walked.within, p.walked.limited);
       }
 
-  module _ (from k total r : ℕ) {number : ℕ} {one : Measured} (p : Measuring from k total) (more : k < count) (e : MessageEnds f from r) (counted : number ≡ control + k) (measured : Measures (between f from r) book stamp number one) where
-    is : Measures (between f from r) book stamp (control + k) one
-    is = subst (λ (n : ℕ). Measures (between f from r) book stamp n one) counted measured
-
+  module _ (from k total r : ℕ) (p : Measuring from k total) (more : k < count) (e : MessageEnds f from r) where
     ms : messages_at f from ≡ between f from r ∷ messages_at f r
     ms = message-here f count from k r p.walked more e
 
-    -- the sum stays far below what a number can be, for the file is not long
-    pub total-fits : total + one.length ≤ r * 2 ^ 32
-    total-fits = omega (arith, p.fits, is.within, part-long f count from k r p.walked more e, e.onward.forward)
+    module _ {number n : ℕ} (counted : number ≡ control + k) (measured : Measures (between f from r) book stamp number (Some n)) where
+      is : Measures (between f from r) book stamp (control + k) (Some n)
+      is = subst (λ (c : ℕ). Measures (between f from r) book stamp c (Some n)) counted measured
 
-    pub measuring_more : one.meets ≡ false → Measuring r (k + 1) (total + one.length)
-    measuring_more passed =
-        let none = sym is.meets ∙ passed in
-        let next : suc (control + k) ≡ control + (k + 1) = omega arith in
-        let rest = messages_at f r in
-        let size = ap length (acks_more book stamp (control + k) (between f from r) rest ms) ∙ length-append (ack_for (between f from r) book stamp (control + k)) (acks_from book stamp (suc (control + k)) rest) in
-        let moved : length (acks_from book stamp (suc (control + k)) rest) ≡ length (acks_from book stamp (control + (k + 1)) rest) = ap (λ (c : ℕ). length (acks_from book stamp c rest)) next in
-        record {
-          walked = walked_more f count from k r p.walked more e;
-          refused = p.refused ∙ refused-later book stamp (k + 1) (between f from r) rest ms none ∙ ap (λ (n : ℕ). refused_from book stamp n rest) (omega arith);
-          lengths = omega (arith, p.lengths, size, moved, is.long none);
-          fits = total-fits;
-          all = p.all;
-        }
+      -- the sum stays far below what a number can be, for the file is not long
+      pub total-fits : total + n ≤ r * 2 ^ 32
+      total-fits = omega (arith, p.fits, is.2, part-long f count from k r p.walked more e, e.onward.forward)
 
-    pub measuring_stop : one.meets ≡ true → MeasuresAll (messages_at f at) book stamp control (record { refused = k + 1; total = total })
-    measuring_stop bad =
-        let some = p.refused ∙ refused-here book stamp (k + 1) (between f from r) (messages_at f r) ms (sym is.meets ∙ bad) in
-        record {
-          refused = sym (ap (λ (l : List ℕ). get_or l 0 0) some);
-          few = omega (arith, p.all, more);
-          total = λ none. absurd (omega (arith, ap length (sym none ∙ some)));
-          fits = omega (arith, p.fits, p.walked.within, p.walked.limited);
-        }
+      pub measuring_more : Measuring r (k + 1) (total + n)
+      measuring_more =
+          let next : suc (control + k) ≡ control + (k + 1) = omega arith in
+          let rest = messages_at f r in
+          let size = ap length (acks_more book stamp (control + k) (between f from r) rest ms) ∙ length-append (ack_for (between f from r) book stamp (control + k)) (acks_from book stamp (suc (control + k)) rest) in
+          let moved : length (acks_from book stamp (suc (control + k)) rest) ≡ length (acks_from book stamp (control + (k + 1)) rest) = ap (λ (c : ℕ). length (acks_from book stamp c rest)) next in
+          record {
+            walked = walked_more f count from k r p.walked more e;
+            refused = p.refused ∙ refused-later book stamp (k + 1) (between f from r) rest ms is.0 ∙ ap (λ (n : ℕ). refused_from book stamp n rest) (omega arith);
+            lengths = omega (arith, p.lengths, size, moved, is.1);
+            fits = total-fits;
+            all = p.all;
+          }
+
+    pub measuring_stop : meets_one book stamp (between f from r) ≡ true → Lowest (messages_at f at) book stamp (k + 1)
+    measuring_stop bad = record {
+      others = refused_from book stamp (suc (k + 1)) (messages_at f r);
+      first = p.refused ∙ refused-here book stamp (k + 1) (between f from r) (messages_at f r) ms bad;
+      within = omega (arith, p.all, more);
+    }

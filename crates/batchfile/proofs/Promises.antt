@@ -15,8 +15,7 @@ use Rattle.hl7.specs.Cut.{part_at}
 use Rattle.hl7.specs.Place.{delims_of}
 use Rattle.hl7.specs.Refusals.{Told, told, is_some, first_row, passes, numbers_of, apart, holds_at, First}
 use Rattle.grade.specs.Header.{msh_of, header_of, any_wrong}
-use Rattle.grade.specs.Admission.{ten_rows}
-use Rattle.grade.specs.declared.refusal.Answer.{Answer}
+use Rattle.grade.specs.Admission.{ten_rows, Answer}
 use Rattle.ack.specs.Answers.{Outcome, outcome, outcome_by, ack_for, answer_of, Gives}
 use Rattle.ack.proofs.Answering.{gives_once, number_is, refused-is, written_is, table-exactly, table_none, answer_ten_passed}
 use Rattle.ack.proofs.Promises.{written_of, MeetsDemand3, demand_3}

@@ -14,8 +14,8 @@ use ack::answer::answer_indexed;
 use ack::output::put;
 use grade::book::{Indexed, index_book};
 use grade::limits::SECTION_LIMIT;
-use grade::refusal::{Answer, refused};
-use hl7::bytes::{front, pick, wide32};
+use grade::refusal::{Answer, Refusal};
+use hl7::bytes::front;
 use hl7::number::TOO_LARGE;
 use hl7::place::delims_of;
 
@@ -24,26 +24,12 @@ const FILE_LIMIT: usize = 1048576;
 // So many bytes of ACKs are kept from the first run: only messages whose ACKs do not fit are graded again.
 const KEPT: usize = 65536;
 
-// Whether a message meets one of refusals 1 to 10, and how long its ACK is, if not.
-#[derive(Clone, Copy)]
-pub struct Measured {
-    pub meets: bool,
-    pub length: usize,
-}
-
 // How far the messages are whose ACKs are kept: where the next begins, how many they are, and where the ACKs end.
 #[derive(Clone, Copy)]
 pub struct Kept {
     pub from: usize,
     pub count: usize,
     pub to: usize,
-}
-
-// The lowest ordinal of a message that meets one of refusals 1 to 10, or 0, and how long all ACKs are, if none does.
-#[derive(Clone, Copy)]
-pub struct Sizes {
-    pub refused: usize,
-    pub total: usize,
 }
 
 // ---- one message
@@ -55,17 +41,17 @@ fn control_at(control: usize, k: usize) -> u32
     (control + k) as u32
 }
 
-// What an answer tells that had no room for the ACK: 11 with the length, or one of refusals 1 to 10.
-fn measured_by(given: Answer) -> Measured
+// How long the ACK is, by an answer that had no room for it: that tells the length, or one of refusals 1 to 10.
+fn measured_by(given: Answer) -> Option<usize>
     ensures { result ≡ measured_told (paper given) }
 {
-    let meets = !((given.number == 0) | (given.number == 11));
-    Measured {
-        meets,
-        length: pick(meets, 0, given.detail),
+    match given {
+        Ok(length) | Err(Refusal::ShortOutput(length)) => Some(length),
+        Err(_) => None,
     }
 }
 
+// How long a message's ACK is, if the message meets none of refusals 1 to 10.
 fn measure(
     m: &[u8],
     book: &[u8],
@@ -73,7 +59,7 @@ fn measure(
     indexed: Indexed,
     stamp: &[u8],
     control: u32,
-) -> Measured
+) -> Option<usize>
     requires { Indexes book.now starts.now indexed }
     ensures { Measures m.now book.now stamp.now control result }
 {
@@ -115,32 +101,21 @@ fn keep_front(
     ensures { Keeps f.now at count book.now stamp.now control room.new result }
 {
     let mut from = at;
-    let mut k = 0;
     let mut to = 0;
-    while k < count {
+    for k in 0..count {
         let end = message_end(f, from);
+        let m = &f[from..end];
         let number = control_at(control, k);
-        let given = answer_at(
-            room,
-            to,
-            &f[from..end],
-            book,
-            starts,
-            indexed,
-            stamp,
-            number,
-        );
-        if given.number != 0 {
+        let Ok(length) = answer_at(room, to, m, book, starts, indexed, stamp, number) else {
             return Kept { from, count: k, to };
-        }
-        to += given.detail;
+        };
+        to += length;
         from = end;
-        k += 1;
     }
-    Kept { from, count: k, to }
+    Kept { from, count, to }
 }
 
-// How long all ACKs are, or which message is the first that is refused.
+// How long all ACKs are, or the ordinal of the first message that meets one of refusals 1 to 10.
 fn measure_all(
     f: &[u8],
     at: usize,
@@ -150,28 +125,23 @@ fn measure_all(
     indexed: Indexed,
     stamp: &[u8],
     control: usize,
-) -> Sizes
+) -> Result<usize, usize>
     requires { Starts f.now at count × (control + count ≤ controls) × Indexes book.now starts.now indexed }
     ensures { MeasuresAll (messages_at f.now at) book.now stamp.now control result }
 {
     let mut from = at;
-    let mut k = 0;
     let mut total = 0;
-    while k < count {
+    for k in 0..count {
         let end = message_end(f, from);
+        let m = &f[from..end];
         let number = control_at(control, k);
-        let one = measure(&f[from..end], book, starts, indexed, stamp, number);
-        if one.meets {
-            return Sizes {
-                refused: k + 1,
-                total,
-            };
-        }
-        total += one.length;
+        let Some(length) = measure(m, book, starts, indexed, stamp, number) else {
+            return Err(k + 1);
+        };
+        total += length;
         from = end;
-        k += 1;
     }
-    Sizes { refused: 0, total }
+    Ok(total)
 }
 
 // Writes all ACKs into the output from a position on, one after the other, and answers where the last ends.
@@ -191,15 +161,14 @@ fn put_all(
     ensures { Wrote out.old start (acks_from book.now stamp.now control (messages_at f.now at)) out.new result }
 {
     let mut from = at;
-    let mut k = 0;
     let mut to = start;
-    while k < count {
+    for k in 0..count {
         let end = message_end(f, from);
+        let m = &f[from..end];
         let number = control_at(control, k);
-        let given = answer_at(out, to, &f[from..end], book, starts, indexed, stamp, number);
-        to += given.detail;
+        let given = answer_at(out, to, m, book, starts, indexed, stamp, number);
+        to += given.unwrap();
         from = end;
-        k += 1;
     }
     to
 }
@@ -221,28 +190,19 @@ fn answer_left(
     ensures { Gives result out.new (left_of (take kept.to room.now) kept.count (messages_at f.now kept.from) book.now stamp.now control out.old) }
 {
     let from = kept.from;
-    let sizes = measure_all(f, from, left, book, starts, indexed, stamp, control);
-    if 0 < sizes.refused {
-        return Answer {
-            number: 15,
-            detail: kept.count + sizes.refused,
-        };
-    }
-    let need = kept.to + sizes.total;
+    let total = match measure_all(f, from, left, book, starts, indexed, stamp, control) {
+        Ok(total) => total,
+        Err(ordinal) => return Err(Refusal::WrongMessage(kept.count + ordinal)),
+    };
+    let need = kept.to + total;
     if out.len() < need {
-        return Answer {
-            number: 11,
-            detail: need,
-        };
+        return Err(Refusal::ShortOutput(need));
     }
     let to = put(out, 0, front(room, kept.to));
     let end = put_all(
         out, to, f, from, left, book, starts, indexed, stamp, control,
     );
-    Answer {
-        number: 0,
-        detail: end,
-    }
+    Ok(end)
 }
 
 // The answer to the messages that begin at a position. The book is looked at once for all, and not at all where there is none.
@@ -259,7 +219,7 @@ fn answer_messages(
     ensures { Gives result out.new (joined_of (messages_at f.now at) book.now stamp.now control out.old) }
 {
     if count == 0 {
-        return refused(0);
+        return Ok(0);
     }
     let mut starts = [0usize; SECTION_LIMIT];
     let indexed = index_book(book, &mut starts);
@@ -289,12 +249,12 @@ pub fn answer_batch(f: &[u8], book: &[u8], stamp: &[u8], control: u32, out: &mut
     ensures { Gives result out.new (batch_of f.now book.now stamp.now control out.old) }
 {
     if FILE_LIMIT < f.len() {
-        return refused(14);
+        return Err(Refusal::WrongFile);
     }
     let frame = frame_of(f);
-    let first = wide32(control);
+    let first = control as usize;
     if !is_right(f, frame, first) {
-        return refused(14);
+        return Err(Refusal::WrongFile);
     }
     answer_messages(out, f, frame.start, frame.count, book, stamp, first)
 }

@@ -6,6 +6,7 @@ use mathlib.Core.Path.{◌≡◌, refl, sym, ap, subst₂, subst⁻¹, ◌∙◌
 use mathlib.Core.Bool.{Bool, true, false, cond, not}
 use mathlib.Core.Logic.{◌↔◌}
 use mathlib.Core.List.{List, [], ◌∷◌}
+use Rattle.std.specs.Prelude.{Result, Ok, Err}
 use lib.Dec.{eqb}
 use lib.ListN.{length, get_or}
 use borrow.Author.Tests.{eq-eqb, ne_eqb, eqb-true, eqb-false}
@@ -16,45 +17,64 @@ use Rattle.hl7.specs.declared.place.Delims.{Delims}
 use Rattle.hl7.proofs.Refusing.{none_answers, rows_append, row-exactly, none-exactly, message-apart, bounded_first, reading_bounded, sound-short}
 use Rattle.grade.specs.Book.{no_section}
 use Rattle.grade.specs.Header.{msh_of, header_of}
-use Rattle.grade.specs.Admission.{has_control_id, key_of, book_rows, control_row, six_rows, msh_rows, admit_rows, stamp_row, ten_rows, paper, opened_told, admitted_told}
-use Rattle.grade.specs.Standing.{site_in, OpensBook, AdmitsBy, Admits, AdmitsStamped, Holds}
+use Rattle.grade.specs.Admission.{has_control_id, key_of, book_rows, control_row, six_rows, msh_rows, admit_rows, stamp_row, ten_rows, refusal_told, opened_told, admitted_told}
+use Rattle.grade.specs.Standing.{site_in, OpensBook, terms_of, AdmitsBy, Admits, AdmitsStamped, Holds}
 use Rattle.grade.specs.Values.{is_stamp}
-use Rattle.grade.specs.declared.refusal.Answer.{Answer}
+use Rattle.grade.specs.declared.refusal.Refusal.{Refusal}
+use Rattle.grade.specs.declared.step.Terms.{Terms}
 use Rattle.grade.specs.declared.book.Opened.{Opened}
 use Rattle.grade.specs.declared.header.Header.{Header}
 use Rattle.grade.specs.declared.walk.Section.{Section}
-use Rattle.grade.specs.declared.admit.Admitted.{Admitted}
-use Rattle.grade.specs.declared.admit.Admitted.TheVariants.{Refused, By}
 use Rattle.grade.proofs.Opening.{Under, opened_under}
+use Rattle.grade.proofs.Telling.{refusal_some, refusal_once}
 
 abbrev number_of : Told → ℕ
 number_of t = t.number
 
+same_terms : {t : Terms} {d : Delims} {s : Section} {h : Header} → t.d ≡ d → t.section ≡ s → t.header ≡ h → t ≡ record { d = d; section = s; header = h }
+same_terms own site read = rw (← own, ← site, ← read)
+
 -- ---- the steps, in the words of the code
 module _ (d : Delims) (msh b : List ℕ) where
-  pub admit_none : {a : Answer} → has_control_id d msh ≡ false → paper a ≡ told 6 0 → AdmitsBy (msh_rows d msh b) d msh b (Refused a)
+  pub admit_none : has_control_id d msh ≡ false → AdmitsBy (msh_rows d msh b) d msh b (Err Refusal.NoControlId)
   unfolding first_row
-  admit_none e p =
+  admit_none e =
       let six : first_row (msh_rows d msh b) ≡ told 6 0 = rw e in
-      record { told_is = p ∙ sym six; by = λ none. absurd (omega (arith, ap number_of six, none)) }
+      record { told_is = sym six; by = λ none. absurd (omega (arith, ap number_of six, none)) }
 
-  pub admit_some : {key : List ℕ} {o : Opened} {h : Header} {r : Admitted} → has_control_id d msh ≡ true → key ≡ key_of d msh → OpensBook (book_rows b key) (site_in b key) o → h ≡ header_of d msh
-      → (admitted_told r ≡ opened_told o) × ((s : Section) → o ≡ Opened.At s → r ≡ By s h) → AdmitsBy (msh_rows d msh b) d msh b r
-  unfolding first_row
-  admit_some e named found read is =
-      let same = ap (λ (k : List ℕ). first_row (book_rows b k)) named in
-      let rows : first_row (msh_rows d msh b) ≡ first_row (book_rows b (key_of d msh)) = rw e in
-      record {
-        told_is = is.0 ∙ found.told_is ∙ same ∙ sym rows;
-        by = λ none. is.1 _ (found.at (ap number_of (same ∙ sym rows) ∙ none)) ∙ rw (named, read);
-      }
+  module _ {key : List ℕ} {o : Opened} (e : has_control_id d msh ≡ true) (named : key ≡ key_of d msh) (found : OpensBook (book_rows b key) (site_in b key) o) where
+    same_rows : first_row (book_rows b key) ≡ first_row (msh_rows d msh b)
+    unfolding first_row
+    same_rows = let rows : first_row (msh_rows d msh b) ≡ first_row (book_rows b (key_of d msh)) = rw e in ap (λ (k : List ℕ). first_row (book_rows b k)) named ∙ sym rows
+
+    pub admit_unopened : (refusal : Refusal) → refusal_told refusal ≡ opened_told o → AdmitsBy (msh_rows d msh b) d msh b (Err refusal)
+    admit_unopened refusal is =
+        let told_is = is ∙ found.told_is ∙ same_rows in record { told_is = told_is; by = λ none. absurd (refusal_some refusal (ap number_of told_is ∙ none)) }
+
+    pub admit_opened : {t : Terms} → o ≡ Opened.At t.section → t.d ≡ d → t.header ≡ header_of d msh → AdmitsBy (msh_rows d msh b) d msh b (Ok t)
+    admit_opened {t} is own read =
+        let told_is = sym (ap opened_told is) ∙ found.told_is ∙ same_rows in
+        record { told_is = told_is; by = λ none. let site : t.section ≡ site_in b (key_of d msh) = at_site (found.at (ap number_of same_rows ∙ none)) in ap Ok (same_terms own site read) }
+      where
+        at_site : o ≡ Opened.At (site_in b key) → t.section ≡ site_in b (key_of d msh)
+        at_site f = let here : t.section ≡ site_in b key = cc in here ∙ rw named
+
+-- ---- reading: what it tells says whether the message is sound
+module _ (m : List ℕ) where
+  pub read_refused : (a : Refusal) → refusal_told a ≡ first_row (message_rows m) → is_sound m ≡ false
+  unfolding is_sound
+  read_refused a told_is = ne_eqb _ 0 (λ zero. refusal_some a (ap number_of told_is ∙ zero))
+
+  pub read_sound : {t : Told} → t ≡ first_row (message_rows m) → t.number ≡ 0 → is_sound m ≡ true
+  unfolding is_sound
+  read_sound told_is zero = eq-eqb _ 0 (sym (ap number_of told_is) ∙ zero)
 
 module _ (m b : List ℕ) where
   admit_rows_lem : first_row (admit_rows m b) ≡ cond (is_sound m) (first_row (msh_rows (delims_of m) (msh_of m) b)) (first_row (message_rows m))
   unfolding admit_rows is_sound
   admit_rows_lem = rows_append (message_rows m) (msh_rows (delims_of m) (msh_of m) b) (message-apart m)
 
-  pub admit_sound : {d : Delims} {msh : List ℕ} {r : Admitted} → is_sound m ≡ true → d ≡ delims_of m → msh ≡ msh_of m → AdmitsBy (msh_rows d msh b) d msh b r → Admits m b r
+  pub admit_sound : {d : Delims} {msh : List ℕ} {r : Result Terms Refusal} → is_sound m ≡ true → d ≡ delims_of m → msh ≡ msh_of m → AdmitsBy (msh_rows d msh b) d msh b r → Admits m b r
   admit_sound {d} {msh} {r} e own first is =
       let w = subst₂ (λ (x : Delims) (y : List ℕ). AdmitsBy (msh_rows x y b) x y b r) own first is in
       let rows : first_row (admit_rows m b) ≡ first_row (msh_rows (delims_of m) (msh_of m) b) = admit_rows_lem ∙ rw e in
@@ -68,8 +88,8 @@ module _ (m b : List ℕ) where
     unfolding is_sound
     unsound_some none = eqb-false (first_row (message_rows m)).number 0 e (ap number_of (sym unsound_rows) ∙ none)
 
-    pub admit_refused : {a : Answer} → paper a ≡ first_row (message_rows m) → Admits m b (Refused a)
-    admit_refused p = record { told_is = p ∙ sym unsound_rows; by = λ none. absurd (unsound_some none) }
+  pub admit_refused : (a : Refusal) → refusal_told a ≡ first_row (message_rows m) → Admits m b (Err a)
+  admit_refused a p = let e = read_refused m a p in record { told_is = p ∙ sym (unsound_rows e); by = λ none. absurd (unsound_some e none) }
 
 -- ---- rows 1 to 6
 module _ (m : List ℕ) where
@@ -77,7 +97,7 @@ module _ (m : List ℕ) where
   unfolding is_sound
   six_rows_lem = rows_append (message_rows m) (control_row (delims_of m) (msh_of m) ∷ []) (message-apart m)
 
-  pub six_sound : {d : Delims} {msh : List ℕ} {a : Answer} → is_sound m ≡ true → d ≡ delims_of m → msh ≡ msh_of m → paper a ≡ first_row (control_row d msh ∷ []) → paper a ≡ first_row (six_rows m)
+  pub six_sound : {d : Delims} {msh : List ℕ} {t : Told} → is_sound m ≡ true → d ≡ delims_of m → msh ≡ msh_of m → t ≡ first_row (control_row d msh ∷ []) → t ≡ first_row (six_rows m)
   six_sound e own first p = p ∙ rw (own, first) (sym (six_rows_lem ∙ rw e))
 
   pub six_apart : apart (numbers_of (six_rows m)) ≡ true
@@ -95,7 +115,7 @@ module _ (m : List ℕ) where
           let rows : first_row (six_rows m) ≡ first_row (message_rows m) = six_rows_lem ∙ rw e in
           absurd (eqb-false (first_row (message_rows m)).number 0 e (sym (ap number_of rows) ∙ none))
 
-  pub six_refused : {a : Answer} → is_sound m ≡ false → paper a ≡ first_row (message_rows m) → paper a ≡ first_row (six_rows m)
+  pub six_refused : {t : Told} → is_sound m ≡ false → t ≡ first_row (message_rows m) → t ≡ first_row (six_rows m)
   six_refused e p = p ∙ sym (six_rows_lem ∙ rw e)
 
 -- ---- exactly when
@@ -104,7 +124,7 @@ unfolding admit_rows message_rows form_rows book_rows numbers_of distinct is_in
 admit_apart m b = refl
 
 -- the number is k + 1 exactly when row k, from 0, is the first of the nine to hold
-pub admit_exactly : (m b : List ℕ) {r : Admitted} → Admits m b r → (k : ℕ) → k < 9 → ((admitted_told r).number ≡ get_or (numbers_of (admit_rows m b)) k 0) ↔ First (admit_rows m b) k
+pub admit_exactly : (m b : List ℕ) {r : Result Terms Refusal} → Admits m b r → (k : ℕ) → k < 9 → ((admitted_told r).number ≡ get_or (numbers_of (admit_rows m b)) k 0) ↔ First (admit_rows m b) k
 unfolding admit_rows message_rows form_rows book_rows
 admit_exactly m b w k h =
     let law = row-exactly (admit_rows m b) (admit_apart m b) k h in
@@ -112,39 +132,31 @@ admit_exactly m b w k h =
     (λ e. law.0 (sym same ∙ e), λ f. same ∙ law.1 f)
 
 -- ---- one answer
--- a refusal on paper is one of the code's: the other way round
-abbrev refusal_of : Told → Admitted
-refusal_of t = Refused (record { number = t.number; detail = t.detail })
-
-told-refusal : (r : Admitted) → ((admitted_told r).number ≡ 0 → ⊥) → refusal_of (admitted_told r) ≡ r
-told-refusal (Refused answer) some = refl
-told-refusal (By section header) some = absurd (some refl)
+told-refusal : (r q : Result Terms Refusal) → ((admitted_told r).number ≡ 0 → ⊥) → admitted_told r ≡ admitted_told q → r ≡ q
+told-refusal (Ok t) q some e = absurd (some refl)
+told-refusal (Err r) (Ok t) some e = absurd (some (ap number_of e))
+told-refusal (Err r) (Err q) some e = ap Err (refusal_once r q e)
 
 -- any two answers that the contract of `admit`, or of `admit_stamped`, allows are equal
-pub admit_once : {rows : List Row} {d : Delims} {msh b : List ℕ} {r q : Admitted} → AdmitsBy rows d msh b r → AdmitsBy rows d msh b q → r ≡ q
+pub admit_once : {rows : List Row} {d : Delims} {msh b : List ℕ} {r q : Result Terms Refusal} → AdmitsBy rows d msh b r → AdmitsBy rows d msh b q → r ≡ q
 admit_once {rows} {d} {msh} {b} {r} {q} v w = by (eqb (first_row rows).number 0) refl
   where
-    is : {x : Admitted} → AdmitsBy rows d msh b x → ((first_row rows).number ≡ 0 → ⊥) → refusal_of (first_row rows) ≡ x
-    is {x} u some = ap refusal_of (sym u.told_is) ∙ told-refusal x (λ e. some (sym (ap number_of u.told_is) ∙ e))
-
     by : (t : Bool) → eqb (first_row rows).number 0 ≡ t → r ≡ q
     by true e = let none = eqb-true _ 0 e in v.by none ∙ sym (w.by none)
-    by false e = let some = eqb-false _ 0 e in sym (is v some) ∙ is w some
+    by false e = told-refusal r q (λ zero. eqb-false _ 0 e (sym (ap number_of v.told_is) ∙ zero)) (v.told_is ∙ sym w.told_is)
 
 -- what is refused meets a row
-pub refused-some : {rows : List Row} {d : Delims} {msh b : List ℕ} {a : Answer} → AdmitsBy rows d msh b (Refused a) → (first_row rows).number ≡ 0 → ⊥
-refused-some w none =
-    let is = w.by none in
-    let z : ◌≡◌ {A = ℕ} 0 1 = cc in
-    omega arith
+pub refused-some : {rows : List Row} {d : Delims} {msh b : List ℕ} {a : Refusal} → AdmitsBy rows d msh b (Err a) → (first_row rows).number ≡ 0 → ⊥
+refused-some {a = a} w none = refusal_some a (ap number_of w.told_is ∙ none)
 
 -- ---- a message that was admitted: it is sound, its header was read, and the section is the one with its key
-pub record IsBy (m b : List ℕ) (s : Section) (h : Header) : Type 0 where
+pub record IsBy (m b : List ℕ) (t : Terms) : Type 0 where
   pub sound : is_sound m ≡ true
-  pub reads : h ≡ header_of (delims_of m) (msh_of m)
-  pub opens : Under b (key_of (delims_of m) (msh_of m)) s
+  pub own : t.d ≡ delims_of m
+  pub reads : t.header ≡ header_of (delims_of m) (msh_of m)
+  pub opens : Under b (key_of (delims_of m) (msh_of m)) t.section
 
-module _ (m b : List ℕ) {s : Section} {h : Header} (w : Admits m b (By s h)) where
+module _ (m b : List ℕ) {t : Terms} (w : Admits m b (Ok t)) where
   -- no row holds
   pub admitted_none : (first_row (admit_rows m b)).number ≡ 0
   admitted_none = sym (ap number_of w.told_is)
@@ -160,21 +172,25 @@ module _ (m b : List ℕ) {s : Section} {h : Header} (w : Admits m b (By s h)) w
   unfolding admit_rows message_rows form_rows book_rows
   has-section = (none-exactly (admit_rows m b) (admit_apart m b)).0 admitted_none 8
 
-  pub admitted_by : IsBy m b s h
+  pub admitted_by : IsBy m b t
   admitted_by =
       let is = w.by admitted_none in
-      let site : s ≡ site_in b (key_of (delims_of m) (msh_of m)) = cc in
-      let read : h ≡ header_of (delims_of m) (msh_of m) = cc in
-      record { sound = is_sound_lem; reads = read; opens = rw site (opened_under b (key_of (delims_of m) (msh_of m)) has-section) }
+      let terms : t ≡ terms_of (delims_of m) (msh_of m) b = cc in
+      record {
+        sound = is_sound_lem;
+        own = ap (λ (x : Terms). x.d) terms;
+        reads = ap (λ (x : Terms). x.header) terms;
+        opens = rw (ap (λ (x : Terms). x.section) terms) (opened_under b (key_of (delims_of m) (msh_of m)) has-section);
+      }
 
   pub admitted_short : length m ≤ message_limit
   admitted_short = sound-short m is_sound_lem
 
-  pub admitted_holds : Holds b s
+  pub admitted_holds : Holds b t.section
   admitted_holds = admitted_by.opens.holds
 
 -- a message that passes rows 1 to 9 is admitted by the section that it names
-pub admits_passed : (m b : List ℕ) → (first_row (admit_rows m b)).number ≡ 0 → Admits m b (By (site_in b (key_of (delims_of m) (msh_of m))) (header_of (delims_of m) (msh_of m)))
+pub admits_passed : (m b : List ℕ) → (first_row (admit_rows m b)).number ≡ 0 → Admits m b (Ok (terms_of (delims_of m) (msh_of m) b))
 admits_passed m b e = record { told_is = sym (none_answers (admit_rows m b) ((none-exactly (admit_rows m b) (admit_apart m b)).0 e)); by = λ _. refl }
 
 -- no answer of rows 1 to 9 is larger than this
@@ -228,30 +244,30 @@ module _ (m b stamp : List ℕ) where
   ten_refuses e = (eqb-false _ 0 e, λ is. omega (arith, is, ten_bounded.0))
 
   -- ---- the ways out of `admit_stamped`, in the words of the code
-  pub stamped_refused : {a : Answer} → Admits m b (Refused a) → AdmitsStamped m b stamp (Refused a)
+  pub stamped_refused : {a : Refusal} → Admits m b (Err a) → AdmitsStamped m b stamp (Err a)
   stamped_refused w =
       let some = refused-some w in
       let rows : first_row (ten_rows m b stamp) ≡ first_row (admit_rows m b) = ten_first ∙ rw (ne_eqb _ 0 some) in
       record { told_is = w.told_is ∙ sym rows; by = λ none. absurd (some (sym (ap number_of rows) ∙ none)) }
 
-  module _ {s : Section} {h : Header} (w : Admits m b (By s h)) where
+  module _ {t : Terms} (w : Admits m b (Ok t)) where
     stamp_decides : first_row (ten_rows m b stamp) ≡ first_row (stamp_row stamp ∷ [])
     stamp_decides = ten_first ∙ rw (eq-eqb _ 0 (admitted_none m b w))
 
-    pub stamped_right : is_stamp stamp ≡ true → AdmitsStamped m b stamp (By s h)
+    pub stamped_right : is_stamp stamp ≡ true → AdmitsStamped m b stamp (Ok t)
     unfolding first_row
     stamped_right e =
         let rows : first_row (ten_rows m b stamp) ≡ told 0 0 = stamp_decides ∙ rw e in
         record { told_is = sym rows; by = λ _. w.by (admitted_none m b w) }
 
-    pub stamped_wrong : {a : Answer} → is_stamp stamp ≡ false → paper a ≡ told 10 0 → AdmitsStamped m b stamp (Refused a)
+    pub stamped_wrong : is_stamp stamp ≡ false → AdmitsStamped m b stamp (Err Refusal.WrongStamp)
     unfolding first_row
-    stamped_wrong e p =
+    stamped_wrong e =
         let rows : first_row (ten_rows m b stamp) ≡ told 10 0 = stamp_decides ∙ rw e in
-        record { told_is = p ∙ sym rows; by = λ none. absurd (omega (arith, ap number_of rows, none)) }
+        record { told_is = sym rows; by = λ none. absurd (omega (arith, ap number_of rows, none)) }
 
   -- a message that was admitted with a stamp
-  module _ {s : Section} {h : Header} (w : AdmitsStamped m b stamp (By s h)) where
+  module _ {t : Terms} (w : AdmitsStamped m b stamp (Ok t)) where
     none-holds : (first_row (ten_rows m b stamp)).number ≡ 0
     none-holds = sym (ap number_of w.told_is)
 
@@ -261,5 +277,5 @@ module _ (m b stamp : List ℕ) where
     pub stamped_stamp : is_stamp stamp ≡ true
     stamped_stamp = (ten_passes stamped_passes).1
 
-    pub stamped_admitted : Admits m b (By s h)
+    pub stamped_admitted : Admits m b (Ok t)
     stamped_admitted = subst⁻¹ (Admits m b) (w.by none-holds) (admits_passed m b (ten_passes stamped_passes).0)

@@ -7,6 +7,7 @@ pub mod Indexing
 pub mod Encoded
 pub mod Decoded
 pub mod Counting
+pub mod Telling
 pub mod Admitting
 pub mod Following
 pub mod Increasing

@@ -12,19 +12,19 @@ use borrow.Author.Tests.{eq-eqb, eqb-true, eqb-false, leb-true, leb-false}
 use Rattle.hl7.specs.Bytes.{is_in, distinct}
 use Rattle.hl7.specs.Refusals.{Told, told, first_row, passes, numbers_of, apart, holds_at, First, message_rows, form_rows}
 use Rattle.hl7.proofs.Refusing.{row-exactly, none-exactly}
-use Rattle.grade.specs.Admission.{book_rows, admit_rows, paper}
+use Rattle.grade.specs.Admission.{book_rows, admit_rows, Answer, paper}
 use Rattle.grade.specs.Grading.{findings_for}
 use Rattle.grade.specs.Range.{all_in_range}
 use Rattle.grade.specs.Table.{table_rows, Filled, grade_into}
 use Rattle.grade.specs.declared.finding.Finding.{Finding}
-use Rattle.grade.specs.declared.refusal.Answer.{Answer}
+use Rattle.grade.proofs.Telling.{paper_once}
 use Rattle.grade.proofs.Admitting.{admit_bounded}
 use Rattle.grade.proofs.Planning.{found-few, into_refused, into_short, into_room}
 use Rattle.grade.proofs.Ranging.{graded-in_range}
 
 -- any two results that the contract of `grade` allows are the same
 pub grade_once : {o : Filled} {a a' : Answer} {after after' : List Finding} → (paper a ≡ o.told) × (after ≡ o.table) → (paper a' ≡ o.told) × (after' ≡ o.table) → (a ≡ a') × (after ≡ after')
-grade_once p q = (ap (λ (t : Told). record { number = t.number; detail = t.detail }) (p.0 ∙ sym q.0), p.1 ∙ sym q.1)
+grade_once {a = a} {a'} p q = (paper_once a a' (p.0 ∙ sym q.0), p.1 ∙ sym q.1)
 
 module _ (m b : List ℕ) (table : List Finding) where
   abbrev found : List Finding

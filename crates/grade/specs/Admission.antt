@@ -1,17 +1,15 @@
 -- To be believed. Rows 1 to 9, which say whether a message can be graded by a book, and row 10, about the stamp. Assumes nothing.
-use Rattle.std.specs.Prelude.{ℕ, Bool, not, List, [], ◌∷◌, ◌++◌, length}
+use Rattle.std.specs.Prelude.{ℕ, Bool, not, List, [], ◌∷◌, ◌++◌, length, Result, Ok, Err}
 use Rattle.hl7.specs.Bytes.{within}
 use Rattle.hl7.specs.Place.{delims_of, field_of}
-use Rattle.hl7.specs.Refusals.{Told, told, Row, row, message_rows}
+use Rattle.hl7.specs.Refusals.{Told, told, Row, row, message_rows, unreadable_told}
 use Rattle.hl7.specs.declared.place.Delims.{Delims}
 use Rattle.grade.specs.Book.{malformed, other_version, no_section}
 use Rattle.grade.specs.Header.{msh_of, msh_at}
 use Rattle.grade.specs.Values.{is_stamp}
-use Rattle.grade.specs.declared.refusal.Answer.{Answer}
+use Rattle.grade.specs.declared.refusal.Refusal.{Refusal}
 use Rattle.grade.specs.declared.book.Indexed.{Indexed}
 use Rattle.grade.specs.declared.book.Opened.{Opened}
-use Rattle.grade.specs.declared.admit.Admitted.{Admitted}
-use Rattle.grade.specs.declared.admit.Admitted.TheVariants.{Refused, By}
 
 -- the whole MSH-10 is not empty and not over 199 bytes
 abbrev pub has_control_id : Delims → List ℕ → Bool
@@ -50,8 +48,27 @@ abbrev pub ten_rows : (m b stamp : List ℕ) → List Row
 ten_rows m b stamp = admit_rows m b ++ (stamp_row stamp ∷ [])
 
 -- ---- the code's answers on paper
+-- the paper's number and detail of each refusal
+abbrev pub refusal_told : Refusal → Told
+refusal_told (Refusal.Unreadable why) = unreadable_told why
+refusal_told Refusal.NoControlId = told 6 0
+refusal_told Refusal.Malformed = told 7 0
+refusal_told Refusal.OtherVersion = told 8 0
+refusal_told Refusal.NoSection = told 9 0
+refusal_told Refusal.WrongStamp = told 10 0
+refusal_told (Refusal.ShortOutput need) = told 11 need
+refusal_told (Refusal.ShortTable need) = told 12 need
+refusal_told Refusal.WrongRecord = told 13 0
+refusal_told Refusal.WrongFile = told 14 0
+refusal_told (Refusal.WrongMessage ordinal) = told 15 ordinal
+
+-- what a call answers
+abbrev pub Answer : Type 0
+Answer = Result ℕ Refusal
+
 abbrev pub paper : Answer → Told
-paper a = told a.number a.detail
+paper (Ok detail) = told 0 detail
+paper (Err refusal) = refusal_told refusal
 
 abbrev pub indexed_told : Indexed → Told
 indexed_told (Indexed.Of count) = told 0 0
@@ -64,6 +81,7 @@ opened_told Opened.Malformed = told 7 0
 opened_told Opened.OtherVersion = told 8 0
 opened_told Opened.NoSection = told 9 0
 
-abbrev pub admitted_told : Admitted → Told
-admitted_told (Refused answer) = paper answer
-admitted_told (By section header) = told 0 0
+-- an answer in which something else than a number was asked for
+abbrev pub admitted_told : {A : Type 0} → Result A Refusal → Told
+admitted_told (Ok a) = told 0 0
+admitted_told (Err refusal) = refusal_told refusal

@@ -1,5 +1,5 @@
 -- Inner: only contracts inside the crates use these names; nothing here has to be believed. What the code's positions stand for.
-use Rattle.std.specs.Prelude.{ℕ, ◌+◌, ◌*◌, ◌<◌, ◌≤◌, ◌≡◌, Bool, true, false, cond, List, [], ◌∷◌, length, get_or, take, Option, Some, None}
+use Rattle.std.specs.Prelude.{ℕ, ◌+◌, ◌*◌, ◌<◌, ◌≤◌, ◌≡◌, Bool, true, false, cond, List, [], ◌∷◌, length, get_or, take, Option, Some, None, Result, Ok}
 use Rattle.std.proofs.Math.Seq.{slice}
 use Rattle.hl7.specs.Bytes.{same}
 use Rattle.hl7.specs.Place.{delims_of}
@@ -17,8 +17,8 @@ use Rattle.std.specs.declared.ops.ControlFlow.{ControlFlow}
 use Rattle.std.specs.declared.ops.ControlFlow.TheVariants.{Break, Continue}
 use Rattle.grade.specs.declared.book.Indexed.{Indexed}
 use Rattle.grade.specs.declared.book.Opened.{Opened}
-use Rattle.grade.specs.declared.admit.Admitted.{Admitted}
-use Rattle.grade.specs.declared.admit.Admitted.TheVariants.{By}
+use Rattle.grade.specs.declared.refusal.Refusal.{Refusal}
+use Rattle.grade.specs.declared.step.Terms.{Terms}
 
 -- ---- names
 
@@ -128,17 +128,21 @@ pub record OpensBook (rows : List Row) (site : Section) (r : Opened) : Type 0 wh
   pub told_is : opened_told r ≡ first_row rows
   pub at : (first_row rows).number ≡ 0 → r ≡ Opened.At site
 
--- the first of the rows that holds, or else where the section stands that MSH names, and what its header says
-pub record AdmitsBy (rows : List Row) (d : Delims) (msh b : List ℕ) (r : Admitted) : Type 0 where
+-- by what a message is graded: its delimiters, where the section stands that MSH names, and what its header says
+abbrev pub terms_of : (d : Delims) (msh b : List ℕ) → Terms
+terms_of d msh b = record { d = d; section = site_in b (key_of d msh); header = header_of d msh }
+
+-- the first of the rows that holds, or else by what the message is graded
+pub record AdmitsBy (rows : List Row) (d : Delims) (msh b : List ℕ) (r : Result Terms Refusal) : Type 0 where
   pub told_is : admitted_told r ≡ first_row rows
-  pub by : (first_row rows).number ≡ 0 → r ≡ By (site_in b (key_of d msh)) (header_of d msh)
+  pub by : (first_row rows).number ≡ 0 → r ≡ Ok (terms_of d msh b)
 
 -- a message and a book: rows 1 to 9
-abbrev pub Admits : (m b : List ℕ) → Admitted → Type 0
+abbrev pub Admits : (m b : List ℕ) → Result Terms Refusal → Type 0
 Admits m b r = AdmitsBy (admit_rows m b) (delims_of m) (msh_of m) b r
 
 -- and a stamp: rows 1 to 10
-abbrev pub AdmitsStamped : (m b stamp : List ℕ) → Admitted → Type 0
+abbrev pub AdmitsStamped : (m b stamp : List ℕ) → Result Terms Refusal → Type 0
 AdmitsStamped m b stamp r = AdmitsBy (ten_rows m b stamp) (delims_of m) (msh_of m) b r
 
 -- ---- what a section holds

@@ -11,13 +11,10 @@ ghost use Rattle.grade.specs.Rest.{Given, Stands, rest, findings_in};
 ghost use Rattle.grade.specs.Sheet.{line_count, finding_limit, to_come, Ready, Gets, Lists};
 
 use crate::finding::{BLANK, Finding};
-use crate::header::none_wrong;
 use crate::limits::{FIELD_PLACES, LINKS, NAME_PLACES, SET_PLACES};
 use crate::lookup::{links_of, sets_of};
 use crate::order::follow_table;
 use crate::step::{Cursor, Terms, next, start};
-use crate::walk::Section;
-use hl7::place::delims_of;
 
 // So many findings are on a sheet.
 pub const LINES: usize = 64;
@@ -158,34 +155,6 @@ pub fn next_sheet(m: &[u8], book: &[u8], s: Sheet) -> Sheet
         links,
         starts,
         counts,
-    }
-}
-
-// The sheet of a message that is not graded.
-pub(crate) fn no_sheet() -> Sheet {
-    let section = Section {
-        rules_at: 0,
-        rule_count: 0,
-        sets_at: 0,
-        set_count: 0,
-    };
-    let by = Terms {
-        d: delims_of(b""),
-        section,
-        header: none_wrong(),
-    };
-    Sheet {
-        by,
-        brief: false,
-        lines: [BLANK; LINES],
-        used: 0,
-        fault: false,
-        ended: true,
-        cursor: start(by, b""),
-        sets: [0; SET_PLACES],
-        links: [0; LINKS],
-        starts: [0; FIELD_PLACES],
-        counts: [0; NAME_PLACES],
     }
 }
 

@@ -4,25 +4,15 @@ ghost use Rattle.std.proofs.lemmas.List.Edits.{sets};
 ghost use Rattle.grade.specs.Admission.{paper};
 ghost use Rattle.grade.specs.Table.{grade_into};
 ghost use Rattle.grade.specs.Sheet.{line_count, finding_limit, held, Sheeted};
-ghost use Rattle.grade.specs.Filling.{all_from, Fills, plan_none, plan_for, Plans};
+ghost use Rattle.grade.specs.Filling.{all_from, Fills};
 
-use crate::admit::{Admitted, admit};
+use crate::admit::admit;
 use crate::book::index_book;
 use crate::finding::{BLANK, Finding};
 use crate::limits::SECTION_LIMIT;
 use crate::order::follow_table;
-use crate::refusal::Answer;
-use crate::sheet::{Sheet, first_sheet, list_by, next_sheet, no_sheet};
-use crate::step::Terms;
-use hl7::place::delims_of;
-
-// What grading answers, how many records it writes, and the first sheet of these.
-#[derive(Clone, Copy)]
-pub struct Plan {
-    pub answer: Answer,
-    pub count: usize,
-    pub first: Sheet,
-}
+use crate::refusal::{Answer, Refusal};
+use crate::sheet::{Sheet, first_sheet, list_by, next_sheet};
 
 // How many findings there are, the first sheet given: those behind it are counted and not noted.
 fn count_findings(m: &[u8], book: &[u8], first: Sheet) -> usize
@@ -58,54 +48,6 @@ fn count_findings(m: &[u8], book: &[u8], first: Sheet) -> usize
     first.used + behind.used
 }
 
-// Under a refusal no record is set.
-fn set_none(answer: Answer, first: Sheet) -> Plan
-    ensures { result ≡ plan_none answer first }
-{
-    Plan {
-        answer,
-        count: 0,
-        first,
-    }
-}
-
-// All findings are set, or, where there is not room for so many, none.
-fn plan_of(first: Sheet, found: usize, room: usize) -> Plan
-    ensures { result ≡ plan_for first found room }
-{
-    if room < found {
-        let short = Answer {
-            number: 12,
-            detail: found,
-        };
-        return set_none(short, first);
-    }
-    Plan {
-        answer: Answer {
-            number: 0,
-            detail: found,
-        },
-        count: found,
-        first,
-    }
-}
-
-// What to do with a table of so many records.
-fn planned(m: &[u8], book: &[u8], room: usize) -> Plan
-    ensures { Plans m.now book.now room result }
-{
-    let mut sections = [0usize; SECTION_LIMIT];
-    let indexed = index_book(book, &mut sections);
-    match admit(m, book, &sections, indexed) {
-        Admitted::By(section, header) => {
-            let d = delims_of(m);
-            let first = first_sheet(false, Terms { d, section, header }, m, book);
-            plan_of(first, count_findings(m, book, first), room)
-        }
-        Admitted::Refused(answer) => set_none(answer, no_sheet()),
-    }
-}
-
 // Sets records from one on by a sheet.
 fn store_sheet(table: &mut [Finding], from: usize, sheet: Sheet)
     requires { (from + sheet.used ≤ length table.old) × (sheet.used ≤ length sheet.lines) }
@@ -128,13 +70,20 @@ fn fill(table: &mut [Finding], m: &[u8], book: &[u8], first: Sheet, count: usize
     }
 }
 
-// Grades a message by a book into a table: number 0 and the number of findings, which the first records then hold, or the first of refusals 1 to 9 and 12 that
-// applies, which alters nothing. There is no branch: under a refusal no record is set, since the count is 0.
+// Grades a message by a book into a table, and answers the number of findings, which the first records then hold, or the first of refusals 1 to 9 and 12 that
+// applies, which alters nothing.
 pub fn grade(m: &[u8], book: &[u8], table: &mut [Finding]) -> Answer
     ensures { (paper result ≡ (grade_into m.now book.now table.old).told) × (table.new ≡ (grade_into m.now book.now table.old).table) }
 {
     let room = table.len();
-    let plan = planned(m, book, room);
-    fill(table, m, book, plan.first, plan.count);
-    plan.answer
+    let mut sections = [0usize; SECTION_LIMIT];
+    let indexed = index_book(book, &mut sections);
+    let terms = admit(m, book, &sections, indexed)?;
+    let first = first_sheet(false, terms, m, book);
+    let found = count_findings(m, book, first);
+    if room < found {
+        return Err(Refusal::ShortTable(found));
+    }
+    fill(table, m, book, first, found);
+    Ok(found)
 }

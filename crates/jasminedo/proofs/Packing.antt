@@ -10,12 +10,10 @@ use Rattle.hl7.specs.Spans.{Spans}
 use Rattle.hl7.specs.Refusals.{message_limit, Told, first_row, message_rows, is_sound, located}
 use Rattle.hl7.specs.declared.cut.Span.{Span}
 use Rattle.hl7.proofs.Refusing.{reading_bounded, sound-short, located-refused}
-use Rattle.grade.specs.Admission.{paper}
-use Rattle.grade.specs.declared.refusal.Answer.{Answer}
 use Rattle.grade.specs.Table.{grade_into}
 use Rattle.grade.specs.declared.finding.Finding.{Finding}
 use Rattle.grade.proofs.Tabling.{graded_bounded}
-use Rattle.ack.specs.Answers.{Outcome, Gives}
+use Rattle.ack.specs.Answers.{Outcome, outcome}
 use Rattle.ack.specs.Records.{write_from}
 use Rattle.ack.specs.Lamp.{lamp_of}
 use Rattle.ack.proofs.RecordLaws.{record_bounded}
@@ -65,34 +63,34 @@ pub lamp_unpacked : (m b stamp : List ℕ) → (packed (lamp_of m b stamp) % 256
 lamp_unpacked m b stamp = let bounded = lamp_bounded m b stamp in packed_back (lamp_of m b stamp) (omega arith)
 
 -- ---- answers, in the words of the code
-module _ {o : Outcome} {a : Answer} {after : List ℕ} (w : Gives a after o) where
-  given-small : o.told.detail ≤ 2 ^ 52 → a.detail ≤ 2 ^ 52
+module _ {o : Outcome} {t : Told} {after : List ℕ} (w : outcome t after ≡ o) where
+  given-small : o.told.detail ≤ 2 ^ 52 → t.detail ≤ 2 ^ 52
   given-small = subst (λ (n : ℕ). n ≤ 2 ^ 52) (sym (ap (λ (o : Outcome). o.told.detail) w))
 
-  pub given-packed : {code : ℕ} → code ≡ packed (paper a) → (code ≡ packed o.told) × (after ≡ o.output)
+  pub given-packed : {code : ℕ} → code ≡ packed t → (code ≡ packed o.told) × (after ≡ o.output)
   given-packed e = (e ∙ ap (λ (o : Outcome). packed o.told) w, ap (λ (o : Outcome). o.output) w)
 
-pub batch_small : (f b stamp : List ℕ) (control : ℕ) (out : List ℕ) {a : Answer} {after : List ℕ} → Gives a after (batch_of f b stamp control out) → a.detail ≤ 2 ^ 52
+pub batch_small : (f b stamp : List ℕ) (control : ℕ) (out : List ℕ) {t : Told} {after : List ℕ} → outcome t after ≡ batch_of f b stamp control out → t.detail ≤ 2 ^ 52
 batch_small f b stamp control out w = given-small w (batch_bounded f b stamp control out).1
 
-pub table-small : (m b : List ℕ) (table : List Finding) {a : Answer} → paper a ≡ (grade_into m b table).told → a.detail ≤ 2 ^ 52
+pub table-small : (m b : List ℕ) (table : List Finding) {told : Told} → told ≡ (grade_into m b table).told → told.detail ≤ 2 ^ 52
 table-small m b table w = subst (λ (n : ℕ). n ≤ 2 ^ 52) (sym (ap (λ (t : Told). t.detail) w)) (graded_bounded m b table).1
 
-pub record_small : (m : List ℕ) (table : List Finding) (count : ℕ) → count < 2 ^ 32 → (stamp : List ℕ) (control : ℕ) (out : List ℕ) {a : Answer} {after : List ℕ}
-    → Gives a after (write_from m table count stamp control out) → a.detail ≤ 2 ^ 52
+pub record_small : (m : List ℕ) (table : List Finding) (count : ℕ) → count < 2 ^ 32 → (stamp : List ℕ) (control : ℕ) (out : List ℕ) {t : Told} {after : List ℕ}
+    → outcome t after ≡ write_from m table count stamp control out → t.detail ≤ 2 ^ 52
 record_small m table count few stamp control out w = let bounded = record_bounded m table count stamp control out few in given-small w (omega arith)
 
-module _ {t : Told} {a : Answer} (w : paper a ≡ t) where
-  told-within : t.detail ≤ message_limit + 1 → a.detail ≤ 2 ^ 52
+module _ {t told : Told} (w : told ≡ t) where
+  told-within : t.detail ≤ message_limit + 1 → told.detail ≤ 2 ^ 52
   told-within h = let same = ap (λ (t : Told). t.detail) w in omega arith
 
-  pub paper-packed : {code : ℕ} → code ≡ packed (paper a) → code ≡ packed t
+  pub paper-packed : {code : ℕ} → code ≡ packed told → code ≡ packed t
   paper-packed e = e ∙ ap packed w
 
-pub reading_small : (m : List ℕ) {a : Answer} → paper a ≡ first_row (message_rows m) → a.detail ≤ 2 ^ 52
+pub reading_small : (m : List ℕ) {told : Told} → told ≡ first_row (message_rows m) → told.detail ≤ 2 ^ 52
 reading_small m w = told-within w (reading_bounded m).1
 
-pub lamp_small : (m b stamp : List ℕ) {a : Answer} → paper a ≡ lamp_of m b stamp → a.detail ≤ 2 ^ 52
+pub lamp_small : (m b stamp : List ℕ) {told : Told} → told ≡ lamp_of m b stamp → told.detail ≤ 2 ^ 52
 lamp_small m b stamp w = told-within w (lamp_bounded m b stamp).1
 
 -- ---- places

@@ -32,10 +32,14 @@ use legend::legend::legend;
 
 // The number in the low byte, the detail above.
 fn pack(answer: Answer) -> u64
-    requires { answer.detail ≤ 2 ^ 52 }
+    requires { (paper answer).detail ≤ 2 ^ 52 }
     ensures { result ≡ packed (paper answer) }
 {
-    (answer.detail as u64) * 256 + (answer.number as u64)
+    let (number, detail) = match answer {
+        Ok(detail) => (0, detail),
+        Err(refusal) => (refusal.number(), refusal.detail()),
+    };
+    (detail as u64) * 256 + u64::from(number)
 }
 
 // The number in the low byte, the detail above, and above four bytes of it the section's line, which a length never has.

@@ -6,8 +6,7 @@ use native.Mathlib.Omega.{arith}
 use lib.ListN.{length, take, drop}
 use lib.Seq.{take_at}
 use Rattle.std.proofs.Common.{Option}
-use Rattle.grade.specs.declared.refusal.Answer.{Answer}
-use Rattle.grade.specs.Admission.{paper}
+use Rattle.grade.specs.Admission.{Answer, paper}
 use Rattle.ack.specs.Answers.{Outcome, Gives}
 use Rattle.ack.specs.Splice.{Wrote}
 use Rattle.ack.proofs.Writing.{splice-at-start}

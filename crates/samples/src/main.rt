@@ -112,8 +112,10 @@ fn print_place(rt: &impl Print, pack: &mut impl Read, message: &[u8]) -> Result<
 
 // Prints what the lamp tells on a line.
 fn print_lamp(rt: &impl Print, message: &[u8], book: &[u8], stamp: &[u8]) -> io::Result<()> {
-    let told = lamp(message, book, stamp);
-    println!(rt; "{} {}", told.number, told.detail)
+    match lamp(message, book, stamp) {
+        Ok(yes) => println!(rt; "0 {yes}"),
+        Err(refusal) => println!(rt; "{} {}", refusal.number(), refusal.detail()),
+    }
 }
 
 // The answer to a message, which is graded and then written, or to a batch file.

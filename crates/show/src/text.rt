@@ -1,19 +1,19 @@
 // What a program prints, put together in the output that was lent for the answer.
 ghost use Rattle.std.specs.Prelude.{◌≡◌, min, ◌++◌, length, take, drop};
-ghost use Rattle.grade.specs.Admission.{paper};
+ghost use Rattle.grade.specs.Admission.{refusal_told, paper};
 ghost use Rattle.ack.specs.Splice.{Wrote};
 ghost use Rattle.show.specs.Shown.{line_feed, line_feeds, refusal, bad_text, Printed};
 
 use ack::output::Output;
-use grade::refusal::Answer;
+use grade::refusal::{Answer, Refusal};
 
-fn put_refusal(text: &mut [u8], number: u8, detail: usize) -> usize
-    ensures { Wrote text.old 0 (refusal number detail) text.new result }
+fn put_refusal(text: &mut [u8], why: Refusal) -> usize
+    ensures { Wrote text.old 0 (refusal (refusal_told why).number (refusal_told why).detail) text.new result }
 {
     let mut line = Output { bytes: text, at: 0 };
     line.put(b"refused");
-    line.put_number(b' ', number as usize);
-    line.put_number(b' ', detail);
+    line.put_number(b' ', usize::from(why.number()));
+    line.put_number(b' ', why.detail());
     line.put_byte(b'\n');
     line.at
 }
@@ -51,8 +51,8 @@ fn turn_lines(text: &mut [u8], count: usize) -> usize
 pub fn put_answer(text: &mut [u8], answer: Answer) -> usize
     ensures { Printed (paper answer) text.old text.new result }
 {
-    if answer.number == 0 {
-        return turn_lines(text, answer.detail);
+    match answer {
+        Ok(count) => turn_lines(text, count),
+        Err(refusal) => put_refusal(text, refusal),
     }
-    put_refusal(text, answer.number, answer.detail)
 }

@@ -1,13 +1,28 @@
 -- `lent::grade_and_write` meets its contract: grading into a table of its own, and then writing from it. Assumes nothing.
-use Rattle.std.proofs.Common.{ap, replicate}
+use mathlib.Core.Path.{ap}
+use native.Mathlib.Omega.{arith}
+use lib.ListN.{replicate, length-replicate}
+use Rattle.std.proofs.lemmas.Result.{err_from_is_err_and}
 use Rattle.grade.specs.declared.finding.Finding.{Finding}
-use Rattle.ack.proofs.Settling.{settles}
+use Rattle.ack.specs.Records.{blank, own_table}
+use Rattle.ack.proofs.Lending.{lent_refused, lent_written, lent_few}
 use Rattle.ack.proofs.lent.grade_and_write.Goals as goal
+
+pub returns-in_err-found : goal.returns-in_err-found
+returns-in_err-found c =
+    let a = c.args in
+    let p = err_from_is_err_and c.from_residual.result c.from_residual.ensures.1 in
+    let graded = c.in_err-found.ensures in
+    rw (p.1, p.2) (lent_refused a.m.now a.book.now a.stamp.now a.control a.out.now own_table _ graded.0)
+
+pub overflow_cast-found : goal.overflow_cast-found
+overflow_cast-found c =
+    let a = c.args in
+    let graded = c.in_ok-found.ensures in
+    record { fits = omega (arith, lent_few a.m.now a.book.now a.stamp.now 0 a.stamp.now own_table graded.0, length-replicate 8192 blank) }
 
 pub returns : goal.returns
 returns c =
     let a = c.args in
-    let own = ap (λ (f : Finding). replicate 8192 f) c.no_record-blank.ensures in
-    let graded = rw own at c.grade-graded.ensures in
-    let wrote = rw c.stated_count-count.ensures at c.write-written.ensures in
-    rw c.settled.ensures (settles a.m.now a.book.now a.stamp.now a.control a.out.now graded.0 graded.1 wrote)
+    let graded = c.in_ok-found.ensures in
+    lent_written a.m.now a.book.now a.stamp.now a.control a.out.now own_table _ graded.0 graded.1 c.write.ensures

@@ -7,4 +7,4 @@ pub answer_indexed-requires : goal.answer_indexed-requires
 answer_indexed-requires c = c.requires.1
 
 pub returns : goal.returns
-returns c = answers_at _ _ _ _ c.args.out.now c.args.at c.requires.0 (omega arith) c.answer_indexed.ensures
+returns c = answers_at _ _ _ _ c.args.out.now c.args.at c.requires.0 (omega arith) _ c.answer_indexed.ensures

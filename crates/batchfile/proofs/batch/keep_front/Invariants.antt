@@ -1,5 +1,4 @@
 -- `batchfile::batch::keep_front` meets its contract. The invariant of its loop: the room holds the ACKs of the messages before. Assumes nothing.
-use Prim.Native.Nat.{◌-◌}
 use mathlib.Core.Path.{◌≡◌}
 use lib.ListN.{length}
 use Rattle.batchfile.proofs.Joining.{Keeping}
@@ -7,6 +6,3 @@ use Rattle.batchfile.proofs.batch.keep_front.Given as goal
 
 abbrev pub invariant-loop-k : goal.invariant-loop-k
 invariant-loop-k l = Keeping l.f l.at l.count l.book l.stamp l.control l.from l.k l.to l.room × (length l.room ≡ length l.initial.room)
-
-abbrev pub decreases-loop-k : goal.decreases-loop-k
-decreases-loop-k l = l.count - l.k

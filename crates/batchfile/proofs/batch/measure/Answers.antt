@@ -5,4 +5,4 @@ use Rattle.batchfile.proofs.Measuring.{measures}
 use Rattle.batchfile.proofs.batch.measure.Goals as goal
 
 pub returns : goal.returns
-returns c = subst (Measures _ _ _ _) (sym c.measured_by.ensures) (measures _ _ _ _ _ c.answer_indexed.ensures)
+returns c = subst (Measures _ _ _ _) (sym c.measured_by.ensures) (measures _ _ _ _ _ _ c.answer_indexed.ensures)

@@ -1,10 +1,6 @@
 -- `batchfile::batch::measure_all` meets its contract. The invariant of its loop: what is known of all messages by those that are left. Assumes nothing.
-use Prim.Native.Nat.{◌-◌}
 use Rattle.batchfile.proofs.Measuring.{Measuring}
 use Rattle.batchfile.proofs.batch.measure_all.Given as goal
 
 abbrev pub invariant-loop-k : goal.invariant-loop-k
 invariant-loop-k l = Measuring l.f l.at l.count l.book l.stamp l.control l.from l.k l.total
-
-abbrev pub decreases-loop-k : goal.decreases-loop-k
-decreases-loop-k l = l.count - l.k

@@ -1,10 +1,6 @@
 -- `batchfile::batch::put_all` meets its contract. The invariant of its loop: with the ACKs that are left written too, all are. Assumes nothing.
-use Prim.Native.Nat.{◌-◌}
 use Rattle.batchfile.proofs.Joining.{Writing}
 use Rattle.batchfile.proofs.batch.put_all.Given as goal
 
 abbrev pub invariant-loop-k : goal.invariant-loop-k
 invariant-loop-k l = Writing l.f l.at l.count l.book l.stamp l.control l.initial.out l.start l.from l.k l.to l.out
-
-abbrev pub decreases-loop-k : goal.decreases-loop-k
-decreases-loop-k l = l.count - l.k

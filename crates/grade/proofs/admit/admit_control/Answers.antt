@@ -5,8 +5,8 @@ use Rattle.grade.proofs.admit.admit_control.Goals as goal
 
 pub returns-then-has_control_id : goal.returns-then-has_control_id
 unfolding first_row
-returns-then-has_control_id c = c.refused.ensures ∙ rw (sym c.has_control_id.ensures ∙ c.if-has_control_id.true)
+returns-then-has_control_id c = rw (sym c.has_control_id.ensures ∙ c.if-has_control_id.true)
 
 pub returns-else-has_control_id : goal.returns-else-has_control_id
 unfolding first_row
-returns-else-has_control_id c = c.refused-else-has_control_id.ensures ∙ rw (sym c.has_control_id.ensures ∙ c.if-has_control_id.false)
+returns-else-has_control_id c = rw (sym c.has_control_id.ensures ∙ c.if-has_control_id.false)

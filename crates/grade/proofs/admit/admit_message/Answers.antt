@@ -1,19 +1,20 @@
 -- `grade::admit::admit_message` meets its contract: rows 1 to 5, and then row 6. Assumes nothing.
-use mathlib.Core.Path.{sym, ap, ◌∙◌}
+use mathlib.Core.Path.{refl, ap, ◌∙◌}
+use Rattle.std.proofs.lemmas.Result.{err_from_is_err_and}
 use Rattle.hl7.specs.Place.{is_msh}
-use Rattle.hl7.proofs.Refusing.{sound-is, sound-msh}
-use Rattle.grade.proofs.Admitting.{six_sound, six_refused}
+use Rattle.hl7.proofs.Refusing.{sound-msh}
+use Rattle.grade.specs.declared.refusal.Refusal.{Refusal}
+use Rattle.grade.proofs.Admitting.{read_refused, read_sound, six_sound, six_refused}
 use Rattle.grade.proofs.admit.admit_message.Goals as goal
 
+pub returns-in_err-check : goal.returns-in_err-check
+returns-in_err-check c =
+    let p = err_from_is_err_and c.from_residual.result c.from_residual.ensures.1 in
+    let told = c.in_err-check.ensures in
+    rw (p.1, p.2) (six_refused _ (read_refused _ (Refusal.Unreadable c.in_err-check.field-0.0) told) told)
+
 pub admit_control-requires : goal.admit_control-requires
-admit_control-requires c = ap is_msh c.segment.ensures.bytes ∙ sound-msh _ (sym (sound-is _ c.check-reading.result c.check-reading.ensures) ∙ sym c.is_ok.ensures.value ∙ c.if-is_ok.true)
+admit_control-requires c = ap is_msh c.segment.ensures.bytes ∙ sound-msh _ (read_sound _ c.in_ok-check.ensures refl)
 
-pub returns-then-is_ok : goal.returns-then-is_ok
-returns-then-is_ok c =
-    six_sound _ (sym (sound-is _ c.check-reading.result c.check-reading.ensures) ∙ sym c.is_ok.ensures.value ∙ c.if-is_ok.true)
-    c.delims_of.ensures c.segment.ensures.bytes c.admit_control.ensures
-
-pub returns-else-is_ok : goal.returns-else-is_ok
-returns-else-is_ok c =
-    six_refused _ (sym (sound-is _ c.check-reading.result c.check-reading.ensures) ∙ sym c.is_ok.ensures.value ∙ c.if-is_ok.false)
-    (c.of_reading.ensures ∙ c.check-reading.ensures)
+pub returns : goal.returns
+returns c = six_sound _ (read_sound _ c.in_ok-check.ensures refl) c.delims_of.ensures c.segment.ensures.bytes c.admit_control.ensures
