@@ -32,6 +32,16 @@ pub struct Kept {
     pub to: usize,
 }
 
+// By what every message of a file is answered: the book, where its sections start, as `index_book` noted them, and the stamp.
+#[derive(Clone, Copy)]
+pub struct Shared<'a> {
+    pub book: &'a [u8],
+    pub starts: &'a [usize],
+    pub indexed: Indexed,
+    pub stamp: &'a [u8],
+    ghost noted: { Indexes book.now starts.now indexed },
+}
+
 // ---- one message
 // The control number of the message that k others stand before.
 fn control_at(control: usize, k: usize) -> u32
@@ -51,37 +61,39 @@ fn measured_by(given: Answer) -> Option<usize>
     }
 }
 
-// How long a message's ACK is, if the message meets none of refusals 1 to 10.
-fn measure(
-    m: &[u8],
-    book: &[u8],
-    starts: &[usize],
-    indexed: Indexed,
-    stamp: &[u8],
-    control: u32,
-) -> Option<usize>
-    requires { Indexes book.now starts.now indexed }
-    ensures { Measures m.now book.now stamp.now control result }
-{
-    let mut nothing = [0u8; 0];
-    measured_by(answer_indexed(m, book, starts, indexed, stamp, control, &mut nothing))
-}
+impl Shared<'_> {
+    // How long a message's ACK is, if the message meets none of refusals 1 to 10.
+    fn measure(&self, m: &[u8], control: u32) -> Option<usize>
+        ensures { Measures m.now self.now.book.now self.now.stamp.now control result }
+    {
+        let mut nothing = [0u8; 0];
+        let given = answer_indexed(
+            m,
+            self.book,
+            self.starts,
+            self.indexed,
+            self.stamp,
+            control,
+            &mut nothing,
+        );
+        measured_by(given)
+    }
 
-// Answers a message into the output from a position on.
-fn answer_at(
-    out: &mut [u8],
-    at: usize,
-    m: &[u8],
-    book: &[u8],
-    starts: &[usize],
-    indexed: Indexed,
-    stamp: &[u8],
-    control: u32,
-) -> Answer
-    requires { (at ≤ length out.old) × Indexes book.now starts.now indexed }
-    ensures { AnswersAt m.now book.now stamp.now control out.old at result out.new }
-{
-    answer_indexed(m, book, starts, indexed, stamp, control, &mut out[at..])
+    // Answers a message into the output from a position on.
+    fn answer_at(&self, out: &mut [u8], at: usize, m: &[u8], control: u32) -> Answer
+        requires { at ≤ length out.old }
+        ensures { AnswersAt m.now self.now.book.now self.now.stamp.now control out.old at result out.new }
+    {
+        answer_indexed(
+            m,
+            self.book,
+            self.starts,
+            self.indexed,
+            self.stamp,
+            control,
+            &mut out[at..],
+        )
+    }
 }
 
 // ---- all messages
@@ -91,14 +103,11 @@ fn keep_front(
     f: &[u8],
     at: usize,
     count: usize,
-    book: &[u8],
-    starts: &[usize],
-    indexed: Indexed,
-    stamp: &[u8],
+    by: &Shared<'_>,
     control: usize,
 ) -> Kept
-    requires { Starts f.now at count × (control + count ≤ controls) × Indexes book.now starts.now indexed }
-    ensures { Keeps f.now at count book.now stamp.now control room.new result }
+    requires { Starts f.now at count × (control + count ≤ controls) }
+    ensures { Keeps f.now at count by.now.book.now by.now.stamp.now control room.new result }
 {
     let mut from = at;
     let mut to = 0;
@@ -106,7 +115,7 @@ fn keep_front(
         let end = message_end(f, from);
         let m = &f[from..end];
         let number = control_at(control, k);
-        let Ok(length) = answer_at(room, to, m, book, starts, indexed, stamp, number) else {
+        let Ok(length) = by.answer_at(room, to, m, number) else {
             return Kept { from, count: k, to };
         };
         to += length;
@@ -120,14 +129,11 @@ fn measure_all(
     f: &[u8],
     at: usize,
     count: usize,
-    book: &[u8],
-    starts: &[usize],
-    indexed: Indexed,
-    stamp: &[u8],
+    by: &Shared<'_>,
     control: usize,
 ) -> Result<usize, usize>
-    requires { Starts f.now at count × (control + count ≤ controls) × Indexes book.now starts.now indexed }
-    ensures { MeasuresAll (messages_at f.now at) book.now stamp.now control result }
+    requires { Starts f.now at count × (control + count ≤ controls) }
+    ensures { MeasuresAll (messages_at f.now at) by.now.book.now by.now.stamp.now control result }
 {
     let mut from = at;
     let mut total = 0;
@@ -135,7 +141,7 @@ fn measure_all(
         let end = message_end(f, from);
         let m = &f[from..end];
         let number = control_at(control, k);
-        let Some(length) = measure(m, book, starts, indexed, stamp, number) else {
+        let Some(length) = by.measure(m, number) else {
             return Err(k + 1);
         };
         total += length;
@@ -151,14 +157,11 @@ fn put_all(
     f: &[u8],
     at: usize,
     count: usize,
-    book: &[u8],
-    starts: &[usize],
-    indexed: Indexed,
-    stamp: &[u8],
+    by: &Shared<'_>,
     control: usize,
 ) -> usize
-    requires { Starts f.now at count × (control + count ≤ controls) × Indexes book.now starts.now indexed × (refused_from book.now stamp.now 1 (messages_at f.now at) ≡ []) × (start + length (acks_from book.now stamp.now control (messages_at f.now at)) ≤ length out.old) }
-    ensures { Wrote out.old start (acks_from book.now stamp.now control (messages_at f.now at)) out.new result }
+    requires { Starts f.now at count × (control + count ≤ controls) × (refused_from by.now.book.now by.now.stamp.now 1 (messages_at f.now at) ≡ []) × (start + length (acks_from by.now.book.now by.now.stamp.now control (messages_at f.now at)) ≤ length out.old) }
+    ensures { Wrote out.old start (acks_from by.now.book.now by.now.stamp.now control (messages_at f.now at)) out.new result }
 {
     let mut from = at;
     let mut to = start;
@@ -166,7 +169,7 @@ fn put_all(
         let end = message_end(f, from);
         let m = &f[from..end];
         let number = control_at(control, k);
-        let given = answer_at(out, to, m, book, starts, indexed, stamp, number);
+        let given = by.answer_at(out, to, m, number);
         to += given.unwrap();
         from = end;
     }
@@ -180,17 +183,14 @@ fn answer_left(
     kept: Kept,
     f: &[u8],
     left: usize,
-    book: &[u8],
-    starts: &[usize],
-    indexed: Indexed,
-    stamp: &[u8],
+    by: &Shared<'_>,
     control: usize,
 ) -> Answer
-    requires { (kept.to ≤ length room.now) × Starts f.now kept.from left × (control + left ≤ controls) × (kept.count + left ≤ controls) × Indexes book.now starts.now indexed }
-    ensures { Gives result out.new (left_of (take kept.to room.now) kept.count (messages_at f.now kept.from) book.now stamp.now control out.old) }
+    requires { (kept.to ≤ length room.now) × Starts f.now kept.from left × (control + left ≤ controls) × (kept.count + left ≤ controls) }
+    ensures { Gives result out.new (left_of (take kept.to room.now) kept.count (messages_at f.now kept.from) by.now.book.now by.now.stamp.now control out.old) }
 {
     let from = kept.from;
-    let total = match measure_all(f, from, left, book, starts, indexed, stamp, control) {
+    let total = match measure_all(f, from, left, by, control) {
         Ok(total) => total,
         Err(ordinal) => return Err(Refusal::WrongMessage(kept.count + ordinal)),
     };
@@ -199,10 +199,7 @@ fn answer_left(
         return Err(Refusal::ShortOutput(need));
     }
     let to = put(out, 0, front(room, kept.to));
-    let end = put_all(
-        out, to, f, from, left, book, starts, indexed, stamp, control,
-    );
-    Ok(end)
+    Ok(put_all(out, to, f, from, left, by, control))
 }
 
 // The answer to the messages that begin at a position. The book is looked at once for all, and not at all where there is none.
@@ -223,15 +220,17 @@ fn answer_messages(
     }
     let mut starts = [0usize; SECTION_LIMIT];
     let indexed = index_book(book, &mut starts);
+    let by = Shared {
+        book,
+        starts: &starts,
+        indexed,
+        stamp,
+    };
     let mut room = [0u8; KEPT];
-    let kept = keep_front(
-        &mut room, f, at, count, book, &starts, indexed, stamp, control,
-    );
+    let kept = keep_front(&mut room, f, at, count, &by, control);
     let left = count - kept.count;
     let next = control + kept.count;
-    answer_left(
-        out, &room, kept, f, left, book, &starts, indexed, stamp, next,
-    )
+    answer_left(out, &room, kept, f, left, &by, next)
 }
 
 // ---- the whole file

@@ -98,11 +98,14 @@ pub(crate) fn is_framed(d: Delims, f: &[u8], frame: Frame) -> bool
     requires { (d ≡ delims_of f.now) × Framing f.now frame }
     ensures { result ≡ is_framed f.now }
 {
-    let bhs = frame.bhs;
-    let start = frame.start;
-    let end = frame.end;
-    let fts = frame.fts;
-    let over = frame.over;
+    let Frame {
+        bhs,
+        start,
+        end,
+        fts,
+        over,
+        ..
+    } = frame;
     opens_with(f, b"FHS")
         & keeps_rows(d, &f[0..bhs])
         & is_segment(d, b"BHS", &f[bhs..start])
@@ -129,9 +132,7 @@ fn has_count(d: Delims, line: &[u8], n: usize) -> bool
 {
     let seg = segment(line, 1);
     let first = field_span(d, seg, 1);
-    let start = first.start;
-    let end = first.end;
-    is_count(&seg[start..end], n)
+    is_count(&seg[first.start..first.end], n)
 }
 
 // Whether the counts of BTS and FTS are right.
@@ -139,8 +140,12 @@ pub(crate) fn is_counted(d: Delims, f: &[u8], frame: Frame) -> bool
     requires { (d ≡ delims_of f.now) × Framing f.now frame × (frame.count < too_large) }
     ensures { result ≡ is_counted f.now }
 {
-    let end = frame.end;
-    let fts = frame.fts;
-    let over = frame.over;
-    has_count(d, &f[end..fts], frame.count) & has_count(d, &f[fts..over], 1)
+    let Frame {
+        end,
+        fts,
+        over,
+        count,
+        ..
+    } = frame;
+    has_count(d, &f[end..fts], count) & has_count(d, &f[fts..over], 1)
 }

@@ -15,13 +15,12 @@ returns-then-out-need c =
     let a = c.args in
     left-short (take a.kept.to a.room.now) a.kept.count _ _ _ _ _ c.in-Ok.ensures (sym (length-take-le a.kept.to a.room.now c.requires.0)) c.if-out-need.true
 
-pub put_all-end-requires : goal.put_all-end-requires
-put_all-end-requires c =
+pub put_all-requires : goal.put_all-requires
+put_all-requires c =
     let a = c.args in
     let put = wrote_as c.put-to.ensures c.front.ensures in (
       c.requires.1,
       c.requires.2,
-      c.requires.4,
       c.in-Ok.ensures.none,
       left-room (take a.kept.to a.room.now) a.kept.count _ _ _ _ a.out.now c.in-Ok.ensures (sym (length-take-le a.kept.to a.room.now c.requires.0)) c.if-out-need.false put,
     )
@@ -30,4 +29,4 @@ pub returns : goal.returns
 returns c =
     let a = c.args in
     let put = wrote_as c.put-to.ensures c.front.ensures in
-    left-written (take a.kept.to a.room.now) a.kept.count _ _ _ _ _ c.in-Ok.ensures (sym (length-take-le a.kept.to a.room.now c.requires.0)) c.if-out-need.false put c.put_all-end.ensures
+    left-written (take a.kept.to a.room.now) a.kept.count _ _ _ _ _ c.in-Ok.ensures (sym (length-take-le a.kept.to a.room.now c.requires.0)) c.if-out-need.false put c.put_all.ensures

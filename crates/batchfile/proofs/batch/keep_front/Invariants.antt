@@ -5,4 +5,4 @@ use Rattle.batchfile.proofs.Joining.{Keeping}
 use Rattle.batchfile.proofs.batch.keep_front.Given as goal
 
 abbrev pub invariant-loop-k : goal.invariant-loop-k
-invariant-loop-k l = Keeping l.f l.at l.count l.book l.stamp l.control l.from l.k l.to l.room × (length l.room ≡ length l.initial.room)
+invariant-loop-k l = Keeping l.f l.at l.count l.by.book.now l.by.stamp.now l.control l.from l.k l.to l.room × (length l.room ≡ length l.initial.room)

@@ -5,7 +5,7 @@ use Rattle.batchfile.proofs.batch.put_all.Goals as goal
 
 pub loop-k-init : goal.loop-k-init
 loop-k-init c =
-    let pre = c.requires in writing_none _ _ _ _ _ _ _ _ pre.0 pre.3 pre.4
+    let pre = c.requires in writing_none _ _ _ _ _ _ _ _ pre.0 pre.2 pre.3
 
 pub unwrap-to-requires : goal.unwrap-to-requires
 unwrap-to-requires c = writes_ok _ _ _ _ _ _ _ _ _ _ _ _ _ c.loop-k.invariant (omega arith) c.message_end-end.ensures _ _ c.control_at-number.ensures c.answer_at-given.ensures
