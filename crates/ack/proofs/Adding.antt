@@ -43,3 +43,14 @@ adds_over o xs n to past long ends = record { same = refl; wrote = λ near room.
 -- what was lent, once it is given back
 pub wrote_lent : {o p : Output} {xs after : List ℕ} → Adds o xs p → o.at ≤ limit → length o.bytes.now < limit → after ≡ p.bytes.now → Wrote o.bytes.now o.at xs after p.at
 wrote_lent {o} {p} {xs} f near room back = subst (λ (l : List ℕ). Wrote o.bytes.now o.at xs l p.at) (sym back) (f.wrote near room)
+
+-- ---- a loop that writes, one turn after the other: whoever writes the rest after what was written has written all
+abbrev pub Adding : (all rest : List ℕ) (o now : Output) → Type 0
+Adding all rest o now = (after : Output) → Adds now rest after → Adds o all after
+
+pub adding_more : {all rest xs more : List ℕ} {o now mid : Output} → Adding all rest o now → rest ≡ xs ++ more → Adds now xs mid → Adding all more o mid
+adding_more c e w after v = c after (adds_as (w next v) (sym e))
+
+-- the loop has run out
+pub adding_over : {all rest : List ℕ} {o now : Output} → Adding all rest o now → rest ≡ [] → Adds o all now
+adding_over {now = now} c e = c now (adds_none now (sym e))

@@ -21,7 +21,10 @@ use Rattle.grade.proofs.Opening.{held}
 use Rattle.grade.proofs.Parts.{stands_parts, stands-key}
 use Rattle.ack.specs.Layout.{joined, marked}
 use Rattle.ack.specs.Splice.{Wrote, limit}
-use Rattle.ack.proofs.Writing.{wrote_as, ◌then◌}
+use Rattle.ack.specs.Output.{Adds}
+use Rattle.ack.specs.declared.output.Output.{Output}
+use Rattle.ack.proofs.Writing.{wrote_as}
+use Rattle.ack.proofs.Adding.{◌next◌, adds_as}
 use Rattle.booktext.specs.Faults.{tell, nothing}
 use Rattle.booktext.specs.Lines.{line_feed}
 use Rattle.booktext.specs.Refusals.{unless_refused, written}
@@ -55,21 +58,21 @@ module _ (b : List ℕ) (start : ℕ) (stands : stands_at b start ≡ true) wher
     pub section-holds : Holds b s
     section-holds = itself.2
 
-    pub section-written : {key : List ℕ} {count : ℕ} → key ≡ text_at b start → count ≡ s.set_count → {o p q r t u v : List ℕ} {at c d e f g h : ℕ}
-        → Wrote o at (printed (set_lines key 1 (sets_in b s))) p c → Wrote p c (bytes "section ") q d → Wrote q d key r e → Wrote r e (line_feed ∷ []) t f
-        → Wrote t f (pin_bytes key count) u g → Wrote u g (printed (rule_lines key [] (rules_in b s))) v h
-        → Wrote o at (printed (section_lines (contents_at b start))) v h
+    pub section-written : {key : List ℕ} {count : ℕ} → key ≡ text_at b start → count ≡ s.set_count → {o p q r t u v : Output}
+        → Adds o (printed (set_lines key 1 (sets_in b s))) p → Adds p (bytes "section ") q → Adds q key r → Adds r (line_feed ∷ []) t
+        → Adds t (pin_bytes key count) u → Adds u (printed (rule_lines key [] (rules_in b s))) v
+        → Adds o (printed (section_lines (contents_at b start))) v
     section-written {key} {count} ek en sets-put first-put key-put feed-put pin-put rules-put =
         let c = contents_at b start in
         let named : key ≡ c.key = ek ∙ sym (stands-key b start stands).1 in
         let sets : sets_in b s ≡ c.sets = sym itself.1 in
         let rules : rules_in b s ≡ c.rules = sym itself.0 in
         let many : length c.sets ≡ count = ap length itself.1 ∙ sets-length b s section-holds ∙ sym en in
-        wrote_as
-        (wrote_as sets-put (ap₂ (λ (k : List ℕ) (l : List (List (List ℕ))). printed (set_lines k 1 l)) named sets)
-        then two_written (bytes "section") named first-put key-put feed-put
-        then wrote_as pin-put (ap (λ (k : List ℕ). pin_bytes k count) named ∙ pin_printed c.key c.sets many)
-        then wrote_as rules-put (ap₂ (λ (k : List ℕ) (l : List Rule). printed (rule_lines k [] l)) named rules))
+        adds_as
+        (adds_as sets-put (ap₂ (λ (k : List ℕ) (l : List (List (List ℕ))). printed (set_lines k 1 l)) named sets)
+        next two_written (bytes "section") named first-put key-put feed-put
+        next adds_as pin-put (ap (λ (k : List ℕ). pin_bytes k count) named ∙ pin_printed c.key c.sets many)
+        next adds_as rules-put (ap₂ (λ (k : List ℕ) (l : List Rule). printed (rule_lines k [] l)) named rules))
         (section_lines_lem c)
 
 -- ---- sections, one after the other
@@ -88,23 +91,23 @@ module _ (b starts : List ℕ) (i : ℕ) where
   unfolding book_lines printed
   sections-over h = ap (λ (cs : List Contents). printed (book_lines cs)) (from_done (contents_at b) starts i h)
 
-pub shown-written : (cs : List Contents) {o p q : List ℕ} {b c : ℕ} → Wrote o 0 (bytes "book 1\n") p b → Wrote p b (printed (book_lines cs)) q c → Wrote o 0 (shown cs) q c
+pub shown-written : (cs : List Contents) {o p q : Output} → Adds o (bytes "book 1\n") p → Adds p (printed (book_lines cs)) q → Adds o (shown cs) q
 unfolding shown printed joined marked
-shown-written cs u v = u then v
+shown-written cs u v = u next v
 
 -- ---- what is answered
 module _ (b : List ℕ) (is : Bytes b) (formed : malformed b ≡ false) (version : other_version b ≡ false) {cs : List Contents} (say : decoded b ≡ cs) where
   shown-short : length (shown (decoded b)) < limit
   shown-short = omega (arith, again_short b is formed version)
 
-  as_decoded : {o p : List ℕ} {at next : ℕ} → Wrote o at (shown cs) p next → Wrote o at (shown (decoded b)) p next
+  as_decoded : {o p : List ℕ} {at end : ℕ} → Wrote o at (shown cs) p end → Wrote o at (shown (decoded b)) p end
   as_decoded w = wrote_as w (ap shown (sym say))
 
   module _ (out : List ℕ) {p : List ℕ} {size : ℕ} (w : Wrote [] 0 (shown cs) p size) where
     pub shown-long : {told : Told} → length (p ++ out) < size → told ≡ tell 55 size 0 → (told ≡ (written (shown (decoded b)) out).told) × (p ++ out ≡ (written (shown (decoded b)) out).output)
     shown-long h e = measured_short (shown (decoded b)) shown-short out (as_decoded w) h e
 
-    pub shown_put : {told : Told} → size ≤ length (p ++ out) → {after : List ℕ} {next : ℕ} → Wrote (p ++ out) 0 (shown cs) after next → told ≡ tell 0 size 0
+    pub shown_put : {told : Told} → size ≤ length (p ++ out) → {after : List ℕ} {end : ℕ} → Wrote (p ++ out) 0 (shown cs) after end → told ≡ tell 0 size 0
         → (told ≡ (written (shown (decoded b)) out).told) × (after ≡ (written (shown (decoded b)) out).output)
     shown_put h v e = measured_done (shown (decoded b)) shown-short out (as_decoded w) h e (as_decoded v)
 

@@ -16,8 +16,9 @@ use Rattle.grade.specs.declared.rule.Place.{Place}
 use Rattle.grade.specs.declared.rule.Rule.{Rule}
 use Rattle.ack.specs.Decimal.{decimal}
 use Rattle.ack.specs.Layout.{joined, marked, component_parts}
-use Rattle.ack.specs.Splice.{Wrote}
-use Rattle.ack.proofs.Writing.{wrote_as, ◌then◌}
+use Rattle.ack.specs.Output.{Adds}
+use Rattle.ack.specs.declared.output.Output.{Output}
+use Rattle.ack.proofs.Adding.{◌next◌, adds_as, adds_none}
 use Rattle.booktext.specs.Lines.{line_feed}
 use Rattle.canonical.specs.Shown.{line_bytes, printed, place_word, kind_word, bound_words, rule_spot, rule_line, rule_lines}
 use Rattle.canonical.specs.Showing.{line_of_rule}
@@ -31,33 +32,33 @@ component-said n = by (eqb n 0)
     by true = refl
     by false = ap (λ (l : List ℕ). code "." ∷ l) (append-nil (decimal n))
 
-pub place-written : (place : Place) {field : ℕ} {o p s : List ℕ} {at b e : ℕ} → field ≡ place.field
-    → Wrote o at (32 ∷ []) p b → Wrote p b (name_bytes place.segment ++ ((code "-" ∷ decimal field) ++ marked (code ".") (component_parts place.component))) s e
-    → Wrote o at (32 ∷ place_word place) s e
+pub place-written : (place : Place) {field : ℕ} {o p q r s : Output} → field ≡ place.field
+    → Adds o (32 ∷ []) p → Adds p (name_bytes place.segment) q → Adds q (code "-" ∷ decimal field) r → Adds r (marked (code ".") (component_parts place.component)) s
+    → Adds o (32 ∷ place_word place) s
 unfolding place_word
-place-written place e u v = wrote_as (u then v) (rw (e, component-said place.component))
+place-written place e u v w x = adds_as (u next v next w next x) (rw (e, component-said place.component))
 
 -- two numbers
-pub range_written : (low high : ℕ) {o p q : List ℕ} {at b c : ℕ} → Wrote o at (32 ∷ decimal low) p b → Wrote p b (32 ∷ decimal high) q c → Wrote o at (marked 32 (decimal low ∷ decimal high ∷ [])) q c
+pub range_written : (low high : ℕ) {o p q : Output} → Adds o (32 ∷ decimal low) p → Adds p (32 ∷ decimal high) q → Adds o (marked 32 (decimal low ∷ decimal high ∷ [])) q
 unfolding marked
-range_written low high u v = wrote_as (u then v) (rw (append-nil (decimal high)))
+range_written low high u v = adds_as (u next v) (rw (append-nil (decimal high)))
 
 -- one word
-pub one_written : {word : List ℕ} {o p : List ℕ} {at b : ℕ} → Wrote o at (32 ∷ word) p b → Wrote o at (marked 32 (word ∷ [])) p b
+pub one_written : {word : List ℕ} {o p : Output} → Adds o (32 ∷ word) p → Adds o (marked 32 (word ∷ [])) p
 unfolding marked
-one_written {word} u = wrote_as u (rw (append-nil word))
+one_written {word} u = adds_as u (rw (append-nil word))
 
-pub none_written : {o p : List ℕ} {at b : ℕ} → Wrote o at [] p b → Wrote o at (marked 32 []) p b
+pub none_written : (o : Output) → Adds o (marked 32 []) o
 unfolding marked
-none_written u = u
+none_written o = adds_none o refl
 
 -- ---- lines
-pub rule-written : (key : List ℕ) (again : Bool) (rule : Rule) {o p q r s t u : List ℕ} {at b c d e f g : ℕ}
-    → Wrote o at (cond again (bytes "also") (bytes "rule")) p b → Wrote p b (32 ∷ place_word rule.place) q c → Wrote q c (32 ∷ kind_word rule.kind) r d
-    → Wrote r d (32 ∷ severity_letter rule.severity ∷ []) s e → Wrote s e (marked 32 (bound_words key rule.kind)) t f → Wrote t f (line_feed ∷ []) u g
-    → Wrote o at (line_bytes (line_of_rule key again rule)) u g
+pub rule-written : (key : List ℕ) (again : Bool) (rule : Rule) {o p q r s t u : Output}
+    → Adds o (cond again (bytes "also") (bytes "rule")) p → Adds p (32 ∷ place_word rule.place) q → Adds q (32 ∷ kind_word rule.kind) r
+    → Adds r (32 ∷ severity_letter rule.severity ∷ []) s → Adds s (marked 32 (bound_words key rule.kind)) t → Adds t (line_feed ∷ []) u
+    → Adds o (line_bytes (line_of_rule key again rule)) u
 unfolding line_of_rule joined marked
-rule-written key again rule v w x y z l = wrote_as (v then w then x then y then z then l) (simp append_assoc)
+rule-written key again rule v w x y z l = adds_as (v next w next x next y next z next l) (simp append_assoc)
 
 module _ (rules : List Rule) (i : ℕ) (spots : List ℕ) where
   abbrev rule : Rule

@@ -19,8 +19,9 @@ use Rattle.grade.proofs.Holding.{sets_read_lem, placed_at}
 use Rattle.grade.proofs.Parts.{set_is, codes-next}
 use Rattle.grade.proofs.Readings.{times_empty, row-length}
 use Rattle.ack.specs.Layout.{joined, marked}
-use Rattle.ack.specs.Splice.{Wrote}
-use Rattle.ack.proofs.Writing.{wrote_as, ◌then◌}
+use Rattle.ack.specs.Output.{Adds}
+use Rattle.ack.specs.declared.output.Output.{Output}
+use Rattle.ack.proofs.Adding.{◌next◌, adds_as}
 use Rattle.booktext.specs.Lines.{line_feed}
 use Rattle.canonical.specs.Shown.{line_bytes, printed, set_name, code_line, set_lines, set_names, pin_lines}
 use Rattle.canonical.specs.Showing.{names_from, pin_bytes}
@@ -32,9 +33,9 @@ module _ (verb : List ℕ) where
   unfolding joined marked
   line_two word = simp (append_assoc, append-nil)
 
-  pub two_written : {o p q r word want : List ℕ} {at b c d : ℕ} → word ≡ want → Wrote o at (verb ++ (32 ∷ [])) p b → Wrote p b word q c → Wrote q c (line_feed ∷ []) r d
-      → Wrote o at (line_bytes (verb ∷ want ∷ [])) r d
-  two_written {want = want} e u v w = wrote_as (u then wrote_as v e then w) (line_two want)
+  pub two_written : {o p q r : Output} {word want : List ℕ} → word ≡ want → Adds o (verb ++ (32 ∷ [])) p → Adds p word q → Adds q (line_feed ∷ []) r
+      → Adds o (line_bytes (verb ∷ want ∷ [])) r
+  two_written {want = want} e u v w = adds_as (u next adds_as v e next w) (line_two want)
 
 -- ---- codes
 module _ (b : List ℕ) where
@@ -43,21 +44,21 @@ module _ (b : List ℕ) where
   codes_from left from = printed (map code_line (items_of (times left (text code_limit) b from)))
 
   module _ (left from : ℕ) where
-    pub codes_more : 0 < left → is_found (times left (text code_limit) b from) ≡ true → {next : ℕ} → next ≡ text_end b from
-        → (is_found (times (left - 1) (text code_limit) b next) ≡ true) × (codes_from left from ≡ line_bytes (code_line (text_at b from)) ++ codes_from (left - 1) next)
+    pub codes_more : 0 < left → is_found (times left (text code_limit) b from) ≡ true → {later : ℕ} → later ≡ text_end b from
+        → (is_found (times (left - 1) (text code_limit) b later) ≡ true) × (codes_from left from ≡ line_bytes (code_line (text_at b from)) ++ codes_from (left - 1) later)
     unfolding printed
-    codes_more h f {next} e = let w = codes-next b left from h f next e in (w.0, ap (λ (cs : List (List ℕ)). printed (map code_line cs)) w.2)
+    codes_more h f {later} e = let w = codes-next b left from h f later e in (w.0, ap (λ (cs : List (List ℕ)). printed (map code_line cs)) w.2)
 
     pub codes-over : left ≤ 0 → codes_from left from ≡ []
     unfolding printed
     codes-over h = ap (λ (cs : List (List ℕ)). printed (map code_line cs)) (times_empty (text code_limit) b left from h)
 
   -- a set is its line and those of its codes
-  pub set-written : (start : ℕ) {count : ℕ} → SetStands b start → count ≡ pair b start → (line : List (List ℕ)) {o p q : List ℕ} {at c d : ℕ}
-      → Wrote o at (line_bytes line) p c → Wrote p c (codes_from count (start + 2)) q d → Wrote o at (printed (line ∷ map code_line (codes_at b start))) q d
+  pub set-written : (start : ℕ) {count : ℕ} → SetStands b start → count ≡ pair b start → (line : List (List ℕ)) {o p q : Output}
+      → Adds o (line_bytes line) p → Adds p (codes_from count (start + 2)) q → Adds o (printed (line ∷ map code_line (codes_at b start))) q
   unfolding printed
   set-written start {count} stands e line u v =
-      wrote_as (u then v) (ap (λ (r : Parsed (List (List ℕ))). line_bytes line ++ printed (map code_line (items_of r))) (sym ((set_is b start stands).1 count e)))
+      adds_as (u next v) (ap (λ (r : Parsed (List (List ℕ))). line_bytes line ++ printed (map code_line (items_of r))) (sym ((set_is b start stands).1 count e)))
 
 -- ---- sets
 pub sets-length : (b : List ℕ) (s : Section) → Holds b s → length (sets_in b s) ≡ s.set_count
@@ -117,11 +118,11 @@ module _ (key : List ℕ) (count : ℕ) where
   unfolding pin_bytes
   pin_none e = rw (eq-eqb count 0 e)
 
-  pub pin_written : (count ≡ 0 → ⊥) → {o p q r : List ℕ} {at b c d : ℕ} → Wrote o at (bytes "sets") p b → Wrote p b (marked 32 (names_from key 1 count)) q c → Wrote q c (line_feed ∷ []) r d
-      → Wrote o at (pin_bytes key count) r d
+  pub pin_written : (count ≡ 0 → ⊥) → {o p q r : Output} → Adds o (bytes "sets") p → Adds p (marked 32 (names_from key 1 count)) q → Adds q (line_feed ∷ []) r
+      → Adds o (pin_bytes key count) r
   unfolding pin_bytes joined
   pin_written some u v w =
-      wrote_as (u then v then w) (rw (ne_eqb count 0 some) (sym (append_assoc (bytes "sets") (marked 32 (names_from key 1 count)) (line_feed ∷ []))))
+      adds_as (u next v next w) (rw (ne_eqb count 0 some) (sym (append_assoc (bytes "sets") (marked 32 (names_from key 1 count)) (line_feed ∷ []))))
 
 -- it is that of the sets
 module _ (key : List ℕ) where

@@ -10,13 +10,14 @@ ghost use Rattle.grade.specs.Encoding.{kind_byte};
 ghost use Rattle.grade.specs.declared.rule.Kind.{Kind};
 ghost use Rattle.grade.specs.Standing.{text_at, TextFits, stands_at, contents_at, rules_in, sets_in, Holds, SetStands, codes_at};
 ghost use Rattle.ack.specs.Splice.{Wrote};
+ghost use Rattle.ack.specs.Output.{Adds};
 ghost use Rattle.ack.specs.Layout.{marked};
 ghost use Rattle.booktext.specs.Refusals.{written};
 ghost use Rattle.canonical.specs.Shown.{line_bytes, printed, set_name, code_line, set_lines, place_word, kind_word, bound_words, rule_spot, rule_line, rule_lines, section_lines, book_lines, shown, show_of};
 ghost use Rattle.canonical.specs.Showing.{names_from, pin_bytes, line_of_rule};
 
 use ack::layout::{put_component, put_name};
-use ack::output::{Output, put, put_byte, put_number};
+use ack::output::Output;
 use booktext::cell::spot_number;
 use booktext::told::{Told, tell};
 use grade::book::{Indexed, index_book, site_at};
@@ -29,171 +30,160 @@ const LINE_FEED: u8 = 10;
 
 // ---- sets
 // A set's name: key, slash, number.
-fn put_set_name(out: &mut [u8], at: usize, key: &[u8], n: usize) -> usize
-    ensures { Wrote out.old at (set_name key.now n) out.new result }
+fn put_set_name(out: &mut Output<'_>, key: &[u8], n: usize)
+    ensures { Adds out.old (set_name key.now n) out.new }
 {
-    let second = put(out, at, key);
-    put_number(out, second, b'/', n)
+    out.put(key);
+    out.put_number(b'/', n);
 }
 
 // The line of the code at a position.
-fn put_code(out: &mut [u8], at: usize, book: &[u8], from: usize) -> usize
+fn put_code(out: &mut Output<'_>, book: &[u8], from: usize)
     requires { TextFits book.now from }
-    ensures { Wrote out.old at (line_bytes (code_line (text_at book.now from))) out.new result }
+    ensures { Adds out.old (line_bytes (code_line (text_at book.now from))) out.new }
 {
-    let second = put(out, at, b"code ");
-    let third = put(out, second, text_part(book, from));
-    put_byte(out, third, LINE_FEED)
+    out.put(b"code ");
+    out.put(text_part(book, from));
+    out.put_byte(LINE_FEED);
 }
 
 // Those of count codes that stand at start.
-fn put_codes(out: &mut [u8], at: usize, book: &[u8], start: usize, count: usize) -> usize
+fn put_codes(out: &mut Output<'_>, book: &[u8], start: usize, count: usize)
     requires { is_found (times count (text code_limit) book.now start) ≡ true }
-    ensures { Wrote out.old at (printed (map code_line (items_of (times count (text code_limit) book.now start)))) out.new result }
+    ensures { Adds out.old (printed (map code_line (items_of (times count (text code_limit) book.now start)))) out.new }
 {
-    let mut to = at;
     let mut from = start;
     for _i in 0..count {
-        to = put_code(out, to, book, from);
+        put_code(out, book, from);
         from = text_after(book, from);
     }
-    put(out, to, b"")
 }
 
 // The set at a position, by its number in its section.
-fn put_set(out: &mut [u8], at: usize, book: &[u8], start: usize, key: &[u8], n: usize) -> usize
+fn put_set(out: &mut Output<'_>, book: &[u8], start: usize, key: &[u8], n: usize)
     requires { SetStands book.now start }
-    ensures { Wrote out.old at (printed ((bytes "set" ∷ set_name key.now n ∷ []) ∷ map code_line (codes_at book.now start))) out.new result }
+    ensures { Adds out.old (printed ((bytes "set" ∷ set_name key.now n ∷ []) ∷ map code_line (codes_at book.now start))) out.new }
 {
-    let second = put(out, at, b"set ");
-    let third = put_set_name(out, second, key, n);
-    let fourth = put_byte(out, third, LINE_FEED);
-    put_codes(out, fourth, book, start + 2, pair_at(book, start))
+    out.put(b"set ");
+    put_set_name(out, key, n);
+    out.put_byte(LINE_FEED);
+    put_codes(out, book, start + 2, pair_at(book, start));
 }
 
 // The sets of a section with a key.
-fn put_sets(out: &mut [u8], at: usize, book: &[u8], section: Section, key: &[u8]) -> usize
+fn put_sets(out: &mut Output<'_>, book: &[u8], section: Section, key: &[u8])
     requires { Holds book.now section }
-    ensures { Wrote out.old at (printed (set_lines key.now 1 (sets_in book.now section))) out.new result }
+    ensures { Adds out.old (printed (set_lines key.now 1 (sets_in book.now section))) out.new }
 {
     let places = sets_of(book, section);
-    let mut to = at;
     for (i, place) in places[..section.set_count as usize].iter().enumerate() {
-        to = put_set(out, to, book, *place, key, i + 1);
+        put_set(out, book, *place, key, i + 1);
     }
-    put(out, to, b"")
 }
 
 // ---- the line that fixes their order
 // One name, with a blank in front.
-fn put_named(out: &mut [u8], at: usize, key: &[u8], n: usize) -> usize
-    ensures { Wrote out.old at (32 ∷ set_name key.now n) out.new result }
+fn put_named(out: &mut Output<'_>, key: &[u8], n: usize)
+    ensures { Adds out.old (32 ∷ set_name key.now n) out.new }
 {
-    let second = put_byte(out, at, b' ');
-    put_set_name(out, second, key, n)
+    out.put_byte(b' ');
+    put_set_name(out, key, n);
 }
 
 // Those of count sets.
-fn put_names(out: &mut [u8], at: usize, key: &[u8], count: usize) -> usize
-    ensures { Wrote out.old at (marked 32 (names_from key.now 1 count)) out.new result }
+fn put_names(out: &mut Output<'_>, key: &[u8], count: usize)
+    ensures { Adds out.old (marked 32 (names_from key.now 1 count)) out.new }
 {
-    let mut to = at;
     for i in 0..count {
-        to = put_named(out, to, key, i + 1);
+        put_named(out, key, i + 1);
     }
-    put(out, to, b"")
 }
 
 // The line, if there are any.
-fn put_pin(out: &mut [u8], at: usize, key: &[u8], count: usize) -> usize
-    ensures { Wrote out.old at (pin_bytes key.now count) out.new result }
+fn put_pin(out: &mut Output<'_>, key: &[u8], count: usize)
+    ensures { Adds out.old (pin_bytes key.now count) out.new }
 {
-    if count == 0 {
-        return put(out, at, b"");
+    if count != 0 {
+        out.put(b"sets");
+        put_names(out, key, count);
+        out.put_byte(LINE_FEED);
     }
-    let second = put(out, at, b"sets");
-    let third = put_names(out, second, key, count);
-    put_byte(out, third, LINE_FEED)
 }
 
 // ---- rules, the words after the first each with a blank in front
 // The first word: whether a rule of its place and kind stands before it.
-fn put_verb(out: &mut [u8], at: usize, again: bool) -> usize
-    ensures { Wrote out.old at (cond again (bytes "also") (bytes "rule")) out.new result }
+fn put_verb(out: &mut Output<'_>, again: bool)
+    ensures { Adds out.old (cond again (bytes "also") (bytes "rule")) out.new }
 {
     if again {
-        return put(out, at, b"also");
+        out.put(b"also");
+    } else {
+        out.put(b"rule");
     }
-    put(out, at, b"rule")
 }
 
-pub fn put_place(out: &mut [u8], at: usize, place: Place) -> usize
-    ensures { Wrote out.old at (32 ∷ place_word place) out.new result }
+pub fn put_place(out: &mut Output<'_>, place: Place)
+    ensures { Adds out.old (32 ∷ place_word place) out.new }
 {
-    let second = put_byte(out, at, b' ');
-    let mut word = Output {
-        bytes: out,
-        at: second,
-    };
-    put_name(&mut word, place.segment);
-    word.put_number(b'-', place.field as usize);
-    put_component(&mut word, b'.', place.component);
-    word.at
+    out.put_byte(b' ');
+    put_name(out, place.segment);
+    out.put_number(b'-', place.field as usize);
+    put_component(out, b'.', place.component);
 }
 
-pub fn put_kind(out: &mut [u8], at: usize, kind: Kind) -> usize
-    ensures { Wrote out.old at (32 ∷ kind_word kind) out.new result }
+pub fn put_kind(out: &mut Output<'_>, kind: Kind)
+    ensures { Adds out.old (32 ∷ kind_word kind) out.new }
 {
     match kind {
-        Kind::Required => put(out, at, b" REQUIRED"),
-        Kind::Length { .. } => put(out, at, b" LENGTH"),
-        Kind::Number => put(out, at, b" NUMBER"),
-        Kind::Date => put(out, at, b" DATE"),
-        Kind::Time { .. } => put(out, at, b" TIME"),
-        Kind::Code { .. } => put(out, at, b" CODE"),
+        Kind::Required => out.put(b" REQUIRED"),
+        Kind::Length { .. } => out.put(b" LENGTH"),
+        Kind::Number => out.put(b" NUMBER"),
+        Kind::Date => out.put(b" DATE"),
+        Kind::Time { .. } => out.put(b" TIME"),
+        Kind::Code { .. } => out.put(b" CODE"),
     }
 }
 
-pub fn put_severity(out: &mut [u8], at: usize, severity: Severity) -> usize
-    ensures { Wrote out.old at (32 ∷ severity_letter severity ∷ []) out.new result }
+pub fn put_severity(out: &mut Output<'_>, severity: Severity)
+    ensures { Adds out.old (32 ∷ severity_letter severity ∷ []) out.new }
 {
     match severity {
-        Severity::Error => put(out, at, b" E"),
-        Severity::Warning => put(out, at, b" W"),
-        Severity::Informational => put(out, at, b" I"),
+        Severity::Error => out.put(b" E"),
+        Severity::Warning => out.put(b" W"),
+        Severity::Informational => out.put(b" I"),
     }
 }
 
 // Two numbers.
-pub fn put_range(out: &mut [u8], at: usize, low: u8, high: u8) -> usize
-    ensures { Wrote out.old at (marked 32 (bound_words [] (Kind.Length low high))) out.new result }
+pub fn put_range(out: &mut Output<'_>, low: u8, high: u8)
+    ensures { Adds out.old (marked 32 (bound_words [] (Kind.Length low high))) out.new }
 {
-    let second = put_number(out, at, b' ', low as usize);
-    put_number(out, second, b' ', high as usize)
+    out.put_number(b' ', low as usize);
+    out.put_number(b' ', high as usize);
 }
 
 // Numbers or the set's name.
-fn put_bound(out: &mut [u8], at: usize, key: &[u8], kind: Kind) -> usize
-    ensures { Wrote out.old at (marked 32 (bound_words key.now kind)) out.new result }
+fn put_bound(out: &mut Output<'_>, key: &[u8], kind: Kind)
+    ensures { Adds out.old (marked 32 (bound_words key.now kind)) out.new }
 {
     match kind {
-        Kind::Length { low, high } => put_range(out, at, low, high),
-        Kind::Time { digits } => put_number(out, at, b' ', digits as usize),
-        Kind::Code { set } => put_named(out, at, key, set as usize),
-        Kind::Required | Kind::Number | Kind::Date => put(out, at, b""),
+        Kind::Length { low, high } => put_range(out, low, high),
+        Kind::Time { digits } => out.put_number(b' ', digits as usize),
+        Kind::Code { set } => put_named(out, key, set as usize),
+        Kind::Required | Kind::Number | Kind::Date => {}
     }
 }
 
 // A rule's line.
-fn put_rule(out: &mut [u8], at: usize, key: &[u8], again: bool, rule: Rule) -> usize
-    ensures { Wrote out.old at (line_bytes (line_of_rule key.now again rule)) out.new result }
+fn put_rule(out: &mut Output<'_>, key: &[u8], again: bool, rule: Rule)
+    ensures { Adds out.old (line_bytes (line_of_rule key.now again rule)) out.new }
 {
-    let second = put_verb(out, at, again);
-    let third = put_place(out, second, rule.place);
-    let fourth = put_kind(out, third, rule.kind);
-    let fifth = put_severity(out, fourth, rule.severity);
-    let sixth = put_bound(out, fifth, key, rule.kind);
-    put_byte(out, sixth, LINE_FEED)
+    put_verb(out, again);
+    put_place(out, rule.place);
+    put_kind(out, rule.kind);
+    put_severity(out, rule.severity);
+    put_bound(out, key, rule.kind);
+    out.put_byte(LINE_FEED);
 }
 
 // A kind's number in a book.
@@ -236,75 +226,57 @@ fn is_in(spots: &[usize], x: usize) -> bool
 
 // The line of the rule with a number; spots are noted of those before it, and then of it.
 fn put_noted(
-    out: &mut [u8],
-    at: usize,
+    out: &mut Output<'_>,
     book: &[u8],
     section: Section,
     key: &[u8],
     spots: &mut [usize],
     i: usize,
-) -> usize
+)
     requires { Holds book.now section × (i < section.rule_count) × (i < length spots.old) }
-    ensures { Wrote out.old at (line_bytes (rule_line key.now (take i spots.old) (get_or (rules_in book.now section) i no_rule))) out.new result × (spots.new ≡ set spots.old i (rule_spot (get_or (rules_in book.now section) i no_rule))) }
+    ensures { Adds out.old (line_bytes (rule_line key.now (take i spots.old) (get_or (rules_in book.now section) i no_rule))) out.new × (spots.new ≡ set spots.old i (rule_spot (get_or (rules_in book.now section) i no_rule))) }
 {
     let rule = rule_at(book, section, i);
     let spot = spot_of(rule);
     let again = is_in(&spots[..i], spot);
     spots[i] = spot;
-    put_rule(out, at, key, again, rule)
+    put_rule(out, key, again, rule);
 }
 
 // The rules of a section with a key.
-fn put_rules(
-    out: &mut [u8],
-    at: usize,
-    book: &[u8],
-    section: Section,
-    key: &[u8],
-    spots: &mut [usize],
-) -> usize
+fn put_rules(out: &mut Output<'_>, book: &[u8], section: Section, key: &[u8], spots: &mut [usize])
     requires { Holds book.now section × (rule_limit ≤ length spots.old) }
-    ensures { Wrote out.old at (printed (rule_lines key.now [] (rules_in book.now section))) out.new result }
+    ensures { Adds out.old (printed (rule_lines key.now [] (rules_in book.now section))) out.new }
 {
-    let mut to = at;
     for i in 0..section.rule_count {
-        to = put_noted(out, to, book, section, key, spots, i);
+        put_noted(out, book, section, key, spots, i);
     }
-    put(out, to, b"")
 }
 
 // ---- sections
 // The section at a position: its sets, then itself.
-fn put_section(out: &mut [u8], at: usize, book: &[u8], start: usize, spots: &mut [usize]) -> usize
+fn put_section(out: &mut Output<'_>, book: &[u8], start: usize, spots: &mut [usize])
     requires { (stands_at book.now start ≡ true) × (rule_limit ≤ length spots.old) }
-    ensures { Wrote out.old at (printed (section_lines (contents_at book.now start))) out.new result }
+    ensures { Adds out.old (printed (section_lines (contents_at book.now start))) out.new }
 {
     let section = site_at(book, start);
     let key = text_part(book, start);
-    let second = put_sets(out, at, book, section, key);
-    let third = put(out, second, b"section ");
-    let fourth = put(out, third, key);
-    let fifth = put_byte(out, fourth, LINE_FEED);
-    let sixth = put_pin(out, fifth, key, section.set_count as usize);
-    put_rules(out, sixth, book, section, key, spots)
+    put_sets(out, book, section, key);
+    out.put(b"section ");
+    out.put(key);
+    out.put_byte(LINE_FEED);
+    put_pin(out, key, section.set_count as usize);
+    put_rules(out, book, section, key, spots);
 }
 
 // Those at the positions.
-fn put_sections(
-    out: &mut [u8],
-    at: usize,
-    book: &[u8],
-    starts: &[usize],
-    spots: &mut [usize],
-) -> usize
+fn put_sections(out: &mut Output<'_>, book: &[u8], starts: &[usize], spots: &mut [usize])
     requires { (all (stands_at book.now) starts.now ≡ true) × (rule_limit ≤ length spots.old) }
-    ensures { Wrote out.old at (printed (book_lines (map (contents_at book.now) starts.now))) out.new result }
+    ensures { Adds out.old (printed (book_lines (map (contents_at book.now) starts.now))) out.new }
 {
-    let mut to = at;
     for start in starts {
-        to = put_section(out, to, book, *start, spots);
+        put_section(out, book, *start, spots);
     }
-    put(out, to, b"")
 }
 
 // The whole text of a book with sections at the positions.
@@ -313,8 +285,10 @@ fn put_shown(out: &mut [u8], book: &[u8], starts: &[usize]) -> usize
     ensures { Wrote out.old 0 (shown (map (contents_at book.now) starts.now)) out.new result }
 {
     let mut spots = [0usize; RULE_LIMIT];
-    let second = put(out, 0, b"book 1\n");
-    put_sections(out, second, book, starts, &mut spots)
+    let mut text = Output { bytes: out, at: 0 };
+    text.put(b"book 1\n");
+    put_sections(&mut text, book, starts, &mut spots);
+    text.at
 }
 
 // The text into a lent output. It is written onto no byte first, which tells its length.

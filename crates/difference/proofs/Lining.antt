@@ -12,8 +12,9 @@ use Rattle.grade.specs.declared.rule.Kind.{Kind}
 use Rattle.grade.specs.declared.rule.Rule.{Rule}
 use Rattle.ack.specs.Decimal.{decimal}
 use Rattle.ack.specs.Layout.{joined, marked}
-use Rattle.ack.specs.Splice.{Wrote}
-use Rattle.ack.proofs.Writing.{wrote_as, ◌then◌}
+use Rattle.ack.specs.Output.{Adds}
+use Rattle.ack.specs.declared.output.Output.{Output}
+use Rattle.ack.proofs.Adding.{adds_as, ◌next◌}
 use Rattle.booktext.specs.Lines.{line_feed}
 use Rattle.canonical.specs.Shown.{line_bytes, printed, place_word, kind_word}
 use Rattle.canonical.proofs.Printing.{printed_both}
@@ -34,26 +35,26 @@ module _ (key : List ℕ) (mark n : ℕ) (rule : Rule) where
   abbrev pub head_bytes : List ℕ
   head_bytes = joined 32 (rule_line key mark n rule [])
 
-  pub head-written : {o p q r s t u : List ℕ} {at b c d e f g : ℕ}
-      → Wrote o at key p b → Wrote p b (32 ∷ []) q c → Wrote q c (mark ∷ []) r d → Wrote r d (32 ∷ decimal n) s e → Wrote s e (32 ∷ place_word rule.place) t f → Wrote t f (32 ∷ kind_word rule.kind) u g
-      → Wrote o at head_bytes u g
+  pub head-written : {o p q r s t u : Output}
+      → Adds o key p → Adds p (32 ∷ []) q → Adds q (mark ∷ []) r → Adds r (32 ∷ decimal n) s → Adds s (32 ∷ place_word rule.place) t → Adds t (32 ∷ kind_word rule.kind) u
+      → Adds o head_bytes u
   unfolding joined marked rule_line
-  head-written v w x y z k = wrote_as (v then w then x then y then z then k) (rw (append-nil (kind_word rule.kind)))
+  head-written v w x y z k = adds_as (v next w next x next y next z next k) (rw (append-nil (kind_word rule.kind)))
 
   -- how it goes on
   line-whole : (words : List (List ℕ)) → head_bytes ++ (marked 32 words ++ (line_feed ∷ [])) ≡ line_bytes (rule_line key mark n rule words)
   unfolding joined marked rule_line
   line-whole words = simp (append_assoc, append-nil)
 
-  pub line-written : (words : List (List ℕ)) {tail : List ℕ} → tail ≡ marked 32 words ++ (line_feed ∷ []) → {o p q : List ℕ} {at b c : ℕ}
-      → Wrote o at head_bytes p b → Wrote p b tail q c → Wrote o at (line_bytes (rule_line key mark n rule words)) q c
-  line-written words e u v = wrote_as (u then wrote_as v e) (line-whole words)
+  pub line-written : (words : List (List ℕ)) {tail : List ℕ} → tail ≡ marked 32 words ++ (line_feed ∷ []) → {o p q : Output}
+      → Adds o head_bytes p → Adds p tail q → Adds o (line_bytes (rule_line key mark n rule words)) q
+  line-written words e u v = adds_as (u next adds_as v e) (line-whole words)
 
-  pub whole-written : (codes : List (List ℕ)) {o p q r s t : List ℕ} {at b c d e f : ℕ}
-      → Wrote o at head_bytes p b → Wrote p b (32 ∷ severity_letter rule.severity ∷ []) q c → Wrote q c (marked 32 (number_words rule.kind)) r d → Wrote r d (marked 32 (code_words mark codes)) s e → Wrote s e (line_feed ∷ []) t f
-      → Wrote o at (line_bytes (whole_line key mark n rule codes)) t f
+  pub whole-written : (codes : List (List ℕ)) {o p q r s t : Output}
+      → Adds o head_bytes p → Adds p (32 ∷ severity_letter rule.severity ∷ []) q → Adds q (marked 32 (number_words rule.kind)) r → Adds r (marked 32 (code_words mark codes)) s → Adds s (line_feed ∷ []) t
+      → Adds o (line_bytes (whole_line key mark n rule codes)) t
   unfolding marked
-  whole-written codes u v w x y = line-written (severity_word rule ∷ (number_words rule.kind ++ code_words mark codes)) tail-is u (v then w then x then y)
+  whole-written codes u v w x y = line-written (severity_word rule ∷ (number_words rule.kind ++ code_words mark codes)) tail-is u (v next w next x next y)
     where
       tail-is : (32 ∷ severity_letter rule.severity ∷ []) ++ (marked 32 (number_words rule.kind) ++ (marked 32 (code_words mark codes) ++ (line_feed ∷ [])))
           ≡ marked 32 (severity_word rule ∷ (number_words rule.kind ++ code_words mark codes)) ++ (line_feed ∷ [])
@@ -66,9 +67,9 @@ pub unless-skipped : {test : Bool} (line : List (List ℕ)) → test ≡ true �
 unfolding printed
 unless-skipped line e = rw e
 
-pub unless-written : {test : Bool} (line : List (List ℕ)) → test ≡ false → {o p : List ℕ} {at b : ℕ} → Wrote o at (line_bytes line) p b → Wrote o at (printed (unless test line)) p b
+pub unless-written : {test : Bool} (line : List (List ℕ)) → test ≡ false → {o p : Output} → Adds o (line_bytes line) p → Adds o (printed (unless test line)) p
 unfolding printed
-unless-written line e w = wrote_as w (rw e (sym (append-nil (line_bytes line))))
+unless-written line e w = adds_as w (rw e (sym (append-nil (line_bytes line))))
 
 -- ---- what became of a rule
 module _ (key : List ℕ) (n : ℕ) (r s : Rule) where
@@ -76,20 +77,20 @@ module _ (key : List ℕ) (n : ℕ) (r s : Rule) where
     pub severity_same : a ≡ b → [] ≡ printed (severity_lines key n r s)
     severity_same e = unless-skipped _ (eq-eqb (severity_letter r.severity) (severity_letter s.severity) (sym is ∙ e ∙ was))
 
-    pub severity_other : (a ≡ b → ⊥) → {o p q t u v : List ℕ} {at c d e f g : ℕ}
-        → Wrote o at (head_bytes key (code "~") n r) p c → Wrote p c (32 ∷ severity_letter r.severity ∷ []) q d → Wrote q d (bytes " ->") t e → Wrote t e (32 ∷ severity_letter s.severity ∷ []) u f → Wrote u f (line_feed ∷ []) v g
-        → Wrote o at (printed (severity_lines key n r s)) v g
+    pub severity_other : (a ≡ b → ⊥) → {o p q t u v : Output}
+        → Adds o (head_bytes key (code "~") n r) p → Adds p (32 ∷ severity_letter r.severity ∷ []) q → Adds q (bytes " ->") t → Adds t (32 ∷ severity_letter s.severity ∷ []) u → Adds u (line_feed ∷ []) v
+        → Adds o (printed (severity_lines key n r s)) v
     unfolding marked
     severity_other other u v w x y =
         let words = severity_word r ∷ bytes "->" ∷ severity_word s ∷ [] in
         unless-written _ (ne_eqb (severity_letter r.severity) (severity_letter s.severity) (λ e. other (is ∙ e ∙ sym was)))
-        (line-written key (code "~") n r words refl u (v then w then x then y))
+        (line-written key (code "~") n r words refl u (v next w next x next y))
 
-  pub numbers_other : same_numbers r.kind s.kind ≡ false → {o p q t u v : List ℕ} {at c d e f g : ℕ}
-      → Wrote o at (head_bytes key (code "~") n r) p c → Wrote p c (marked 32 (number_words r.kind)) q d → Wrote q d (bytes " ->") t e → Wrote t e (marked 32 (number_words s.kind)) u f → Wrote u f (line_feed ∷ []) v g
-      → Wrote o at (printed (number_lines key n r s)) v g
+  pub numbers_other : same_numbers r.kind s.kind ≡ false → {o p q t u v : Output}
+      → Adds o (head_bytes key (code "~") n r) p → Adds p (marked 32 (number_words r.kind)) q → Adds q (bytes " ->") t → Adds t (marked 32 (number_words s.kind)) u → Adds u (line_feed ∷ []) v
+      → Adds o (printed (number_lines key n r s)) v
   unfolding marked
-  numbers_other other u v w x y = unless-written _ other (line-written key (code "~") n r (number_words r.kind ++ (bytes "->" ∷ number_words s.kind)) tail-is u (v then w then x then y))
+  numbers_other other u v w x y = unless-written _ other (line-written key (code "~") n r (number_words r.kind ++ (bytes "->" ∷ number_words s.kind)) tail-is u (v next w next x next y))
     where
       tail-is : marked 32 (number_words r.kind) ++ (bytes " ->" ++ (marked 32 (number_words s.kind) ++ (line_feed ∷ []))) ≡ marked 32 (number_words r.kind ++ (bytes "->" ∷ number_words s.kind)) ++ (line_feed ∷ [])
       tail-is =
@@ -101,39 +102,39 @@ module _ (key : List ℕ) (n : ℕ) (r : Rule) where
     pub codes_same : (kept && known) ≡ true → [] ≡ printed (code_lines key n r codes others)
     codes_same t = unless-skipped _ (sym (ap₂ ◌&&◌ e f) ∙ t)
 
-    pub codes_other : (kept && known) ≡ false → {o p q s u : List ℕ} {at c d g h : ℕ}
-        → Wrote o at (head_bytes key (code "~") n r) p c → Wrote p c (marked 32 (code_words (code "-") (gone codes others))) q d → Wrote q d (marked 32 (code_words (code "+") (gone others codes))) s g → Wrote s g (line_feed ∷ []) u h
-        → Wrote o at (printed (code_lines key n r codes others)) u h
+    pub codes_other : (kept && known) ≡ false → {o p q s u : Output}
+        → Adds o (head_bytes key (code "~") n r) p → Adds p (marked 32 (code_words (code "-") (gone codes others))) q → Adds q (marked 32 (code_words (code "+") (gone others codes))) s → Adds s (line_feed ∷ []) u
+        → Adds o (printed (code_lines key n r codes others)) u
     codes_other t u v w x =
         let less = code_words (code "-") (gone codes others) in
         let more = code_words (code "+") (gone others codes) in
         unless-written _ (sym (ap₂ ◌&&◌ e f) ∙ t)
-        (line-written key (code "~") n r (less ++ more) (sym (append_assoc (marked 32 less) (marked 32 more) (line_feed ∷ [])) ∙ ap (λ (l : List ℕ). l ++ (line_feed ∷ [])) (sym (marked_both less more))) u (v then w then x))
+        (line-written key (code "~") n r (less ++ more) (sym (append_assoc (marked 32 less) (marked 32 more) (line_feed ∷ [])) ∙ ap (λ (l : List ℕ). l ++ (line_feed ∷ [])) (sym (marked_both less more))) u (v next w next x))
 
   module _ (m : ℕ) where
     pub moved-not : n ≡ m → [] ≡ printed (moved_lines key n m r)
     moved-not e = unless-skipped _ (eq-eqb n m e)
 
-    pub moved-written : (n ≡ m → ⊥) → {o p q s t u v w x : List ℕ} {at b c d e f g h i : ℕ}
-        → Wrote o at key p b → Wrote p b (bytes " #") q c → Wrote q c (32 ∷ decimal n) s d → Wrote s d (bytes " ->") t e → Wrote t e (32 ∷ decimal m) u f → Wrote u f (32 ∷ place_word r.place) v g → Wrote v g (32 ∷ kind_word r.kind) w h → Wrote w h (line_feed ∷ []) x i
-        → Wrote o at (printed (moved_lines key n m r)) x i
+    pub moved-written : (n ≡ m → ⊥) → {o p q s t u v w x : Output}
+        → Adds o key p → Adds p (bytes " #") q → Adds q (32 ∷ decimal n) s → Adds s (bytes " ->") t → Adds t (32 ∷ decimal m) u → Adds u (32 ∷ place_word r.place) v → Adds v (32 ∷ kind_word r.kind) w → Adds w (line_feed ∷ []) x
+        → Adds o (printed (moved_lines key n m r)) x
     unfolding joined marked
-    moved-written other a b c d e f g h = unless-written _ (ne_eqb n m other) (wrote_as (a then b then c then d then e then f then g then h) (simp (append_assoc, append-nil)))
+    moved-written other a b c d e f g h = unless-written _ (ne_eqb n m other) (adds_as (a next b next c next d next e next f next g next h) (simp (append_assoc, append-nil)))
 
-    pub changes-written : (s : Rule) (codes others : List (List ℕ)) {o p q t u : List ℕ} {at b c d e : ℕ}
-        → Wrote o at (printed (severity_lines key n r s)) p b → Wrote p b (printed (number_lines key n r s)) q c → Wrote q c (printed (code_lines key n r codes others)) t d → Wrote t d (printed (moved_lines key n m r)) u e
-        → Wrote o at (printed (changes key n m r s codes others)) u e
+    pub changes-written : (s : Rule) (codes others : List (List ℕ)) {o p q t u : Output}
+        → Adds o (printed (severity_lines key n r s)) p → Adds p (printed (number_lines key n r s)) q → Adds q (printed (code_lines key n r codes others)) t → Adds t (printed (moved_lines key n m r)) u
+        → Adds o (printed (changes key n m r s codes others)) u
     unfolding changes
     changes-written s codes others w x y z =
         let a = severity_lines key n r s in
         let b = number_lines key n r s in
         let c = code_lines key n r codes others in
         let d = moved_lines key n m r in
-        wrote_as (w then x then y then z)
+        adds_as (w next x next y next z)
         (sym (printed_both a (b ++ (c ++ d)) ∙ ap (λ (l : List ℕ). printed a ++ l) (printed_both b (c ++ d) ∙ ap (λ (l : List ℕ). printed b ++ l) (printed_both c d))))
 
 -- ---- a section that one book has
-pub lone_written : (mark : ℕ) (key : List ℕ) {o p q r s : List ℕ} {at b c d e : ℕ} → Wrote o at (mark ∷ []) p b → Wrote p b (bytes " section ") q c → Wrote q c key r d → Wrote r d (line_feed ∷ []) s e
-    → Wrote o at (line_bytes ((mark ∷ []) ∷ bytes "section" ∷ key ∷ [])) s e
+pub lone_written : (mark : ℕ) (key : List ℕ) {o p q r s : Output} → Adds o (mark ∷ []) p → Adds p (bytes " section ") q → Adds q key r → Adds r (line_feed ∷ []) s
+    → Adds o (line_bytes ((mark ∷ []) ∷ bytes "section" ∷ key ∷ [])) s
 unfolding joined marked
-lone_written mark key u v w x = wrote_as (u then v then w then x) (simp (append_assoc, append-nil))
+lone_written mark key u v w x = adds_as (u next v next w next x) (simp append-nil)

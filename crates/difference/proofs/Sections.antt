@@ -17,8 +17,9 @@ use Rattle.grade.specs.Strict.{count_from}
 use Rattle.grade.specs.declared.walk.Section.{Section}
 use Rattle.grade.proofs.Holding.{rules-length}
 use Rattle.grade.proofs.Parts.{stands-key, keys_texts}
-use Rattle.ack.specs.Splice.{Wrote}
-use Rattle.ack.proofs.Writing.{wrote_as, ◌then◌}
+use Rattle.ack.specs.Output.{Adds}
+use Rattle.ack.specs.declared.output.Output.{Output}
+use Rattle.ack.proofs.Adding.{adds_as, ◌next◌}
 use Rattle.canonical.specs.Shown.{line_bytes, printed, rule_spot}
 use Rattle.canonical.proofs.Printing.{printed_both}
 use Rattle.canonical.proofs.PutBook.{itself}
@@ -70,15 +71,15 @@ module _ (key old : List ℕ) (a : Section) (new : List ℕ) (b : Section) (i : 
     by_number = ap (old_by c d i) (e ∙ ap₂ (λ (x y : List ℕ). counterpart x y i) mine theirs)
 
     module _ {r : Ruled} (is : Rules old (rules_in old a) (sets_in old a) i r) where
-      pub old_gone : m ≡ 0 → {o p : List ℕ} {at to : ℕ} → Wrote o at (line_bytes (whole_line key (code "-") (i + 1) r.rule (codes_in old r))) p to → Wrote o at (printed (old_lines c d i)) p to
-      old_gone none w = wrote_as w (sym whole ∙ ap printed by_number)
+      pub old_gone : m ≡ 0 → {o p : Output} → Adds o (line_bytes (whole_line key (code "-") (i + 1) r.rule (codes_in old r))) p → Adds o (printed (old_lines c d i)) p
+      old_gone none w = adds_as w (sym whole ∙ ap printed by_number)
         where
           whole : printed (old_by c d i m) ≡ line_bytes (whole_line key (code "-") (i + 1) r.rule (codes_in old r))
           whole = rw (eq-eqb m 0 none, is.is, is.codes, add-one i) (sym (one_printed _))
 
-      pub old_changed : (m ≡ 0 → ⊥) → {s : Ruled} → Rules new (rules_in new b) (sets_in new b) (m - 1) s → {o p : List ℕ} {at to : ℕ}
-          → Wrote o at (printed (changes key (i + 1) m r.rule s.rule (codes_in old r) (codes_in new s))) p to → Wrote o at (printed (old_lines c d i)) p to
-      old_changed some {s} its w = wrote_as w (sym changed ∙ ap printed by_number)
+      pub old_changed : (m ≡ 0 → ⊥) → {s : Ruled} → Rules new (rules_in new b) (sets_in new b) (m - 1) s → {o p : Output}
+          → Adds o (printed (changes key (i + 1) m r.rule s.rule (codes_in old r) (codes_in new s))) p → Adds o (printed (old_lines c d i)) p
+      old_changed some {s} its w = adds_as w (sym changed ∙ ap printed by_number)
         where
           changed : printed (old_by c d i m) ≡ printed (changes key (i + 1) m r.rule s.rule (codes_in old r) (codes_in new s))
           changed = rw (ne_eqb m 0 some, is.is, is.codes, its.is, its.codes, add-one i)
@@ -92,23 +93,23 @@ module _ (key own new : List ℕ) (b : Section) (i : ℕ) {others : List ℕ} (t
   unfolding new_lines
   new_known some = unless-skipped _ (ap not (ne_eqb _ 0 (λ z. some (number_of ∙ z))))
 
-  pub new_come : m ≡ 0 → {r : Ruled} → Rules new (rules_in new b) (sets_in new b) i r → {o p : List ℕ} {at to : ℕ}
-      → Wrote o at (line_bytes (whole_line key (code "+") (i + 1) r.rule (codes_in new r))) p to → Wrote o at (printed (new_lines key own (held_by key new b) i)) p to
+  pub new_come : m ≡ 0 → {r : Ruled} → Rules new (rules_in new b) (sets_in new b) i r → {o p : Output}
+      → Adds o (line_bytes (whole_line key (code "+") (i + 1) r.rule (codes_in new r))) p → Adds o (printed (new_lines key own (held_by key new b) i)) p
   unfolding new_lines
-  new_come none {r} is w = unless-written _ (ap not (eq-eqb _ 0 (sym number_of ∙ none))) (wrote_as w (rw (is.is, is.codes, add-one i)))
+  new_come none {r} is w = unless-written _ (ap not (eq-eqb _ 0 (sym number_of ∙ none))) (adds_as w (rw (is.is, is.codes, add-one i)))
 
 -- ---- both sections
-pub both_written : (key old : List ℕ) (a : Section) (new : List ℕ) (b : Section) → Holds old a → Holds new b → {own : List ℕ} → own ≡ spots (rules_in old a) → {o p q : List ℕ} {at to end : ℕ}
-    → Wrote o at (printed (flat_map (old_lines (held_by key old a) (held_by key new b)) (count_from 0 a.rule_count))) p to
-    → Wrote p to (printed (flat_map (new_lines key own (held_by key new b)) (count_from 0 b.rule_count))) q end
-    → Wrote o at (printed (section_lines (held_by key old a) (held_by key new b))) q end
+pub both_written : (key old : List ℕ) (a : Section) (new : List ℕ) (b : Section) → Holds old a → Holds new b → {own : List ℕ} → own ≡ spots (rules_in old a) → {o p q : Output}
+    → Adds o (printed (flat_map (old_lines (held_by key old a) (held_by key new b)) (count_from 0 a.rule_count))) p
+    → Adds p (printed (flat_map (new_lines key own (held_by key new b)) (count_from 0 b.rule_count))) q
+    → Adds o (printed (section_lines (held_by key old a) (held_by key new b))) q
 unfolding section_lines
 both_written key old a new b h k {own} mine u v =
     let c = held_by key old a in
     let d = held_by key new b in
     let olds = ap (λ (n : ℕ). flat_map (old_lines c d) (count_from 0 n)) (sym (rules-length old a h)) in
     let news = ap₂ (λ (x : List ℕ) (n : ℕ). flat_map (new_lines key x d) (count_from 0 n)) mine (sym (rules-length new b k)) in
-    wrote_as (u then v) (ap₂ (λ (x y : Lines). printed x ++ printed y) olds news ∙ sym (printed_both _ _))
+    adds_as (u next v) (ap₂ (λ (x y : Lines). printed x ++ printed y) olds news ∙ sym (printed_both _ _))
 
 -- ---- a key among those of sections
 module _ (f : ℕ → List ℕ) (l : List ℕ) (i : ℕ) (key : List ℕ) where
@@ -195,23 +196,23 @@ module _ (old : List ℕ) (start : ℕ) (stands : stands_at old start ≡ true) 
   key-is : key ≡ olden.key
   key-is = named ∙ sym (stands-key old start stands).1
 
-  pub section_both : i < length news → {a b : Section} → a ≡ site_at old start → b ≡ site_at new (get_or news i 0) → stands_at new (get_or news i 0) ≡ true → {o p : List ℕ} {at to : ℕ}
-      → Wrote o at (printed (section_lines (held_by key old a) (held_by key new b))) p to → Wrote o at (printed (old_section others olden)) p to
+  pub section_both : i < length news → {a b : Section} → a ≡ site_at old start → b ≡ site_at new (get_or news i 0) → stands_at new (get_or news i 0) ≡ true → {o p : Output}
+      → Adds o (printed (section_lines (held_by key old a) (held_by key new b))) p → Adds o (printed (old_section others olden)) p
   unfolding old_section
   section_both h {a} {b} is was there w =
       let first = found-under new key news all-stand (omega (arith, e)) in
       let at = get_or news i 0 in
       let here : under key others ≡ contents_at new at ∷ first.0 = first.1 ∙ ap (λ (n : ℕ). contents_at new (get_or news n 0) ∷ first.0) (sym e) in
       let alike : key ≡ text_at new at = first.2 ∙ ap (λ (n : ℕ). text_at new (get_or news n 0)) (sym e) in
-      wrote_as w
+      adds_as w
       (ap₂ (λ (x y : Contents). printed (section_lines x y)) (section-held old start stands is named) (section-held new at there was alike)
       ∙ sym (ap (λ (k : List ℕ). printed (against_first olden (under k others))) (sym key-is) ∙ ap (λ (l : List Contents). printed (against_first olden l)) here))
 
-  pub section_lone : length news ≤ i → {o p : List ℕ} {at to : ℕ} → Wrote o at (line_bytes ((code "-" ∷ []) ∷ bytes "section" ∷ key ∷ [])) p to → Wrote o at (printed (old_section others olden)) p to
+  pub section_lone : length news ≤ i → {o p : Output} → Adds o (line_bytes ((code "-" ∷ []) ∷ bytes "section" ∷ key ∷ [])) p → Adds o (printed (old_section others olden)) p
   unfolding old_section
   section_lone h w =
       let none = none-under new key news all-stand (omega (arith, e)) in
-      wrote_as w
+      adds_as w
       (ap (λ (k : List ℕ). line_bytes ((code "-" ∷ []) ∷ bytes "section" ∷ k ∷ [])) key-is
       ∙ one_printed (lone_line (code "-") olden)
       ∙ sym (ap (λ (k : List ℕ). printed (against_first olden (under k others))) (sym key-is) ∙ ap (λ (l : List Contents). printed (against_first olden l)) none))
@@ -233,11 +234,11 @@ module _ (old olds : List ℕ) (all-stand : all (stands_at old) olds ≡ true) (
   unfolding new_section
   section-known h = unless-skipped _ (among-is (texts_among old key (map (text_at old) olds) (omega (arith, e, texts_many))))
 
-  pub section_come : length olds ≤ i → {o p : List ℕ} {at to : ℕ} → Wrote o at (line_bytes ((code "+" ∷ []) ∷ bytes "section" ∷ key ∷ [])) p to → Wrote o at (printed (new_section before newer)) p to
+  pub section_come : length olds ≤ i → {o p : Output} → Adds o (line_bytes ((code "+" ∷ []) ∷ bytes "section" ∷ key ∷ [])) p → Adds o (printed (new_section before newer)) p
   unfolding new_section
   section_come h w =
       unless-written _ (among-is (texts_without old key (map (text_at old) olds) (omega (arith, e, texts_many))))
-      (wrote_as w (ap (λ (k : List ℕ). line_bytes ((code "+" ∷ []) ∷ bytes "section" ∷ k ∷ [])) (named ∙ sym (stands-key new start stands).1)))
+      (adds_as w (ap (λ (k : List ℕ). line_bytes ((code "+" ∷ []) ∷ bytes "section" ∷ k ∷ [])) (named ∙ sym (stands-key new start stands).1)))
 
 -- ---- sections, one after the other
 module _ (f : Contents → Lines) (b starts : List ℕ) where
@@ -255,7 +256,7 @@ module _ (f : Contents → Lines) (b starts : List ℕ) where
   unfolding flat_map printed
   sections-over i h = ap (λ (cs : List Contents). printed (flat_map f cs)) (from_done (contents_at b) starts i h)
 
-pub books_written : (olds news : List Contents) {o p q : List ℕ} {at to end : ℕ} → Wrote o at (printed (flat_map (old_section news) olds)) p to → Wrote p to (printed (flat_map (new_section olds) news)) q end
-    → Wrote o at (printed (differences olds news)) q end
+pub books_written : (olds news : List Contents) {o p q : Output} → Adds o (printed (flat_map (old_section news) olds)) p → Adds p (printed (flat_map (new_section olds) news)) q
+    → Adds o (printed (differences olds news)) q
 unfolding differences
-books_written olds news u v = wrote_as (u then v) (sym (printed_both (flat_map (old_section news) olds) (flat_map (new_section olds) news)))
+books_written olds news u v = adds_as (u next v) (sym (printed_both (flat_map (old_section news) olds) (flat_map (new_section olds) news)))

@@ -5,12 +5,13 @@ ghost use Rattle.hl7.specs.Text.{bytes};
 ghost use Rattle.hl7.specs.Bytes.{all};
 ghost use Rattle.grade.specs.Standing.{text_at, stands_at, contents_at};
 ghost use Rattle.ack.specs.Splice.{Wrote};
+ghost use Rattle.ack.specs.Output.{Adds};
 ghost use Rattle.canonical.specs.Shown.{line_bytes, printed};
 ghost use Rattle.difference.specs.Difference.{old_section, new_section, differences, diff_of};
 ghost use Rattle.difference.specs.Ruled.{key_place, Opened};
 
 use crate::section::put_both;
-use ack::output::{put, put_byte};
+use ack::output::Output;
 use booktext::told::{Told, tell};
 use grade::book::{Indexed, index_book, site_at};
 use grade::limits::SECTION_LIMIT;
@@ -33,90 +34,59 @@ fn find_key(book: &[u8], starts: &[usize], key: &[u8]) -> usize
 }
 
 // A section that one book has.
-fn put_lone(out: &mut [u8], at: usize, mark: u8, key: &[u8]) -> usize
-    ensures { Wrote out.old at (line_bytes ((mark ∷ []) ∷ bytes "section" ∷ key.now ∷ [])) out.new result }
+fn put_lone(out: &mut Output<'_>, mark: u8, key: &[u8])
+    ensures { Adds out.old (line_bytes ((mark ∷ []) ∷ bytes "section" ∷ key.now ∷ [])) out.new }
 {
-    let second = put_byte(out, at, mark);
-    let third = put(out, second, b" section ");
-    let fourth = put(out, third, key);
-    put_byte(out, fourth, LINE_FEED)
+    out.put_byte(mark);
+    out.put(b" section ");
+    out.put(key);
+    out.put_byte(LINE_FEED);
 }
 
 // What became of the old book's section at a position.
-fn put_old_section(
-    out: &mut [u8],
-    at: usize,
-    old: &[u8],
-    start: usize,
-    new: &[u8],
-    news: &[usize],
-) -> usize
+fn put_old_section(out: &mut Output<'_>, old: &[u8], start: usize, new: &[u8], news: &[usize])
     requires { (stands_at old.now start ≡ true) × (all (stands_at new.now) news.now ≡ true) }
-    ensures { Wrote out.old at (printed (old_section (map (contents_at new.now) news.now) (contents_at old.now start))) out.new result }
+    ensures { Adds out.old (printed (old_section (map (contents_at new.now) news.now) (contents_at old.now start))) out.new }
 {
     let key = text_part(old, start);
     let i = find_key(new, news, key);
     if i < news.len() {
         let a = site_at(old, start);
         let b = site_at(new, news[i]);
-        return put_both(out, at, key, old, a, new, b);
+        put_both(out, key, old, a, new, b);
+    } else {
+        put_lone(out, b'-', key);
     }
-    put_lone(out, at, b'-', key)
 }
 
-fn put_old_sections(
-    out: &mut [u8],
-    at: usize,
-    old: &[u8],
-    olds: &[usize],
-    new: &[u8],
-    news: &[usize],
-) -> usize
+fn put_old_sections(out: &mut Output<'_>, old: &[u8], olds: &[usize], new: &[u8], news: &[usize])
     requires { (all (stands_at old.now) olds.now ≡ true) × (all (stands_at new.now) news.now ≡ true) }
-    ensures { Wrote out.old at (printed (flat_map (old_section (map (contents_at new.now) news.now)) (map (contents_at old.now) olds.now))) out.new result }
+    ensures { Adds out.old (printed (flat_map (old_section (map (contents_at new.now) news.now)) (map (contents_at old.now) olds.now))) out.new }
 {
-    let mut to = at;
     for start in olds {
-        to = put_old_section(out, to, old, *start, new, news);
+        put_old_section(out, old, *start, new, news);
     }
-    put(out, to, b"")
 }
 
 // The new book's section at a position, unless the old one has its key.
-fn put_new_section(
-    out: &mut [u8],
-    at: usize,
-    old: &[u8],
-    olds: &[usize],
-    new: &[u8],
-    start: usize,
-) -> usize
+fn put_new_section(out: &mut Output<'_>, old: &[u8], olds: &[usize], new: &[u8], start: usize)
     requires { (all (stands_at old.now) olds.now ≡ true) × (stands_at new.now start ≡ true) }
-    ensures { Wrote out.old at (printed (new_section (map (contents_at old.now) olds.now) (contents_at new.now start))) out.new result }
+    ensures { Adds out.old (printed (new_section (map (contents_at old.now) olds.now) (contents_at new.now start))) out.new }
 {
     let key = text_part(new, start);
     if find_key(old, olds, key) < olds.len() {
-        return put(out, at, b"");
+        return;
     }
-    put_lone(out, at, b'+', key)
+    put_lone(out, b'+', key);
 }
 
-fn put_new_sections(
-    out: &mut [u8],
-    at: usize,
-    old: &[u8],
-    olds: &[usize],
-    new: &[u8],
-    news: &[usize],
-) -> usize
+fn put_new_sections(out: &mut Output<'_>, old: &[u8], olds: &[usize], new: &[u8], news: &[usize])
     requires { (all (stands_at old.now) olds.now ≡ true) × (all (stands_at new.now) news.now ≡ true) }
-    ensures { Wrote out.old at (printed (flat_map (new_section (map (contents_at old.now) olds.now)) (map (contents_at new.now) news.now))) out.new result }
+    ensures { Adds out.old (printed (flat_map (new_section (map (contents_at old.now) olds.now)) (map (contents_at new.now) news.now))) out.new }
 {
-    let mut to = at;
     for start in news {
-        to = put_new_section(out, to, old, olds, new, *start);
+        put_new_section(out, old, olds, new, *start);
     }
-    put(out, to, b"")
 }
 
 // All lines, of books with sections at the positions.
@@ -124,8 +94,10 @@ fn put_differences(out: &mut [u8], old: &[u8], olds: &[usize], new: &[u8], news:
     requires { (all (stands_at old.now) olds.now ≡ true) × (all (stands_at new.now) news.now ≡ true) }
     ensures { Wrote out.old 0 (printed (differences (map (contents_at old.now) olds.now) (map (contents_at new.now) news.now))) out.new result }
 {
-    let second = put_old_sections(out, 0, old, olds, new, news);
-    put_new_sections(out, second, old, olds, new, news)
+    let mut text = Output { bytes: out, at: 0 };
+    put_old_sections(&mut text, old, olds, new, news);
+    put_new_sections(&mut text, old, olds, new, news);
+    text.at
 }
 
 // They are written onto no byte of the lent output first, which tells their length.

@@ -3,7 +3,7 @@ ghost use mathlib.Core.List.{flat_map};
 ghost use Rattle.std.specs.Prelude.{◌<◌};
 ghost use Rattle.grade.specs.Standing.{Holds};
 ghost use Rattle.grade.specs.Strict.{count_from};
-ghost use Rattle.ack.specs.Splice.{Wrote};
+ghost use Rattle.ack.specs.Output.{Adds};
 ghost use Rattle.canonical.specs.Shown.{printed};
 ghost use Rattle.difference.specs.Difference.{old_lines, new_lines, section_lines};
 ghost use Rattle.difference.specs.Ruled.{held_by, Side};
@@ -11,15 +11,14 @@ ghost use Rattle.difference.specs.Ruled.{held_by, Side};
 use crate::counterpart::{counterpart_of, spots_of};
 use crate::line::{put_changes, put_rule};
 use crate::ruled::ruled_at;
-use ack::output::put;
+use ack::output::Output;
 use grade::limits::SET_PLACES;
 use grade::lookup::sets_of;
 use grade::walk::Section;
 
 // What became of the old section's rule with a number from 0.
 fn put_old_rule(
-    out: &mut [u8],
-    at: usize,
+    out: &mut Output<'_>,
     key: &[u8],
     old: &[u8],
     a: Section,
@@ -30,22 +29,22 @@ fn put_old_rule(
     places: &[usize; SET_PLACES],
     others: &[usize],
     i: usize,
-) -> usize
+)
     requires { Side old.now a sets.now own.now × Side new.now b places.now others.now × (i < a.rule_count) }
-    ensures { Wrote out.old at (printed (old_lines (held_by key.now old.now a) (held_by key.now new.now b) i)) out.new result }
+    ensures { Adds out.old (printed (old_lines (held_by key.now old.now a) (held_by key.now new.now b) i)) out.new }
 {
     let ruled = ruled_at(old, a, sets, i);
     let m = counterpart_of(own, others, i);
     if m == 0 {
-        return put_rule(out, at, key, b'-', i + 1, old, ruled);
+        put_rule(out, key, b'-', i + 1, old, ruled);
+    } else {
+        let second = ruled_at(new, b, places, m - 1);
+        put_changes(out, key, i + 1, m, old, ruled, new, second);
     }
-    let second = ruled_at(new, b, places, m - 1);
-    put_changes(out, at, key, i + 1, m, old, ruled, new, second)
 }
 
 fn put_old_rules(
-    out: &mut [u8],
-    at: usize,
+    out: &mut Output<'_>,
     key: &[u8],
     old: &[u8],
     a: Section,
@@ -55,21 +54,18 @@ fn put_old_rules(
     b: Section,
     places: &[usize; SET_PLACES],
     others: &[usize],
-) -> usize
+)
     requires { Side old.now a sets.now own.now × Side new.now b places.now others.now }
-    ensures { Wrote out.old at (printed (flat_map (old_lines (held_by key.now old.now a) (held_by key.now new.now b)) (count_from 0 a.rule_count))) out.new result }
+    ensures { Adds out.old (printed (flat_map (old_lines (held_by key.now old.now a) (held_by key.now new.now b)) (count_from 0 a.rule_count))) out.new }
 {
-    let mut to = at;
     for i in 0..a.rule_count {
-        to = put_old_rule(out, to, key, old, a, sets, own, new, b, places, others, i);
+        put_old_rule(out, key, old, a, sets, own, new, b, places, others, i);
     }
-    put(out, to, b"")
 }
 
 // The new section's rule with a number from 0, unless it is a counterpart.
 fn put_new_rule(
-    out: &mut [u8],
-    at: usize,
+    out: &mut Output<'_>,
     key: &[u8],
     own: &[usize],
     new: &[u8],
@@ -77,49 +73,45 @@ fn put_new_rule(
     places: &[usize; SET_PLACES],
     others: &[usize],
     i: usize,
-) -> usize
+)
     requires { Side new.now b places.now others.now × (i < b.rule_count) }
-    ensures { Wrote out.old at (printed (new_lines key.now own.now (held_by key.now new.now b) i)) out.new result }
+    ensures { Adds out.old (printed (new_lines key.now own.now (held_by key.now new.now b) i)) out.new }
 {
     if counterpart_of(others, own, i) != 0 {
-        return put(out, at, b"");
+        return;
     }
     let ruled = ruled_at(new, b, places, i);
-    put_rule(out, at, key, b'+', i + 1, new, ruled)
+    put_rule(out, key, b'+', i + 1, new, ruled);
 }
 
 fn put_new_rules(
-    out: &mut [u8],
-    at: usize,
+    out: &mut Output<'_>,
     key: &[u8],
     own: &[usize],
     new: &[u8],
     b: Section,
     places: &[usize; SET_PLACES],
     others: &[usize],
-) -> usize
+)
     requires { Side new.now b places.now others.now }
-    ensures { Wrote out.old at (printed (flat_map (new_lines key.now own.now (held_by key.now new.now b)) (count_from 0 b.rule_count))) out.new result }
+    ensures { Adds out.old (printed (flat_map (new_lines key.now own.now (held_by key.now new.now b)) (count_from 0 b.rule_count))) out.new }
 {
-    let mut to = at;
     for i in 0..b.rule_count {
-        to = put_new_rule(out, to, key, own, new, b, places, others, i);
+        put_new_rule(out, key, own, new, b, places, others, i);
     }
-    put(out, to, b"")
 }
 
 // The rules of both, under their key.
 pub(crate) fn put_both(
-    out: &mut [u8],
-    at: usize,
+    out: &mut Output<'_>,
     key: &[u8],
     old: &[u8],
     a: Section,
     new: &[u8],
     b: Section,
-) -> usize
+)
     requires { Holds old.now a × Holds new.now b }
-    ensures { Wrote out.old at (printed (section_lines (held_by key.now old.now a) (held_by key.now new.now b))) out.new result }
+    ensures { Adds out.old (printed (section_lines (held_by key.now old.now a) (held_by key.now new.now b))) out.new }
 {
     let n = a.rule_count;
     let m = b.rule_count;
@@ -127,9 +119,8 @@ pub(crate) fn put_both(
     let own = spots_of(old, a);
     let places = sets_of(new, b);
     let others = spots_of(new, b);
-    let to = put_old_rules(
+    put_old_rules(
         out,
-        at,
         key,
         old,
         a,
@@ -140,5 +131,5 @@ pub(crate) fn put_both(
         &places,
         &others[..m],
     );
-    put_new_rules(out, to, key, &own[..n], new, b, &places, &others[..m])
+    put_new_rules(out, key, &own[..n], new, b, &places, &others[..m]);
 }

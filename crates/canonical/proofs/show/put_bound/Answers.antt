@@ -4,7 +4,7 @@ use Rattle.canonical.proofs.PutRules.{one_written, none_written}
 use Rattle.canonical.proofs.show.put_bound.Goals as goal
 
 pub returns-in-Required : goal.returns-in-Required
-returns-in-Required c = ⊎_elim (λ e. rw e (none_written c.put.ensures)) (⊎_elim (λ e. rw e (none_written c.put.ensures)) (λ e. rw e (none_written c.put.ensures))) c.in-Required.is
+returns-in-Required c = ⊎_elim (λ e. rw e (none_written _)) (⊎_elim (λ e. rw e (none_written _)) (λ e. rw e (none_written _))) c.in-Required.is
 
 pub returns-in-Length : goal.returns-in-Length
 returns-in-Length c = rw c.in-Length.is c.put_range.ensures

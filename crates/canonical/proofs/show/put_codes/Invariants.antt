@@ -5,9 +5,9 @@ use Prim.Native.Nat.{◌-◌}
 use Rattle.grade.specs.Book.{text}
 use Rattle.grade.specs.Limits.{code_limit}
 use Rattle.grade.specs.Reader.{is_found, times}
-use Rattle.booktext.proofs.Completing.{Completes}
+use Rattle.ack.proofs.Adding.{Adding}
 use Rattle.canonical.proofs.PutSets.{codes_from}
 use Rattle.canonical.proofs.show.put_codes.Given as goal
 
 abbrev pub invariant-loop-i : goal.invariant-loop-i
-invariant-loop-i l = (is_found (times (l.count - l._i) (text code_limit) l.book l.from) ≡ true) × Completes (codes_from l.book l.count l.start) (codes_from l.book (l.count - l._i) l.from) l.initial.out l.at l.out l.to
+invariant-loop-i l = (is_found (times (l.count - l._i) (text code_limit) l.book l.from) ≡ true) × Adding (codes_from l.book l.count l.start) (codes_from l.book (l.count - l._i) l.from) l.initial.out l.out

@@ -3,7 +3,7 @@ use mathlib.Core.Path.{sym}
 use native.Mathlib.Omega.{arith}
 use lib.Seq.{length-take-le}
 use Rattle.grade.specs.Standing.{rules_in}
-use Rattle.ack.proofs.Writing.{wrote_as}
+use Rattle.ack.proofs.Adding.{adds_as}
 use Rattle.canonical.proofs.PutRules.{line-noted, spot-noted}
 use Rattle.canonical.proofs.show.put_noted.Goals as goal
 
@@ -17,4 +17,4 @@ pub returns : goal.returns
 returns c =
     let rules = rules_in c.args.book.now c.args.section in
     let line = line-noted rules c.args.i c.args.spots.now c.args.key.now c.rule_at-rule.ensures c.spot_of-spot.ensures c.is_in-again.ensures in
-    (wrote_as c.put_rule.ensures line, spot-noted rules c.args.i c.args.spots.now c.rule_at-rule.ensures c.spot_of-spot.ensures)
+    (adds_as c.put_rule.ensures line, spot-noted rules c.args.i c.args.spots.now c.rule_at-rule.ensures c.spot_of-spot.ensures)

@@ -3,4 +3,4 @@ use Rattle.canonical.proofs.PutRules.{range_written}
 use Rattle.canonical.proofs.show.put_range.Goals as goal
 
 pub returns : goal.returns
-returns c = range_written c.args.low c.args.high c.put_number-second.ensures c.put_number.ensures
+returns c = range_written c.args.low c.args.high c.put_number.ensures c.put_number-2.ensures

@@ -5,4 +5,4 @@ use Rattle.canonical.proofs.show.put_rule.Goals as goal
 pub returns : goal.returns
 returns c =
     rule-written c.args.key.now c.args.again c.args.rule
-    c.put_verb-second.ensures c.put_place-third.ensures c.put_kind-fourth.ensures c.put_severity-fifth.ensures c.put_bound-sixth.ensures c.put_byte.ensures
+    c.put_verb.ensures c.put_place.ensures c.put_kind.ensures c.put_severity.ensures c.put_bound.ensures c.put_byte.ensures

@@ -4,7 +4,6 @@ use native.Mathlib.Omega.{arith}
 use Rattle.hl7.specs.Text.{bytes}
 use Rattle.grade.specs.Reader.{is_found}
 use Rattle.grade.proofs.Parts.{set_is}
-use Rattle.ack.proofs.Writing.{wrote-length}
 use Rattle.canonical.proofs.PutSets.{two_written, set-written}
 use Rattle.canonical.proofs.show.put_set.Goals as goal
 
@@ -20,8 +19,5 @@ put_codes-requires c = sym (ap is_found ((set_is c.args.book.now c.args.start c.
 pub returns : goal.returns
 returns c =
     set-written c.args.book.now c.args.start c.requires c.pair_at.ensures _
-    (two_written (bytes "set") refl c.put-second.ensures c.put_set_name-third.ensures c.put_byte-fourth.ensures)
+    (two_written (bytes "set") refl c.put.ensures c.put_set_name.ensures c.put_byte.ensures)
     c.put_codes.ensures
-
-pub shape_of-out : goal.shape_of-out
-shape_of-out c = wrote-length (returns c)

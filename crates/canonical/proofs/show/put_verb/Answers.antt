@@ -4,5 +4,5 @@ use Rattle.canonical.proofs.show.put_verb.Goals as goal
 pub returns-then-again : goal.returns-then-again
 returns-then-again c = rw c.if-again.true c.put.ensures
 
-pub returns : goal.returns
-returns c = rw c.if-again.false c.put-2.ensures
+pub returns-else-again : goal.returns-else-again
+returns-else-again c = rw c.if-again.false c.put-else-again.ensures

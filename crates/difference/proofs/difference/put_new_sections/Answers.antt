@@ -3,27 +3,23 @@ use mathlib.Core.List.{map}
 use native.Mathlib.Omega.{arith}
 use Rattle.hl7.proofs.Comparing.{all-at}
 use Rattle.grade.specs.Standing.{stands_at, contents_at}
-use Rattle.ack.proofs.Writing.{wrote-length}
-use Rattle.booktext.proofs.Completing.{completes_more, completes_over}
+use Rattle.ack.proofs.Adding.{adding_more, adding_over}
 use Rattle.difference.specs.Difference.{new_section}
 use Rattle.difference.proofs.Sections.{sections_more, sections-over}
 use Rattle.difference.proofs.difference.put_new_sections.Goals as goal
 
 pub loop-start-init : goal.loop-start-init
-loop-start-init c = λ after r w. w
+loop-start-init c = λ after w. w
 
-pub put_new_section-to-requires : goal.put_new_section-to-requires
-put_new_section-to-requires c = (c.requires.0, all-at (stands_at c.args.new.now) c.args.news.now c.loop-start.start-index c.requires.1 (omega arith))
+pub put_new_section-requires : goal.put_new_section-requires
+put_new_section-requires c = (c.requires.0, all-at (stands_at c.args.new.now) c.args.news.now c.loop-start.start-index c.requires.1 (omega arith))
 
 pub loop-start-preserved : goal.loop-start-preserved
 loop-start-preserved c =
     let lines = new_section (map (contents_at c.args.old.now) c.args.olds.now) in
-    completes_more c.loop-start.invariant (sections_more lines c.args.new.now c.args.news.now c.loop-start.start-index (omega arith)) c.put_new_section-to.ensures
+    adding_more c.loop-start.invariant (sections_more lines c.args.new.now c.args.news.now c.loop-start.start-index (omega arith)) c.put_new_section.ensures
 
 pub returns : goal.returns
 returns c =
     let lines = new_section (map (contents_at c.args.old.now) c.args.olds.now) in
-    completes_over c.loop-start.invariant (sections-over lines c.args.new.now c.args.news.now c.loop-start.start-index (omega arith)) c.put.ensures
-
-pub shape_of-out : goal.shape_of-out
-shape_of-out c = wrote-length (returns c)
+    adding_over c.loop-start.invariant (sections-over lines c.args.new.now c.args.news.now c.loop-start.start-index (omega arith))

@@ -22,7 +22,7 @@ returns-then-i-news c =
     section_both c.args.old.now c.args.start c.requires.0 c.args.new.now c.args.news.now c.requires.1
     c.text_part-key.ensures c.find_key-i.ensures c.if-i-news.true c.site_at-a.ensures c.site_at-b.ensures there c.put_both.ensures
 
-pub returns : goal.returns
-returns c =
+pub returns-else-i-news : goal.returns-else-i-news
+returns-else-i-news c =
     section_lone c.args.old.now c.args.start c.requires.0 c.args.new.now c.args.news.now c.requires.1
     c.text_part-key.ensures c.find_key-i.ensures c.if-i-news.false c.put_lone.ensures

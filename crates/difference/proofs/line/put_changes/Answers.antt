@@ -8,4 +8,4 @@ returns c =
     let codes = codes_in c.args.old.now c.args.ruled in
     let others = codes_in c.args.new.now c.args.second in
     changes-written c.args.key.now c.args.n c.args.ruled.rule c.args.m c.args.second.rule codes others
-    c.put_severities-to.ensures c.put_bounds-third.ensures c.put_sets-fourth.ensures c.put_moved.ensures
+    c.put_severities.ensures c.put_bounds.ensures c.put_sets.ensures c.put_moved.ensures

@@ -3,16 +3,15 @@ use mathlib.Core.Path.{◌≡◌}
 use Prim.Native.Nat.{◌+◌, ◌-◌, ◌<◌}
 use native.Mathlib.Omega.{arith}
 use Rattle.grade.proofs.Parts.{code_fits}
-use Rattle.ack.proofs.Writing.{wrote-length}
-use Rattle.booktext.proofs.Completing.{completes_more, completes_over}
+use Rattle.ack.proofs.Adding.{adding_more, adding_over}
 use Rattle.difference.proofs.Coding.{codes-found, codes_more, codes-over}
 use Rattle.difference.proofs.line.put_codes.Goals as goal
 
 pub loop-i-init : goal.loop-i-init
-loop-i-init c = let all : c.args.ruled.count - 0 ≡ c.args.ruled.count = omega arith in rw all (c.requires.stand, λ after r w. w)
+loop-i-init c = let all : c.args.ruled.count - 0 ≡ c.args.ruled.count = omega arith in rw all (c.requires.stand, λ after w. w)
 
-pub put_code-to-requires : goal.put_code-to-requires
-put_code-to-requires c = code_fits c.args.book.now (c.args.ruled.count - c.loop-i._i) c.loop-i.from (omega arith) c.loop-i.invariant.0
+pub put_code-requires : goal.put_code-requires
+put_code-requires c = code_fits c.args.book.now (c.args.ruled.count - c.loop-i._i) c.loop-i.from (omega arith) c.loop-i.invariant.0
 
 pub text_after-from-requires : goal.text_after-from-requires
 text_after-from-requires c = code_fits c.args.book.now (c.args.ruled.count - c.loop-i._i) c.loop-i.from (omega arith) c.loop-i.invariant.0
@@ -26,10 +25,7 @@ loop-i-preserved c =
     let some : 0 < left = omega arith in
     let here = c.loop-i.invariant.0 in
     let next = c.text_after-from.ensures in
-    rw one (codes-found b left from some here next, completes_more c.loop-i.invariant.1 (codes_more b left from some here next c.args.mark) c.put_code-to.ensures)
+    rw one (codes-found b left from some here next, adding_more c.loop-i.invariant.1 (codes_more b left from some here next c.args.mark) c.put_code.ensures)
 
 pub returns : goal.returns
-returns c = completes_over c.loop-i.invariant.1 (codes-over c.args.book.now (c.args.ruled.count - c.loop-i._i) c.loop-i.from c.args.mark (omega arith)) c.put.ensures
-
-pub shape_of-out : goal.shape_of-out
-shape_of-out c = wrote-length (returns c)
+returns c = adding_over c.loop-i.invariant.1 (codes-over c.args.book.now (c.args.ruled.count - c.loop-i._i) c.loop-i.from c.args.mark (omega arith))

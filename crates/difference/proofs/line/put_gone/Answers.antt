@@ -3,17 +3,16 @@ use mathlib.Core.Path.{◌≡◌}
 use Prim.Native.Nat.{◌+◌, ◌-◌, ◌<◌}
 use native.Mathlib.Omega.{arith}
 use Rattle.grade.proofs.Parts.{code_fits}
-use Rattle.ack.proofs.Writing.{wrote-length}
-use Rattle.booktext.proofs.Completing.{completes_more, completes_over}
+use Rattle.ack.proofs.Adding.{adding_more, adding_over}
 use Rattle.difference.specs.Ruled.{codes_in}
 use Rattle.difference.proofs.Coding.{codes-found, gone_more, gone-over}
 use Rattle.difference.proofs.line.put_gone.Goals as goal
 
 pub loop-i-init : goal.loop-i-init
-loop-i-init c = let all : c.args.ruled.count - 0 ≡ c.args.ruled.count = omega arith in rw all (c.requires.0.stand, λ after r w. w)
+loop-i-init c = let all : c.args.ruled.count - 0 ≡ c.args.ruled.count = omega arith in rw all (c.requires.0.stand, λ after w. w)
 
-pub put_unless-to-requires : goal.put_unless-to-requires
-put_unless-to-requires c = (code_fits c.args.book.now (c.args.ruled.count - c.loop-i._i) c.loop-i.from (omega arith) c.loop-i.invariant.0, c.requires.1)
+pub put_unless-requires : goal.put_unless-requires
+put_unless-requires c = (code_fits c.args.book.now (c.args.ruled.count - c.loop-i._i) c.loop-i.from (omega arith) c.loop-i.invariant.0, c.requires.1)
 
 pub text_after-from-requires : goal.text_after-from-requires
 text_after-from-requires c = code_fits c.args.book.now (c.args.ruled.count - c.loop-i._i) c.loop-i.from (omega arith) c.loop-i.invariant.0
@@ -28,12 +27,9 @@ loop-i-preserved c =
     let some : 0 < left = omega arith in
     let here = c.loop-i.invariant.0 in
     let next = c.text_after-from.ensures in
-    rw one (codes-found b left from some here next, completes_more c.loop-i.invariant.1 (gone_more b left from some here next c.args.mark others) c.put_unless-to.ensures)
+    rw one (codes-found b left from some here next, adding_more c.loop-i.invariant.1 (gone_more b left from some here next c.args.mark others) c.put_unless.ensures)
 
 pub returns : goal.returns
 returns c =
     let others = codes_in c.args.other.now c.args.second in
-    completes_over c.loop-i.invariant.1 (gone-over c.args.book.now (c.args.ruled.count - c.loop-i._i) c.loop-i.from c.args.mark others (omega arith)) c.put.ensures
-
-pub shape_of-out : goal.shape_of-out
-shape_of-out c = wrote-length (returns c)
+    adding_over c.loop-i.invariant.1 (gone-over c.args.book.now (c.args.ruled.count - c.loop-i._i) c.loop-i.from c.args.mark others (omega arith))

@@ -1,7 +1,7 @@
 -- `difference::line::put_gone` meets its contract. The loop's invariant: whoever writes what is gone of the codes left has written all. Assumes nothing.
 use Prim.Native.Nat.{◌-◌}
 use Rattle.ack.specs.Layout.{marked}
-use Rattle.booktext.proofs.Completing.{Completes}
+use Rattle.ack.proofs.Adding.{Adding}
 use Rattle.difference.specs.Difference.{code_words, gone}
 use Rattle.difference.specs.Ruled.{codes_in}
 use Rattle.difference.proofs.Coding.{codes_from, CodesFound}
@@ -9,4 +9,4 @@ use Rattle.difference.proofs.line.put_gone.Given as goal
 
 abbrev pub invariant-loop-i : goal.invariant-loop-i
 invariant-loop-i l = CodesFound l.book (l.fn.ruled.count - l._i) l.from
-    × Completes (marked 32 (code_words l.mark (gone (codes_from l.book l.fn.ruled.count l.fn.ruled.from) (codes_in l.other l.second)))) (marked 32 (code_words l.mark (gone (codes_from l.book (l.fn.ruled.count - l._i) l.from) (codes_in l.other l.second)))) l.initial.out l.at l.out l.to
+    × Adding (marked 32 (code_words l.mark (gone (codes_from l.book l.fn.ruled.count l.fn.ruled.from) (codes_in l.other l.second)))) (marked 32 (code_words l.mark (gone (codes_from l.book (l.fn.ruled.count - l._i) l.from) (codes_in l.other l.second)))) l.initial.out l.out

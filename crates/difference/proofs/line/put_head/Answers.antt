@@ -5,4 +5,4 @@ use Rattle.difference.proofs.line.put_head.Goals as goal
 pub returns : goal.returns
 returns c =
     head-written c.args.key.now c.args.mark c.args.n c.args.rule
-    c.put-second.ensures c.put_byte-third.ensures c.put_byte-fourth.ensures c.put_number-fifth.ensures c.put_place-sixth.ensures c.put_kind.ensures
+    c.put.ensures c.put_byte.ensures c.put_byte-2.ensures c.put_number.ensures c.put_place.ensures c.put_kind.ensures

@@ -5,7 +5,7 @@ use Rattle.difference.proofs.line.put_numbers.Goals as goal
 
 pub returns-in-Required : goal.returns-in-Required
 returns-in-Required c =
-    let none = none_written c.put.ensures in
+    let none = none_written c.args.out.now in
     ⊎_elim (λ e. rw e none) (⊎_elim (λ e. rw e none) (⊎_elim (λ e. rw e none) (λ e. rw e.1 none))) c.in-Required.is
 
 pub returns-in-Length : goal.returns-in-Length

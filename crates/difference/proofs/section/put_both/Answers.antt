@@ -23,4 +23,4 @@ slice_bounds-put_new_rules-end-2 c = sym (length-take-le _ _ (omega (arith, c.re
 pub returns : goal.returns
 returns c =
     both_written c.args.key.now c.args.old.now c.args.a c.args.new.now c.args.b c.requires.0 c.requires.1
-    c.spots_of-own.ensures.1 c.put_old_rules-to.ensures c.put_new_rules.ensures
+    c.spots_of-own.ensures.1 c.put_old_rules.ensures c.put_new_rules.ensures

@@ -1,6 +1,6 @@
 -- `difference::section::put_new_rule` meets its contract. Assumes nothing.
 use native.Mathlib.Omega.{arith}
-use Rattle.ack.proofs.Writing.{wrote_as}
+use Rattle.ack.proofs.Adding.{adds_none}
 use Rattle.difference.proofs.Sections.{side_length, new_known, new_come}
 use Rattle.difference.proofs.section.put_new_rule.Goals as goal
 
@@ -9,7 +9,7 @@ counterpart_of-requires c = omega (arith, side_length c.args.new.now c.args.b c.
 
 pub returns-then-counterpart_of-ne0 : goal.returns-then-counterpart_of-ne0
 returns-then-counterpart_of-ne0 c =
-    wrote_as c.put.ensures
+    adds_none _
     (new_known c.args.key.now c.args.own.now c.args.new.now c.args.b c.args.i c.requires.0.are c.counterpart_of.ensures.0 c.if-counterpart_of-ne0.true)
 
 pub returns : goal.returns

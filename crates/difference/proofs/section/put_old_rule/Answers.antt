@@ -16,10 +16,10 @@ ruled_at-second-requires c =
     let many = side_length c.args.new.now c.args.b c.requires.1 in
     (c.requires.1.holds, c.requires.1.placed, omega (arith, many, c.counterpart_of-m.ensures.1, c.if-m-eq0.false))
 
-pub overflow_add-i-2 : goal.overflow_add-i-2
-overflow_add-i-2 c = omega (arith, c.requires.0.holds.few_rules, c.requires.2)
+pub overflow_add-i-else-m-eq0 : goal.overflow_add-i-else-m-eq0
+overflow_add-i-else-m-eq0 c = omega (arith, c.requires.0.holds.few_rules, c.requires.2)
 
-pub returns : goal.returns
-returns c =
+pub returns-else-m-eq0 : goal.returns-else-m-eq0
+returns-else-m-eq0 c =
     old_changed c.args.key.now c.args.old.now c.args.a c.args.new.now c.args.b c.args.i
     c.requires.0.are c.requires.1.are c.counterpart_of-m.ensures.0 c.ruled_at-ruled.ensures c.if-m-eq0.false c.ruled_at-second.ensures c.put_changes.ensures
