@@ -1,15 +1,15 @@
 -- Laws of the words for people: the blanks around them, and the line that they stand in. Assumes nothing.
 use mathlib.Core.Path.{◌≡◌, refl, sym, ap, ◌∙◌}
-use mathlib.Core.Bool.{Bool, true, false, cond, not, ◌&&◌, true≢false}
+use mathlib.Core.Bool.{Bool, true, false, cond, true≢false}
 use mathlib.Core.List.{List, [], ◌∷◌}
-use Prim.Native.Nat.{ℕ, zero, suc, ◌+◌, ◌-◌, ◌≤◌, ◌<◌}
+use Prim.Native.Nat.{ℕ, zero, suc, ◌+◌, ◌<◌}
 use native.Mathlib.Omega.{arith}
 use native.Mathlib.Numerals.{add-one}
 use lib.ListN.{length, get_or, take, drop, length-drop}
 use lib.Seq.{drop-drop, get_or-drop}
 use Rattle.hl7.specs.Bytes.{all}
 use Rattle.hl7.specs.Cut.{cut, part_at, end_from}
-use Rattle.hl7.proofs.Comparing.{all-at, rest_at}
+use Rattle.hl7.proofs.Comparing.{all-at}
 use Rattle.hl7.proofs.Cutting.{first-front}
 use Rattle.booktext.specs.Lines.{line_feed, bar, said, blank}
 use Rattle.booktext.specs.Standing.{run}

@@ -2,9 +2,9 @@
 use mathlib.Core.List.{map}
 use lib.ListN.{drop}
 use Rattle.booktext.specs.Standing.{noted}
-use Rattle.booktext.proofs.Completing.{Completes}
+use Rattle.ack.proofs.Adding.{Adding}
 use Rattle.legend.specs.Legend.{later_remarks}
 use Rattle.legend.proofs.legend.put_changes.Given as goal
 
 abbrev pub invariant-loop-cell : goal.invariant-loop-cell
-invariant-loop-cell l = Completes (later_remarks l.t l.spot (map (noted l.t) l.cells)) (later_remarks l.t l.spot (map (noted l.t) (drop l.cell-index l.cells))) l.initial.out l.at l.out l.to
+invariant-loop-cell l = Adding (later_remarks l.t l.spot (map (noted l.t) l.cells)) (later_remarks l.t l.spot (map (noted l.t) (drop l.cell-index l.cells))) l.initial.out l.out

@@ -11,5 +11,5 @@ put_line-requires c = (c.requires.0, c.requires.1, stays-rule c.args.t.now c.arg
 pub returns-then-is_staying : goal.returns-then-is_staying
 returns-then-is_staying c = made-listed c.args.t.now c.args.cells.now c.args.i c.requires.0 c.requires.1 c.args.key.now c.args.n (c.is_staying.ensures c.args.t.now c.requires.0) c.if-is_staying.true c.put_line.ensures
 
-pub returns : goal.returns
-returns c = none-listed c.args.t.now c.args.cells.now c.args.i c.requires.0 c.requires.1 c.args.key.now c.args.n (c.is_staying.ensures c.args.t.now c.requires.0) c.if-is_staying.false c.put.ensures
+pub returns-else-is_staying : goal.returns-else-is_staying
+returns-else-is_staying c = none-listed c.args.t.now c.args.cells.now c.args.i c.requires.0 c.requires.1 c.args.key.now c.args.n _ (c.is_staying.ensures c.args.t.now c.requires.0) c.if-is_staying.false

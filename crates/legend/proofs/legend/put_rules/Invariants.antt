@@ -3,4 +3,4 @@ use Rattle.legend.proofs.Listing.{Listing}
 use Rattle.legend.proofs.legend.put_rules.Given as goal
 
 abbrev pub invariant-loop-i : goal.invariant-loop-i
-invariant-loop-i l = Listing l.t l.key l.cells l.initial.out l.at l.out l.to l.n l.i
+invariant-loop-i l = Listing l.t l.key l.cells l.initial.out l.out l.n l.i

@@ -2,7 +2,6 @@
 use mathlib.Core.Path.{sym}
 use native.Mathlib.Omega.{arith}
 use lib.Seq.{length-take-le}
-use Rattle.ack.proofs.Writing.{wrote-length}
 use Rattle.legend.proofs.Listing.{all_noted, section-listed}
 use Rattle.legend.proofs.legend.put_section.Goals as goal
 
@@ -24,7 +23,4 @@ shape_of-cells c = c.cells-1.given
 pub returns : goal.returns
 returns c =
     section-listed c.args.t.now c.args.head c.word_of-key.ensures c.next_line.ensures c.note_section-count.ensures (all_noted c.args.t.now c.args.head c.next_line.ensures c.note_section-count.ensures c.requires.4)
-    c.put-second.ensures c.put-third.ensures c.people_at.ensures c.put_remark-fourth.ensures c.put_byte-fifth.ensures c.put_rules.ensures
-
-pub shape_of-out : goal.shape_of-out
-shape_of-out c = wrote-length (returns c)
+    c.put.ensures c.put-2.ensures c.people_at.ensures c.put_remark.ensures c.put_byte.ensures c.put_rules.ensures

@@ -7,7 +7,7 @@ use Rattle.legend.proofs.Listing.{Sections}
 use Rattle.legend.proofs.legend.put_sections.Given as goal
 
 abbrev pub invariant-loop-line : goal.invariant-loop-line
-invariant-loop-line l = Sections l.t l.initial.out (onward l.t (left l.t) l.line) l.out l.to × (length l.cells ≡ length l.initial.cells)
+invariant-loop-line l = Sections l.t l.initial.out (onward l.t (left l.t) l.line) l.out × (length l.cells ≡ length l.initial.cells)
 
 abbrev pub decreases-loop-line : goal.decreases-loop-line
 decreases-loop-line l = length (onward l.t (left l.t) l.line)

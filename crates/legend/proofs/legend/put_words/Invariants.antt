@@ -2,11 +2,11 @@
 use lib.ListN.{length}
 use Rattle.ack.specs.Layout.{marked}
 use Rattle.booktext.specs.Standing.{words_from}
-use Rattle.booktext.proofs.Completing.{Completes}
+use Rattle.ack.proofs.Adding.{Adding}
 use Rattle.legend.proofs.legend.put_words.Given as goal
 
 abbrev pub invariant-loop-w : goal.invariant-loop-w
-invariant-loop-w l = Completes (marked 32 (words_from l.t l.from)) (marked 32 (words_from l.t l.i)) l.initial.out l.at l.out l.to
+invariant-loop-w l = Adding (marked 32 (words_from l.t l.from)) (marked 32 (words_from l.t l.i)) l.initial.out l.out
 
 abbrev pub decreases-loop-w : goal.decreases-loop-w
 decreases-loop-w l = length (words_from l.t l.i)
