@@ -22,67 +22,44 @@ use Rattle.grade.proofs.Parts.{set_is, codes-next}
 use Rattle.grade.proofs.Readings.{times_empty}
 use Rattle.ack.specs.Layout.{marked}
 use Rattle.difference.specs.Difference.{code_words, all_among, gone}
-use Rattle.difference.specs.Ruled.{set_of, Rules}
 
 -- ---- where a rule's codes stand
-set-none : (sets : List (List (List ℕ))) (many : ℕ) (kind : Kind) → kind_fits many kind ≡ true → set_of kind ≡ 0 → codes_of sets kind ≡ []
-set-none sets many Kind.Required fits e = refl
-set-none sets many (Kind.Length low high) fits e = refl
-set-none sets many Kind.Number fits e = refl
-set-none sets many Kind.Date fits e = refl
-set-none sets many (Kind.Time digits) fits e = refl
-set-none sets many (Kind.Code set) fits e = absurd (omega (arith, e, (code_limits many set fits).0))
-
--- a set that there is
-abbrev Some : List (List (List ℕ)) → ℕ → Kind → Type 0
-Some sets many kind = (1 ≤ set_of kind) × (set_of kind ≤ many) × (codes_of sets kind ≡ get_or sets (set_of kind - 1) [])
-
-set-some : (sets : List (List (List ℕ))) (many : ℕ) (kind : Kind) → kind_fits many kind ≡ true → (set_of kind ≡ 0 → ⊥) → Some sets many kind
-set-some sets many Kind.Required fits n = absurd (n refl)
-set-some sets many (Kind.Length low high) fits n = absurd (n refl)
-set-some sets many Kind.Number fits n = absurd (n refl)
-set-some sets many Kind.Date fits n = absurd (n refl)
-set-some sets many (Kind.Time digits) fits n = absurd (n refl)
-set-some sets many (Kind.Code set) fits n = let l = code_limits many set fits in (l.0, l.1, refl)
-
-module _ (b : List ℕ) (s : Section) (h : Holds b s) (i : ℕ) (k : i < s.rule_count) {rule : Rule} (is : rule ≡ get_or (rules_in b s) i no_rule) {set : ℕ} (of : set ≡ set_of rule.kind) where
+module _ (b : List ℕ) (s : Section) (h : Holds b s) (i : ℕ) (k : i < s.rule_count) {rule : Rule} (is : rule ≡ get_or (rules_in b s) i no_rule) where
   fitting : kind_fits s.set_count rule.kind ≡ true
   fitting = rw is (kind_limits s.set_count (get_or (rules_in b s) i no_rule) (rule_fits_lem b s h i k))
 
   kind_is : codes_of (sets_in b s) rule.kind ≡ codes_of (sets_in b s) (get_or (rules_in b s) i no_rule).kind
   kind_is = ap (λ (r : Rule). codes_of (sets_in b s) r.kind) is
 
-  pub ruled_none : set ≡ 0 → Rules b (rules_in b s) (sets_in b s) i (record { rule = rule; from = 0; count = 0 })
+  pub codes_none : ((set : ℕ) → rule.kind ≡ Kind.Code set → ⊥) → items_of (times 0 (text code_limit) b 0) ≡ codes_of (sets_in b s) (get_or (rules_in b s) i no_rule).kind
   unfolding times
-  ruled_none e = record {
-    is = is;
-    codes = times_empty (text code_limit) b 0 0 (omega arith) ∙ sym (set-none (sets_in b s) s.set_count rule.kind fitting (sym of ∙ e)) ∙ kind_is;
-    stand = record { stand = refl };
-  }
+  codes_none n = times_empty (text code_limit) b 0 0 (omega arith) ∙ sym (by rule.kind n) ∙ kind_is
+    where
+      by : (kind : Kind) → ((set : ℕ) → kind ≡ Kind.Code set → ⊥) → codes_of (sets_in b s) kind ≡ []
+      by Kind.Required n = refl
+      by (Kind.Length low high) n = refl
+      by Kind.Number n = refl
+      by Kind.Date n = refl
+      by (Kind.Time digits) n = refl
+      by (Kind.Code set) n = absurd (n set refl)
 
-  module _ (some : set ≡ 0 → ⊥) where
-    there : Some (sets_in b s) s.set_count rule.kind
-    there = set-some (sets_in b s) s.set_count rule.kind fitting (λ e. some (of ∙ e))
-
-    pub ruled_place : (1 ≤ set) × (set ≤ s.set_count)
-    ruled_place = (omega (arith, of, there.0), omega (arith, of, there.1))
+  module _ {set : ℕ} (of : rule.kind ≡ Kind.Code set) where
+    pub set_there : (1 ≤ set) × (set ≤ s.set_count)
+    set_there = code_limits s.set_count set (rw of at fitting)
 
     module _ {places : List ℕ} (placed : Placed b s places) {start : ℕ} (at : start ≡ get_or places (set - 1) 0) where
       at_set : SetAt b (sets_in b s) (set - 1) start
-      at_set = rw at (placed_at b s placed h (set - 1) (omega (arith, ruled_place)))
+      at_set = rw at (placed_at b s placed h (set - 1) (omega (arith, set_there)))
 
-      pub ruled_inside : start + 2 ≤ length b
-      ruled_inside = (set_is b start at_set.stands).0
+      pub set_inside : start + 2 ≤ length b
+      set_inside = (set_is b start at_set.stands).0
 
-      pub ruled_some : {count : ℕ} → count ≡ pair b start → Rules b (rules_in b s) (sets_in b s) i (record { rule = rule; from = start + 2; count = count })
-      ruled_some {count} e =
-          let read = (set_is b start at_set.stands).1 count e in
-          record {
-            is = is;
-            codes =
-                sym (ap items_of read) ∙ at_set.codes ∙ ap (λ (n : ℕ). get_or (sets_in b s) (n - 1) []) of ∙ sym there.2 ∙ kind_is;
-            stand = record { stand = sym (ap is_found read) ∙ at_set.stands };
-          }
+      module _ {count : ℕ} (e : count ≡ pair b start) where
+        pub codes_stand : is_found (times count (text code_limit) b (start + 2)) ≡ true
+        codes_stand = sym (ap is_found ((set_is b start at_set.stands).1 count e)) ∙ at_set.stands
+
+        pub codes_some : items_of (times count (text code_limit) b (start + 2)) ≡ codes_of (sets_in b s) (get_or (rules_in b s) i no_rule).kind
+        codes_some = sym (ap items_of ((set_is b start at_set.stands).1 count e)) ∙ at_set.codes ∙ ap (codes_of (sets_in b s)) (sym of) ∙ kind_is
 
 -- ---- one after the other
 module _ (b : List ℕ) where

@@ -24,7 +24,7 @@ use Rattle.canonical.specs.Shown.{line_bytes, printed, rule_spot}
 use Rattle.canonical.proofs.Printing.{printed_both}
 use Rattle.canonical.proofs.PutBook.{itself}
 use Rattle.difference.specs.Difference.{Lines, spots, counterpart, whole_line, changes, old_by, old_lines, new_lines, section_lines, lone_line, against_first, old_section, new_section, differences}
-use Rattle.difference.specs.Ruled.{codes_in, Rules, held_by, Side, key_place}
+use Rattle.difference.specs.Ruled.{codes_in, Rules, held_by, key_place}
 use Rattle.difference.specs.declared.ruled.Ruled.{Ruled}
 use Rattle.difference.proofs.Lining.{unless-skipped, unless-written}
 
@@ -54,61 +54,56 @@ module _ (f : ℕ → Lines) (n : ℕ) where
   lines-over i h = let none : n - i ≡ 0 = omega arith in ap (λ (k : ℕ). printed (flat_map f (count_from i k))) none
 
 -- as many spots as rules
-pub side_length : (b : List ℕ) (s : Section) {places noted : List ℕ} → Side b s places noted → length noted ≡ s.rule_count
-side_length b s side = ap length side.are ∙ length-map (rules_in b s) rule_spot ∙ rules-length b s side.holds
+pub spots_length : (b : List ℕ) (s : Section) → Holds b s → length (spots (rules_in b s)) ≡ s.rule_count
+spots_length b s h = length-map (rules_in b s) rule_spot ∙ rules-length b s h
 
 -- ---- a rule of the old section
-module _ (key old : List ℕ) (a : Section) (new : List ℕ) (b : Section) (i : ℕ) where
+module _ (key old : List ℕ) (a : Section) (new : List ℕ) (b : Section) (i : ℕ) {r : Ruled} (is : Rules (rules_in old a) (sets_in old a) i r) where
   abbrev c : Contents
   c = held_by key old a
 
   abbrev d : Contents
   d = held_by key new b
 
-  module _ {own others : List ℕ} (mine : own ≡ spots (rules_in old a)) (theirs : others ≡ spots (rules_in new b)) {m : ℕ} (e : m ≡ counterpart own others i) where
-    by_number : old_by c d i m ≡ old_lines c d i
-    unfolding old_lines
-    by_number = ap (old_by c d i) (e ∙ ap₂ (λ (x y : List ℕ). counterpart x y i) mine theirs)
+  by_number : {m : ℕ} → m ≡ counterpart (spots (rules_in old a)) (spots (rules_in new b)) i → old_by c d i m ≡ old_lines c d i
+  unfolding old_lines
+  by_number e = ap (old_by c d i) e
 
-    module _ {r : Ruled} (is : Rules old (rules_in old a) (sets_in old a) i r) where
-      pub old_gone : m ≡ 0 → {o p : Output} → Adds o (line_bytes (whole_line key (code "-") (i + 1) r.rule (codes_in old r))) p → Adds o (printed (old_lines c d i)) p
-      old_gone none w = adds_as w (sym whole ∙ ap printed by_number)
-        where
-          whole : printed (old_by c d i m) ≡ line_bytes (whole_line key (code "-") (i + 1) r.rule (codes_in old r))
-          whole = rw (eq-eqb m 0 none, is.is, is.codes, add-one i) (sym (one_printed _))
+  pub old_gone : 0 ≡ counterpart (spots (rules_in old a)) (spots (rules_in new b)) i → {o p : Output} → Adds o (line_bytes (whole_line key (code "-") (i + 1) r.rule (codes_in r))) p → Adds o (printed (old_lines c d i)) p
+  old_gone e w = adds_as w (sym whole ∙ ap printed (by_number e))
+    where
+      whole : printed (old_by c d i 0) ≡ line_bytes (whole_line key (code "-") (i + 1) r.rule (codes_in r))
+      whole = rw (is.is, is.codes, add-one i) (sym (one_printed _))
 
-      pub old_changed : (m ≡ 0 → ⊥) → {s : Ruled} → Rules new (rules_in new b) (sets_in new b) (m - 1) s → {o p : Output}
-          → Adds o (printed (changes key (i + 1) m r.rule s.rule (codes_in old r) (codes_in new s))) p → Adds o (printed (old_lines c d i)) p
-      old_changed some {s} its w = adds_as w (sym changed ∙ ap printed by_number)
-        where
-          changed : printed (old_by c d i m) ≡ printed (changes key (i + 1) m r.rule s.rule (codes_in old r) (codes_in new s))
-          changed = rw (ne_eqb m 0 some, is.is, is.codes, its.is, its.codes, add-one i)
+  pub old_changed : {m : ℕ} → suc m ≡ counterpart (spots (rules_in old a)) (spots (rules_in new b)) i → {s : Ruled} → Rules (rules_in new b) (sets_in new b) m s → {o p : Output}
+      → Adds o (printed (changes key (i + 1) (m + 1) r.rule s.rule (codes_in r) (codes_in s))) p → Adds o (printed (old_lines c d i)) p
+  old_changed {m} e {s} its w = adds_as w (sym changed ∙ ap printed (by_number e))
+    where
+      changed : printed (old_by c d i (suc m)) ≡ printed (changes key (i + 1) (m + 1) r.rule s.rule (codes_in r) (codes_in s))
+      changed = let less : suc m - 1 ≡ m = omega arith in rw (ne_eqb (suc m) 0 (λ z. omega (arith, z)), less, is.is, is.codes, its.is, its.codes, add-one i, add-one m)
 
 -- ---- a rule of the new section
-module _ (key own new : List ℕ) (b : Section) (i : ℕ) {others : List ℕ} (theirs : others ≡ spots (rules_in new b)) {m : ℕ} (e : m ≡ counterpart others own i) where
-  number_of : m ≡ counterpart (spots (rules_in new b)) own i
-  number_of = e ∙ ap (λ (x : List ℕ). counterpart x own i) theirs
-
-  pub new_known : (m ≡ 0 → ⊥) → [] ≡ printed (new_lines key own (held_by key new b) i)
+module _ (key own new : List ℕ) (b : Section) (i : ℕ) where
+  pub new_known : {m : ℕ} → suc m ≡ counterpart (spots (rules_in new b)) own i → [] ≡ printed (new_lines key own (held_by key new b) i)
   unfolding new_lines
-  new_known some = unless-skipped _ (ap not (ne_eqb _ 0 (λ z. some (number_of ∙ z))))
+  new_known {m} e = unless-skipped _ (ap not (ne_eqb _ 0 (λ z. omega (arith, e, z))))
 
-  pub new_come : m ≡ 0 → {r : Ruled} → Rules new (rules_in new b) (sets_in new b) i r → {o p : Output}
-      → Adds o (line_bytes (whole_line key (code "+") (i + 1) r.rule (codes_in new r))) p → Adds o (printed (new_lines key own (held_by key new b) i)) p
+  pub new_come : 0 ≡ counterpart (spots (rules_in new b)) own i → {r : Ruled} → Rules (rules_in new b) (sets_in new b) i r → {o p : Output}
+      → Adds o (line_bytes (whole_line key (code "+") (i + 1) r.rule (codes_in r))) p → Adds o (printed (new_lines key own (held_by key new b) i)) p
   unfolding new_lines
-  new_come none {r} is w = unless-written _ (ap not (eq-eqb _ 0 (sym number_of ∙ none))) (adds_as w (rw (is.is, is.codes, add-one i)))
+  new_come none {r} is w = unless-written _ (ap not (eq-eqb _ 0 (sym none))) (adds_as w (rw (is.is, is.codes, add-one i)))
 
 -- ---- both sections
-pub both_written : (key old : List ℕ) (a : Section) (new : List ℕ) (b : Section) → Holds old a → Holds new b → {own : List ℕ} → own ≡ spots (rules_in old a) → {o p q : Output}
+pub both_written : (key old : List ℕ) (a : Section) (new : List ℕ) (b : Section) → Holds old a → Holds new b → {o p q : Output}
     → Adds o (printed (flat_map (old_lines (held_by key old a) (held_by key new b)) (count_from 0 a.rule_count))) p
-    → Adds p (printed (flat_map (new_lines key own (held_by key new b)) (count_from 0 b.rule_count))) q
+    → Adds p (printed (flat_map (new_lines key (spots (rules_in old a)) (held_by key new b)) (count_from 0 b.rule_count))) q
     → Adds o (printed (section_lines (held_by key old a) (held_by key new b))) q
 unfolding section_lines
-both_written key old a new b h k {own} mine u v =
+both_written key old a new b h k u v =
     let c = held_by key old a in
     let d = held_by key new b in
     let olds = ap (λ (n : ℕ). flat_map (old_lines c d) (count_from 0 n)) (sym (rules-length old a h)) in
-    let news = ap₂ (λ (x : List ℕ) (n : ℕ). flat_map (new_lines key x d) (count_from 0 n)) mine (sym (rules-length new b k)) in
+    let news = ap (λ (n : ℕ). flat_map (new_lines key (spots (rules_in old a)) d) (count_from 0 n)) (sym (rules-length new b k)) in
     adds_as (u next v) (ap₂ (λ (x y : Lines). printed x ++ printed y) olds news ∙ sym (printed_both _ _))
 
 -- ---- a key among those of sections

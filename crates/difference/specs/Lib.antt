@@ -1,2 +1,4 @@
 pub mod Difference
+pub mod Number
 pub mod Ruled
+pub mod Sides

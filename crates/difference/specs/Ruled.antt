@@ -5,47 +5,29 @@ use Rattle.hl7.specs.Bytes.{all, same}
 use Rattle.grade.specs.Book.{Contents, text, decoded, malformed, other_version}
 use Rattle.grade.specs.Broken.{codes_of}
 use Rattle.grade.specs.Limits.{code_limit}
-use Rattle.grade.specs.Reader.{is_found, items_of, times}
+use Rattle.grade.specs.Reader.{items_of, times}
 use Rattle.grade.specs.Rule.{no_rule}
-use Rattle.grade.specs.Encoding.{last_bytes}
-use Rattle.grade.specs.Standing.{stands_at, contents_at, rules_in, sets_in, Holds, Placed}
-use Rattle.grade.specs.declared.rule.Kind.{Kind}
+use Rattle.grade.specs.Standing.{stands_at, contents_at, rules_in, sets_in}
 use Rattle.grade.specs.declared.rule.Rule.{Rule}
 use Rattle.grade.specs.declared.walk.Section.{Section}
-use Rattle.difference.specs.Difference.{spots}
 use Rattle.difference.specs.declared.ruled.Ruled.{Ruled}
 
 -- ---- a rule, and where the codes of its set stand
 
--- the number of a kind's set; 0 where it has none
-abbrev pub set_of : Kind → ℕ
-set_of kind = get_or (last_bytes kind) 0 0
-
 -- so many from a position on
-abbrev pub codes_in : List ℕ → Ruled → List (List ℕ)
-codes_in b r = items_of (times r.count (text code_limit) b r.from)
-
--- they can be read there
-pub record CodesStand (b : List ℕ) (r : Ruled) : Type 0 where
-  pub stand : is_found (times r.count (text code_limit) b r.from) ≡ true
+abbrev pub codes_in : Ruled → List (List ℕ)
+codes_in r = items_of (times r.count (text code_limit) r.book.now r.from)
 
 -- it is rule i of the rules, and these are its codes in the sets
-pub record Rules (b : List ℕ) (rules : List Rule) (sets : List (List (List ℕ))) (i : ℕ) (r : Ruled) : Type 0 where
+pub record Rules (rules : List Rule) (sets : List (List (List ℕ))) (i : ℕ) (r : Ruled) : Type 0 where
   pub is : r.rule ≡ get_or rules i no_rule
-  pub codes : codes_in b r ≡ codes_of sets (get_or rules i no_rule).kind
-  pub stand : CodesStand b r
+  pub codes : codes_in r ≡ codes_of sets (get_or rules i no_rule).kind
 
 -- ---- a section
 
 -- what it says, under a key
 abbrev pub held_by : List ℕ → List ℕ → Section → Contents
 held_by key b s = record { key = key; rules = rules_in b s; sets = sets_in b s }
-
--- it can be read, its sets stand at the places, and the spots of its rules are noted
-pub record Side (b : List ℕ) (s : Section) (places noted : List ℕ) : Type 0 where
-  pub holds : Holds b s
-  pub placed : Placed b s places
-  pub are : noted ≡ spots (rules_in b s)
 
 -- ---- a key among keys
 

@@ -1,9 +1,10 @@
 // Which rules of two sections belong together.
-ghost use Rattle.std.specs.Prelude.{◌≡◌, cond, ◌-◌, ◌≤◌, ◌<◌, length, take};
+ghost use Rattle.std.specs.Prelude.{◌≡◌, ◌<◌, length, take, IfSome};
 ghost use Rattle.hl7.specs.Spans.{occurrences};
 ghost use Rattle.grade.specs.Limits.{rule_limit};
 ghost use Rattle.grade.specs.Standing.{rules_in, Holds};
 ghost use Rattle.difference.specs.Difference.{spots, numbered, counterpart};
+ghost use Rattle.difference.specs.Number.{number_or_0};
 
 use canonical::show::spot_of;
 use grade::limits::RULE_LIMIT;
@@ -29,25 +30,27 @@ fn count_of(noted: &[usize], spot: usize) -> usize
     noted.iter().filter(|&x| *x == spot).count()
 }
 
-// The number from 1 of the one that is this spot and has so many such before it; 0 where there is none.
-fn number_of(noted: &[usize], spot: usize, before: usize) -> usize
-    ensures { (result ≡ numbered 1 spot before noted.now) × (result ≤ length noted.now) }
+// The number from 0 of the one that is this spot and has so many such before it.
+fn number_of(noted: &[usize], spot: usize, before: usize) -> Option<usize>
+    ensures is { number_or_0 result ≡ numbered 1 spot before noted.now }
+    ensures inside { IfSome result (λ k. k < length noted.now) }
 {
     let mut left = before;
     for (i, x) in noted.iter().enumerate() {
         let here = *x == spot;
         if here & (left == 0) {
-            return i + 1;
+            return Some(i);
         }
         left = left.saturating_sub(usize::from(here));
     }
-    0
+    None
 }
 
-// The number from 1, among others, of the counterpart of one, which counts from 0.
-pub(crate) fn counterpart_of(own: &[usize], others: &[usize], i: usize) -> usize
+// The number from 0, among others, of the counterpart of one.
+pub(crate) fn counterpart_of(own: &[usize], others: &[usize], i: usize) -> Option<usize>
     requires { i < length own.now }
-    ensures { (result ≡ counterpart own.now others.now i) × (result ≤ length others.now) }
+    ensures is { number_or_0 result ≡ counterpart own.now others.now i }
+    ensures inside { IfSome result (λ k. k < length others.now) }
 {
     let spot = own[i];
     let before = count_of(&own[..i], spot);

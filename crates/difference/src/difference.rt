@@ -11,9 +11,10 @@ ghost use Rattle.difference.specs.Difference.{old_section, new_section, differen
 ghost use Rattle.difference.specs.Ruled.{key_place, Opened};
 
 use crate::section::put_both;
+use crate::side::Side;
 use ack::output::Output;
 use booktext::told::{Told, tell};
-use grade::book::{Indexed, index_book, site_at};
+use grade::book::{Indexed, index_book};
 use grade::limits::SECTION_LIMIT;
 use grade::walk::text_part;
 use hl7::bytes::same_bytes;
@@ -51,9 +52,9 @@ fn put_old_section(out: &mut Output<'_>, old: &[u8], start: usize, new: &[u8], n
     let key = text_part(old, start);
     let i = find_key(new, news, key);
     if i < news.len() {
-        let a = site_at(old, start);
-        let b = site_at(new, news[i]);
-        put_both(out, key, old, a, new, b);
+        let before = Side::new(old, start);
+        let after = Side::new(new, news[i]);
+        put_both(out, key, &before, &after);
     } else {
         put_lone(out, b'-', key);
     }

@@ -1,14 +1,14 @@
 // The lines of a rule.
 ghost use Rattle.std.specs.Prelude.{cond, [], ◌∷◌};
 ghost use Rattle.hl7.specs.Bytes.{among};
-ghost use Rattle.grade.specs.Standing.{text_at, TextFits};
 ghost use Rattle.ack.specs.Layout.{joined, marked};
 ghost use Rattle.ack.specs.Output.{Adds};
 ghost use Rattle.canonical.specs.Shown.{line_bytes, printed};
 ghost use Rattle.difference.specs.Difference.{number_words, code_words, gone, rule_line, whole_line, severity_lines, number_lines, code_lines, moved_lines, changes};
-ghost use Rattle.difference.specs.Ruled.{codes_in, CodesStand};
+ghost use Rattle.difference.specs.Ruled.{codes_in};
 
-use crate::ruled::{Ruled, all_among, has_code, same_numbers};
+use crate::numbers::same_numbers;
+use crate::ruled::Ruled;
 use ack::output::Output;
 use canonical::show::{put_kind, put_place, put_range, put_severity};
 use grade::rule::{Kind, Rule, severity_letter};
@@ -27,47 +27,43 @@ fn put_numbers(out: &mut Output<'_>, kind: Kind)
     }
 }
 
-// The code at a position, with a mark.
-fn put_code(out: &mut Output<'_>, mark: u8, book: &[u8], from: usize)
-    requires { TextFits book.now from }
-    ensures { Adds out.old (32 ∷ mark ∷ text_at book.now from) out.new }
+// A code, with a mark.
+fn put_code(out: &mut Output<'_>, mark: u8, code: &[u8])
+    ensures { Adds out.old (32 ∷ mark ∷ code.now) out.new }
 {
     out.put_byte(b' ');
-    out.put_field(mark, text_part(book, from));
+    out.put_field(mark, code);
 }
 
 // A rule's codes, each with the mark.
-fn put_codes(out: &mut Output<'_>, mark: u8, book: &[u8], ruled: Ruled)
-    requires { CodesStand book.now ruled }
-    ensures { Adds out.old (marked 32 (code_words mark (codes_in book.now ruled))) out.new }
+fn put_codes(out: &mut Output<'_>, mark: u8, ruled: &Ruled<'_>)
+    ensures { Adds out.old (marked 32 (code_words mark (codes_in ruled.now))) out.new }
 {
     let mut from = ruled.from;
     for _i in 0..ruled.count {
-        put_code(out, mark, book, from);
-        from = text_after(book, from);
+        put_code(out, mark, text_part(ruled.book, from));
+        from = text_after(ruled.book, from);
     }
 }
 
-// The code at a position with the mark, unless it is one of a rule's.
-fn put_unless(out: &mut Output<'_>, mark: u8, book: &[u8], from: usize, other: &[u8], second: Ruled)
-    requires { TextFits book.now from × CodesStand other.now second }
-    ensures { Adds out.old (cond (among (text_at book.now from) (codes_in other.now second)) [] (32 ∷ mark ∷ text_at book.now from)) out.new }
+// The code with the mark, unless it is one of a rule's.
+fn put_unless(out: &mut Output<'_>, mark: u8, code: &[u8], other: &Ruled<'_>)
+    ensures { Adds out.old (cond (among code.now (codes_in other.now)) [] (32 ∷ mark ∷ code.now)) out.new }
 {
-    if has_code(other, second, book, from) {
+    if other.has_code(code) {
         return;
     }
-    put_code(out, mark, book, from);
+    put_code(out, mark, code);
 }
 
 // Those of a rule's codes that are none of another's, each with the mark.
-fn put_gone(out: &mut Output<'_>, mark: u8, book: &[u8], ruled: Ruled, other: &[u8], second: Ruled)
-    requires { CodesStand book.now ruled × CodesStand other.now second }
-    ensures { Adds out.old (marked 32 (code_words mark (gone (codes_in book.now ruled) (codes_in other.now second)))) out.new }
+fn put_gone(out: &mut Output<'_>, mark: u8, ruled: &Ruled<'_>, other: &Ruled<'_>)
+    ensures { Adds out.old (marked 32 (code_words mark (gone (codes_in ruled.now) (codes_in other.now)))) out.new }
 {
     let mut from = ruled.from;
     for _i in 0..ruled.count {
-        put_unless(out, mark, book, from, other, second);
-        from = text_after(book, from);
+        put_unless(out, mark, text_part(ruled.book, from), other);
+        from = text_after(ruled.book, from);
     }
 }
 
@@ -85,22 +81,14 @@ fn put_head(out: &mut Output<'_>, key: &[u8], mark: u8, n: usize, rule: Rule)
 }
 
 // The whole rule.
-pub(crate) fn put_rule(
-    out: &mut Output<'_>,
-    key: &[u8],
-    mark: u8,
-    n: usize,
-    book: &[u8],
-    ruled: Ruled,
-)
-    requires { CodesStand book.now ruled }
-    ensures { Adds out.old (line_bytes (whole_line key.now mark n ruled.rule (codes_in book.now ruled))) out.new }
+pub(crate) fn put_rule(out: &mut Output<'_>, key: &[u8], mark: u8, n: usize, ruled: &Ruled<'_>)
+    ensures { Adds out.old (line_bytes (whole_line key.now mark n ruled.now.rule (codes_in ruled.now))) out.new }
 {
     let rule = ruled.rule;
     put_head(out, key, mark, n, rule);
     put_severity(out, rule.severity);
     put_numbers(out, rule.kind);
-    put_codes(out, mark, book, ruled);
+    put_codes(out, mark, ruled);
     out.put_byte(LINE_FEED);
 }
 
@@ -133,26 +121,17 @@ fn put_bounds(out: &mut Output<'_>, key: &[u8], n: usize, rule: Rule, other: Rul
 }
 
 // Its codes, if they are others.
-fn put_sets(
-    out: &mut Output<'_>,
-    key: &[u8],
-    n: usize,
-    old: &[u8],
-    ruled: Ruled,
-    new: &[u8],
-    second: Ruled,
-)
-    requires { CodesStand old.now ruled × CodesStand new.now second }
-    ensures { Adds out.old (printed (code_lines key.now n ruled.rule (codes_in old.now ruled) (codes_in new.now second))) out.new }
+fn put_sets(out: &mut Output<'_>, key: &[u8], n: usize, ruled: &Ruled<'_>, other: &Ruled<'_>)
+    ensures { Adds out.old (printed (code_lines key.now n ruled.now.rule (codes_in ruled.now) (codes_in other.now))) out.new }
 {
-    let kept = all_among(old, ruled, new, second);
-    let known = all_among(new, second, old, ruled);
+    let kept = ruled.all_among(other);
+    let known = other.all_among(ruled);
     if kept & known {
         return;
     }
     put_head(out, key, b'~', n, ruled.rule);
-    put_gone(out, b'-', old, ruled, new, second);
-    put_gone(out, b'+', new, second, old, ruled);
+    put_gone(out, b'-', ruled, other);
+    put_gone(out, b'+', other, ruled);
     out.put_byte(LINE_FEED);
 }
 
@@ -179,16 +158,13 @@ pub(crate) fn put_changes(
     key: &[u8],
     n: usize,
     m: usize,
-    old: &[u8],
-    ruled: Ruled,
-    new: &[u8],
-    second: Ruled,
+    ruled: &Ruled<'_>,
+    other: &Ruled<'_>,
 )
-    requires { CodesStand old.now ruled × CodesStand new.now second }
-    ensures { Adds out.old (printed (changes key.now n m ruled.rule second.rule (codes_in old.now ruled) (codes_in new.now second))) out.new }
+    ensures { Adds out.old (printed (changes key.now n m ruled.now.rule other.now.rule (codes_in ruled.now) (codes_in other.now))) out.new }
 {
-    put_severities(out, key, n, ruled.rule, second.rule);
-    put_bounds(out, key, n, ruled.rule, second.rule);
-    put_sets(out, key, n, old, ruled, new, second);
+    put_severities(out, key, n, ruled.rule, other.rule);
+    put_bounds(out, key, n, ruled.rule, other.rule);
+    put_sets(out, key, n, ruled, other);
     put_moved(out, key, n, m, ruled.rule);
 }

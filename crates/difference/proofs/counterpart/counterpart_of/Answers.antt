@@ -10,10 +10,6 @@ use Rattle.difference.proofs.counterpart.counterpart_of.Goals as goal
 pub slice_bounds-count_of-end : goal.slice_bounds-count_of-end
 slice_bounds-count_of-end c = sym (length-take-le c.args.i c.args.own.now (omega (arith, c.requires)))
 
-pub returns : goal.returns
+pub returns-clause-is : goal.returns-clause-is
 unfolding counterpart
-returns c =
-    let own = c.args.own.now in
-    let others = c.args.others.now in
-    let i = c.args.i in
-    (c.number_of.ensures.0 ∙ ap (λ (k : ℕ). numbered 1 (get_or own i 0) k others) c.count_of-before.ensures, c.number_of.ensures.1)
+returns-clause-is c = c.number_of.ensures.is ∙ ap (λ (k : ℕ). numbered 1 (get_or c.args.own.now c.args.i 0) k c.args.others.now) c.count_of-before.ensures

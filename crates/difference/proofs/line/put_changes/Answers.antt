@@ -5,7 +5,7 @@ use Rattle.difference.proofs.line.put_changes.Goals as goal
 
 pub returns : goal.returns
 returns c =
-    let codes = codes_in c.args.old.now c.args.ruled in
-    let others = codes_in c.args.new.now c.args.second in
-    changes-written c.args.key.now c.args.n c.args.ruled.rule c.args.m c.args.second.rule codes others
+    let codes = codes_in c.args.ruled.now in
+    let others = codes_in c.args.other.now in
+    changes-written c.args.key.now c.args.n c.args.ruled.now.rule c.args.m c.args.other.now.rule codes others
     c.put_severities.ensures c.put_bounds.ensures c.put_sets.ensures c.put_moved.ensures

@@ -8,24 +8,24 @@ use Rattle.difference.proofs.Coding.{codes-found, codes_more, codes-over}
 use Rattle.difference.proofs.line.put_codes.Goals as goal
 
 pub loop-i-init : goal.loop-i-init
-loop-i-init c = let all : c.args.ruled.count - 0 ≡ c.args.ruled.count = omega arith in rw all (c.requires.stand, λ after w. w)
+loop-i-init c = let all : c.args.ruled.now.count - 0 ≡ c.args.ruled.now.count = omega arith in rw all (c.args.ruled.now.stand, λ after w. w)
 
-pub put_code-requires : goal.put_code-requires
-put_code-requires c = code_fits c.args.book.now (c.args.ruled.count - c.loop-i._i) c.loop-i.from (omega arith) c.loop-i.invariant.0
+pub text_part-requires : goal.text_part-requires
+text_part-requires c = code_fits c.args.ruled.now.book.now (c.args.ruled.now.count - c.loop-i._i) c.loop-i.from (omega arith) c.loop-i.invariant.0
 
 pub text_after-from-requires : goal.text_after-from-requires
-text_after-from-requires c = code_fits c.args.book.now (c.args.ruled.count - c.loop-i._i) c.loop-i.from (omega arith) c.loop-i.invariant.0
+text_after-from-requires c = code_fits c.args.ruled.now.book.now (c.args.ruled.now.count - c.loop-i._i) c.loop-i.from (omega arith) c.loop-i.invariant.0
 
 pub loop-i-preserved : goal.loop-i-preserved
 loop-i-preserved c =
-    let b = c.args.book.now in
-    let left = c.args.ruled.count - c.loop-i._i in
-    let one : c.args.ruled.count - (c.loop-i._i + 1) ≡ left - 1 = omega arith in
+    let b = c.args.ruled.now.book.now in
+    let left = c.args.ruled.now.count - c.loop-i._i in
+    let one : c.args.ruled.now.count - (c.loop-i._i + 1) ≡ left - 1 = omega arith in
     let from = c.loop-i.from in
     let some : 0 < left = omega arith in
     let here = c.loop-i.invariant.0 in
     let next = c.text_after-from.ensures in
-    rw one (codes-found b left from some here next, adding_more c.loop-i.invariant.1 (codes_more b left from some here next c.args.mark) c.put_code.ensures)
+    rw one (codes-found b left from some here next, adding_more c.loop-i.invariant.1 (codes_more b left from some here next c.args.mark) (rw c.text_part.ensures at c.put_code.ensures))
 
 pub returns : goal.returns
-returns c = adding_over c.loop-i.invariant.1 (codes-over c.args.book.now (c.args.ruled.count - c.loop-i._i) c.loop-i.from c.args.mark (omega arith))
+returns c = adding_over c.loop-i.invariant.1 (codes-over c.args.ruled.now.book.now (c.args.ruled.now.count - c.loop-i._i) c.loop-i.from c.args.mark (omega arith))

@@ -8,5 +8,5 @@ use Rattle.difference.proofs.Coding.{codes_from, CodesFound}
 use Rattle.difference.proofs.line.put_gone.Given as goal
 
 abbrev pub invariant-loop-i : goal.invariant-loop-i
-invariant-loop-i l = CodesFound l.book (l.fn.ruled.count - l._i) l.from
-    × Adding (marked 32 (code_words l.mark (gone (codes_from l.book l.fn.ruled.count l.fn.ruled.from) (codes_in l.other l.second)))) (marked 32 (code_words l.mark (gone (codes_from l.book (l.fn.ruled.count - l._i) l.from) (codes_in l.other l.second)))) l.initial.out l.out
+invariant-loop-i l = CodesFound l.ruled.book.now (l.ruled.count - l._i) l.from
+    × Adding (marked 32 (code_words l.mark (gone (codes_from l.ruled.book.now l.ruled.count l.ruled.from) (codes_in l.other)))) (marked 32 (code_words l.mark (gone (codes_from l.ruled.book.now (l.ruled.count - l._i) l.from) (codes_in l.other)))) l.initial.out l.out

@@ -6,14 +6,14 @@ use Rattle.difference.proofs.line.put_sets.Goals as goal
 
 pub returns-then-kept-known : goal.returns-then-kept-known
 returns-then-kept-known c =
-    let codes = codes_in c.args.old.now c.args.ruled in
-    let others = codes_in c.args.new.now c.args.second in
+    let codes = codes_in c.args.ruled.now in
+    let others = codes_in c.args.other.now in
     adds_none _
-    (codes_same c.args.key.now c.args.n c.args.ruled.rule codes others c.all_among-kept.ensures c.all_among-known.ensures c.if-kept-known.true)
+    (codes_same c.args.key.now c.args.n c.args.ruled.now.rule codes others c.all_among-kept.ensures c.all_among-known.ensures c.if-kept-known.true)
 
 pub returns : goal.returns
 returns c =
-    let codes = codes_in c.args.old.now c.args.ruled in
-    let others = codes_in c.args.new.now c.args.second in
-    codes_other c.args.key.now c.args.n c.args.ruled.rule codes others c.all_among-kept.ensures c.all_among-known.ensures c.if-kept-known.false
+    let codes = codes_in c.args.ruled.now in
+    let others = codes_in c.args.other.now in
+    codes_other c.args.key.now c.args.n c.args.ruled.now.rule codes others c.all_among-kept.ensures c.all_among-known.ensures c.if-kept-known.false
     c.put_head.ensures c.put_gone.ensures c.put_gone-2.ensures c.put_byte.ensures

@@ -1,18 +1,25 @@
 -- `difference::section::put_new_rule` meets its contract. Assumes nothing.
 use native.Mathlib.Omega.{arith}
 use Rattle.ack.proofs.Adding.{adds_none}
-use Rattle.difference.proofs.Sections.{side_length, new_known, new_come}
+use Rattle.grade.specs.Standing.{rules_in}
+use Rattle.difference.specs.Difference.{spots}
+use Rattle.difference.proofs.Sections.{new_known, new_come}
+use Rattle.canonical.proofs.PutBook.{section-holds}
 use Rattle.difference.proofs.section.put_new_rule.Goals as goal
 
-pub counterpart_of-requires : goal.counterpart_of-requires
-counterpart_of-requires c = omega (arith, side_length c.args.new.now c.args.b c.requires.0, c.requires.1)
+pub returns-in-Some : goal.returns-in-Some
+returns-in-Some c =
+    let old = c.args.old.now in
+    let new = c.args.new.now in
+    adds_none _ (new_known c.args.key.now (spots (rules_in old.book.now old.section)) new.book.now new.section c.args.i c.in-Some.ensures.is)
 
-pub returns-then-counterpart_of-ne0 : goal.returns-then-counterpart_of-ne0
-returns-then-counterpart_of-ne0 c =
-    adds_none _
-    (new_known c.args.key.now c.args.own.now c.args.new.now c.args.b c.args.i c.requires.0.are c.counterpart_of.ensures.0 c.if-counterpart_of-ne0.true)
+pub returns-in-None : goal.returns-in-None
+returns-in-None c =
+    let old = c.args.old.now in
+    let new = c.args.new.now in
+    new_come c.args.key.now (spots (rules_in old.book.now old.section)) new.book.now new.section c.args.i c.in-None.ensures.is c.ruled.ensures c.put_rule.ensures
 
-pub returns : goal.returns
-returns c =
-    new_come c.args.key.now c.args.own.now c.args.new.now c.args.b c.args.i c.requires.0.are
-    c.counterpart_of.ensures.0 c.if-counterpart_of-ne0.false c.ruled_at-ruled.ensures c.put_rule.ensures
+pub overflow_add-i : goal.overflow_add-i
+overflow_add-i c =
+    let new = c.args.new.now in
+    omega (arith, c.requires, (section-holds new.book.now new.start new.stands new.sited).few_rules)

@@ -1,25 +1,32 @@
 -- `difference::section::put_old_rule` meets its contract. Assumes nothing.
 use native.Mathlib.Omega.{arith}
-use Rattle.difference.proofs.Sections.{side_length, old_gone, old_changed}
+use Rattle.difference.proofs.Sections.{old_gone, old_changed}
+use Rattle.canonical.proofs.PutBook.{section-holds}
 use Rattle.difference.proofs.section.put_old_rule.Goals as goal
 
-pub counterpart_of-m-requires : goal.counterpart_of-m-requires
-counterpart_of-m-requires c = omega (arith, side_length c.args.old.now c.args.a c.requires.0, c.requires.2)
+pub returns-in-Some : goal.returns-in-Some
+returns-in-Some c =
+    let old = c.args.old.now in
+    let new = c.args.new.now in
+    old_changed c.args.key.now old.book.now old.section new.book.now new.section c.args.i c.ruled-ruled.ensures c.in-Some.ensures.is c.ruled.ensures c.put_changes.ensures
 
-pub returns-then-m-eq0 : goal.returns-then-m-eq0
-returns-then-m-eq0 c =
-    old_gone c.args.key.now c.args.old.now c.args.a c.args.new.now c.args.b c.args.i
-    c.requires.0.are c.requires.1.are c.counterpart_of-m.ensures.0 c.ruled_at-ruled.ensures c.if-m-eq0.true c.put_rule.ensures
+pub returns-in-None : goal.returns-in-None
+returns-in-None c =
+    let old = c.args.old.now in
+    let new = c.args.new.now in
+    old_gone c.args.key.now old.book.now old.section new.book.now new.section c.args.i c.ruled-ruled.ensures c.in-None.ensures.is c.put_rule.ensures
 
-pub ruled_at-second-requires : goal.ruled_at-second-requires
-ruled_at-second-requires c =
-    let many = side_length c.args.new.now c.args.b c.requires.1 in
-    (c.requires.1.holds, c.requires.1.placed, omega (arith, many, c.counterpart_of-m.ensures.1, c.if-m-eq0.false))
+pub overflow_add-i : goal.overflow_add-i
+overflow_add-i c =
+    let old = c.args.old.now in
+    omega (arith, c.requires, (section-holds old.book.now old.start old.stands old.sited).few_rules)
 
-pub overflow_add-i-else-m-eq0 : goal.overflow_add-i-else-m-eq0
-overflow_add-i-else-m-eq0 c = omega (arith, c.requires.0.holds.few_rules, c.requires.2)
+pub overflow_add-m : goal.overflow_add-m
+overflow_add-m c =
+    let new = c.args.new.now in
+    omega (arith, c.in-Some.ensures.inside, (section-holds new.book.now new.start new.stands new.sited).few_rules)
 
-pub returns-else-m-eq0 : goal.returns-else-m-eq0
-returns-else-m-eq0 c =
-    old_changed c.args.key.now c.args.old.now c.args.a c.args.new.now c.args.b c.args.i
-    c.requires.0.are c.requires.1.are c.counterpart_of-m.ensures.0 c.ruled_at-ruled.ensures c.if-m-eq0.false c.ruled_at-second.ensures c.put_changes.ensures
+pub overflow_add-i-in-None : goal.overflow_add-i-in-None
+overflow_add-i-in-None c =
+    let old = c.args.old.now in
+    omega (arith, c.requires, (section-holds old.book.now old.start old.stands old.sited).few_rules)
