@@ -6,11 +6,15 @@ use Prim.Native.Nat.{ℕ, zero, suc, ◌+◌, ◌-◌, ◌≤◌, ◌<◌, max}
 use native.Mathlib.Numerals.{add-one}
 use native.Mathlib.Nat.{le_of_eq, not-suc-le-zero, le_of_suc-le-suc, add-zero, sub-zero}
 use native.Mathlib.Omega.{arith}
+use native.Mathlib.Decide.{ℕ_discrete}
 use lib.Dec.{eqb}
 use lib.ListN.{length, get_or, take, drop, length-drop, drop_of_length-le}
 use lib.Seq.{drop-cons, get_or-drop, take_all, drop-length, take-nil, slice}
 use borrow.Author.Tests.{eq-eqb, ne_eqb, eqb-true, eqb-false, not-true}
+use Rattle.std.specs.Cmp.Lexicographic.{pointwise}
 use Rattle.std.specs.Int.{from_bool}
+use Rattle.std.specs.List.{starts_with}
+use Rattle.std.specs.Prelude.{nat_eq}
 use Rattle.hl7.specs.Bytes.{is_in, distinct, all, same, among, begins}
 use Rattle.hl7.specs.Spans.{occurrences}
 
@@ -22,10 +26,6 @@ rest_at v i h = rw (add-one, drop-cons v i 0)
 -- the part `&v[from..n]` up to the end n is what is left at `from`
 pub tail-whole : (v : List ℕ) (from : ℕ) → take (length v - from) (drop from v) ≡ drop from v
 tail-whole v from = take_all (length v - from) (drop from v) (le_of_eq (length-drop from v))
-
--- the part `&v[n..n]` at the end n is what is left at any place past the end
-pub tail-past : (v : List ℕ) (from : ℕ) → length v ≤ from → take (length v - length v) (drop (length v) v) ≡ drop from v
-tail-past v from h = rw (drop-length v, drop_of_length-le v h) (take-nil (length v - length v))
 
 -- a list without elements is empty
 pub none_of : (l : List ℕ) → length l ≤ 0 → l ≡ []
@@ -158,27 +158,20 @@ distinct_one (n ∷ l) (suc j) zero e h g same = absurd (not_in n l j (not-true 
 distinct_one (n ∷ l) (suc j) (suc k) e h g same = ap suc (distinct_one l j k (and_both (not (is_in n l)) (distinct l) e).1 (omega arith) (omega arith) same)
 
 -- ---- the same bytes
+-- what `==` says of two slices
+pub same_slices : (v w : List ℕ) → pointwise nat_eq v w ≡ same v w
+unfolding same
+same_slices [] [] = refl
+same_slices [] (y ∷ w) = refl
+same_slices (x ∷ v) [] = refl
+same_slices (x ∷ v) (y ∷ w) = ap (λ (t : Bool). eqb x y && t) (same_slices v w)
+
 pub same_lengths : (v w : List ℕ) → (length v ≡ length w → ⊥) → same v w ≡ false
 unfolding same
 same_lengths [] [] h = absurd (h refl)
 same_lengths [] (y ∷ w) h = refl
 same_lengths (x ∷ v) [] h = refl
 same_lengths (x ∷ v) (y ∷ w) h = ap (λ (t : Bool). eqb x y && t) (same_lengths v w (λ e. h (ap suc e))) ∙ and-false (eqb x y)
-
-module _ (v w : List ℕ) (i : ℕ) where
-  same_step : i < length v → i < length w → same (drop i v) (drop i w) ≡ (eqb (get_or v i 0) (get_or w i 0) && same (drop (i + 1) v) (drop (i + 1) w))
-  unfolding same
-  same_step h k = ap₂ same (rest_at v i h) (rest_at w i k)
-
-  pub same_more : i < length v → i < length w → get_or v i 0 ≡ get_or w i 0 → same (drop i v) (drop i w) ≡ same (drop (i + 1) v) (drop (i + 1) w)
-  same_more h k e = rw (same_step h k, eq-eqb (get_or v i 0) (get_or w i 0) e)
-
-  pub same_stop : i < length v → i < length w → (get_or v i 0 ≡ get_or w i 0 → ⊥) → same (drop i v) (drop i w) ≡ false
-  same_stop h k e = rw (same_step h k, ne_eqb (get_or v i 0) (get_or w i 0) e)
-
-  pub same_none : length v ≤ i → length w ≤ i → same (drop i v) (drop i w) ≡ true
-  unfolding same
-  same_none h k = ap₂ same (drop_of_length-le v h) (drop_of_length-le w k)
 
 -- equal bytes are the same, and the same bytes are equal
 pub same_self : (v : List ℕ) → same v v ≡ true
@@ -229,22 +222,19 @@ among-append c (d ∷ cs) ds = by (same c d) (among-append c cs ds)
     by false ih = ih
 
 -- ---- beginnings
-module _ (p s : List ℕ) (i : ℕ) where
-  pub begins-none : length p ≤ i → begins (drop i p) (drop i s) ≡ true
-  unfolding begins
-  begins-none h = rw (drop_of_length-le p h)
+eqb_sym : (a b : ℕ) → eqb a b ≡ eqb b a
+eqb_sym a b = by (ℕ_discrete a b)
+  where
+    by : Dec (a ≡ b) → eqb a b ≡ eqb b a
+    by (yes e) = rw (eq-eqb a b e, eq-eqb b a (sym e))
+    by (no other) = rw (ne_eqb a b other, ne_eqb b a (λ e. other (sym e)))
 
-  pub begins-short : i < length p → length s ≤ i → begins (drop i p) (drop i s) ≡ false
-  unfolding begins
-  begins-short h g = rw (drop-cons p i 0 h, drop_of_length-le s g)
-
-  pub begins_stop : i < length p → i < length s → (get_or s i 0 ≡ get_or p i 0 → ⊥) → begins (drop i p) (drop i s) ≡ false
-  unfolding begins
-  begins_stop h g n = rw (drop-cons p i 0 h, drop-cons s i 0 g, ne_eqb (get_or s i 0) (get_or p i 0) n)
-
-  pub begins_more : i < length p → i < length s → get_or s i 0 ≡ get_or p i 0 → begins (drop i p) (drop i s) ≡ begins (drop (i + 1) p) (drop (i + 1) s)
-  unfolding begins
-  begins_more h g e = rw (add-one, drop-cons p i 0 h, drop-cons s i 0 g, eq-eqb (get_or s i 0) (get_or p i 0) e)
+-- what `starts_with` says of two slices
+pub begins_slice : (p s : List ℕ) → starts_with nat_eq s p ≡ begins p s
+unfolding begins
+begins_slice [] s = refl
+begins_slice (x ∷ p) [] = refl
+begins_slice (x ∷ p) (y ∷ s) = ap₂ ◌&&◌ (eqb_sym x y) (begins_slice p s)
 
 -- what begins with p is as long as p at least
 pub begins-long : (p s : List ℕ) → begins p s ≡ true → length p ≤ length s

@@ -2,14 +2,14 @@
 -- Assumes nothing.
 use mathlib.Core.Path.{◌≡◌, refl, sym, ap, ap₂, subst⁻¹, ◌∙◌}
 use mathlib.Core.Bool.{Bool, true, false, cond, true≢false}
-use mathlib.Core.List.{List, [], ◌∷◌}
+use mathlib.Core.List.{List, [], ◌∷◌, ◌++◌}
 use Prim.Native.Nat.{ℕ, zero, suc, ◌+◌, ◌-◌, ◌≤◌, ◌<◌}
 use native.Mathlib.Omega.{arith}
 use native.Mathlib.Nat.{add-zero, add-sub_cancel_left}
 use native.Mathlib.Decide.{dec_lt, ℕ_discrete}
 use native.Mathlib.Numerals.{add-one, unary_clauses}
-use lib.ListN.{length, get_or, take, drop, length-take, length-drop, drop_of_length-le}
-use lib.Seq.{drop-cons, drop-drop, take_all, take-take, take-nil}
+use lib.ListN.{length, get_or, take, drop, length-append, length-take, length-drop, drop_of_length-le}
+use lib.Seq.{drop-cons, drop-drop, drop_at, take_all, take_at, take-take, take-nil}
 use lib.Dec.{eqb}
 use borrow.Author.Tests.{eq-eqb, ne_eqb, eqb-true, not-true}
 use Rattle.hl7.specs.Cut.{ahead, cut, part_at, end_from, start_at, Piece, piece_at, missing}
@@ -170,6 +170,17 @@ module _ (d : ℕ) (s : List ℕ) (at : ℕ) {k end : ℕ} (found : end ≡ end_
       let one_more : k ≡ suc (k - 1) = omega arith in
       let alone = parts_last d s at (omega arith) in
       ap (piece_from d s at) one_more ∙ piece_eq (rw alone (omega (arith, length-drop at s))) (rw alone)
+
+-- ---- a block that comes off what is left at `at`
+module _ (s block rest : List ℕ) (at n : ℕ) (left : drop at s ≡ block ++ rest) (size : length block ≡ n) where
+  pub block_at : between s at (at + n) ≡ block
+  block_at = rw (add-sub_cancel_left at n, left) (take_at block rest n size)
+
+  pub block-rest : rest ≡ drop (at + n) s
+  block-rest = sym (drop_at block rest n size) ∙ ap (drop n) (sym left) ∙ drop-drop n at s
+
+  pub block_within : 0 < n → at + n ≤ length s
+  block_within h = omega (arith, ap length left, length-append block rest, length-drop at s, size)
 
 -- ---- block by block: what the bytes of a block say of the part that begins at i, or of a later one
 between_more : (s : List ℕ) (i n : ℕ) → i + suc n ≤ length s → between s i (i + suc n) ≡ get_or s i 0 ∷ between s (i + 1) (i + 1 + n)

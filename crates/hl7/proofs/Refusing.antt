@@ -11,6 +11,7 @@ use native.Mathlib.Decide.{dec_le}
 use lib.Dec.{eqb}
 use lib.ListN.{length, get_or, drop, length-drop, drop_of_length-le}
 use borrow.Author.Tests.{eq-eqb, ne_eqb, lt-ltb, le-ltb, eqb-true, ltb-false, not-false}
+use Rattle.std.specs.List.{position_from}
 use Rattle.std.specs.Prelude.{Option, Some, None, Result, Ok, Err, is_ok}
 use Rattle.hl7.specs.declared.place.Delims.{Delims}
 use Rattle.hl7.specs.declared.refusal.Unreadable.{Unreadable}
@@ -141,18 +142,16 @@ position_none n [] rows e = refl
 position_none n (x ∷ l) rows e = let z : ◌≡◌ {A = ℕ} 0 1 = cc in absurd (omega arith)
 
 -- ---- wrong bytes
-module _ (m : List ℕ) (i : ℕ) where
-  pub byte-right : i < length m → allowed (get_or m i 0) ≡ true → wrong_bytes i (drop i m) ≡ wrong_bytes (i + 1) (drop (i + 1) m)
-  unfolding wrong_bytes
-  byte-right h t = ap (wrong_bytes i) (rest_at m i h) ∙ rw (t, add-one i)
-
-  pub byte_wrong : i < length m → allowed (get_or m i 0) ≡ false → first_of (wrong_bytes i (drop i m)) ≡ Some i
-  unfolding wrong_bytes
-  byte_wrong h t = ap (λ (l : List ℕ). first_of (wrong_bytes i l)) (rest_at m i h) ∙ rw t
-
-  pub bytes-over : length m ≤ i → wrong_bytes i (drop i m) ≡ []
-  unfolding wrong_bytes
-  bytes-over h = ap (wrong_bytes i) (drop_of_length-le m h)
+-- the position of the first byte that is not allowed
+pub first_position : (at : ℕ) (m : List ℕ) → position_from (λ x. not (allowed x)) at m ≡ first_of (wrong_bytes at m)
+unfolding wrong_bytes
+first_position at [] = refl
+first_position at (x ∷ m) = by (allowed x) (ap (λ (k : ℕ). position_from (λ y. not (allowed y)) k m) (add-one at) ∙ first_position (suc at) m)
+  where
+    by : (b : Bool) → position_from (λ y. not (allowed y)) (at + 1) m ≡ first_of (wrong_bytes (suc at) m)
+        → cond (not b) (Some at) (position_from (λ y. not (allowed y)) (at + 1) m) ≡ first_of (cond b (wrong_bytes (suc at) m) (at ∷ wrong_bytes (suc at) m))
+    by true ih = ih
+    by false ih = refl
 
 pub all_right : (m : List ℕ) (at : ℕ) → all allowed m ≡ true → wrong_bytes at m ≡ []
 unfolding all wrong_bytes

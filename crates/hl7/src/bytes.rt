@@ -42,60 +42,33 @@ pub fn is_within(b: u8, low: u8, high: u8) -> bool
 pub fn byte_at(v: &[u8], at: usize) -> u8
     ensures { result ≡ get_or v.now at 0 }
 {
-    if at < v.len() {
-        return v[at];
-    }
-    0
+    v.get(at).copied().unwrap_or(0)
 }
 
 // All bytes from a position on.
 pub fn after(v: &[u8], from: usize) -> &[u8]
     ensures { result.now ≡ drop from v.now }
 {
-    let n = v.len();
-    if from <= n { &v[from..n] } else { &v[n..n] }
+    &v[from.min(v.len())..]
 }
 
 // The first so many bytes.
 pub fn front(v: &[u8], count: usize) -> &[u8]
     ensures { result.now ≡ take count v.now }
 {
-    if count <= v.len() {
-        return &v[..count];
-    }
-    v
+    &v[..count.min(v.len())]
 }
 
 // Whether two slices hold the same bytes.
 pub fn same_bytes(v: &[u8], w: &[u8]) -> bool
     ensures { result ≡ same v.now w.now }
 {
-    if v.len() != w.len() {
-        return false;
-    }
-    let mut i: usize = 0;
-    while i < v.len() {
-        if v[i] != w[i] {
-            return false;
-        }
-        i += 1;
-    }
-    true
+    v == w
 }
 
 // Whether s begins with the bytes p.
 pub fn begins_with(s: &[u8], p: &[u8]) -> bool
     ensures { result ≡ begins p.now s.now }
 {
-    let mut i = 0;
-    while i < p.len() {
-        if s.len() <= i {
-            return false;
-        }
-        if s[i] != p[i] {
-            return false;
-        }
-        i += 1;
-    }
-    true
+    s.starts_with(p)
 }

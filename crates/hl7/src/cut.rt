@@ -4,7 +4,7 @@ ghost use Rattle.hl7.specs.Bytes.{all, differs};
 ghost use Rattle.hl7.specs.Cut.{cut, end_from, piece_at};
 ghost use Rattle.hl7.specs.Spans.{Spans, piece_from, occurrences};
 
-use crate::bytes::wide;
+use crate::bytes::after;
 
 // Bytes that are looked at together.
 const BLOCK: usize = 16;
@@ -23,14 +23,12 @@ pub struct Span {
 pub fn find(s: &[u8], d: u8, from: usize) -> usize
     ensures { result ≡ end_from d s.now from }
 {
-    let mut i = from;
-    while i < s.len() {
+    for i in from..s.len() {
         if s[i] == d {
             return i;
         }
-        i += 1;
     }
-    i
+    from.max(s.len())
 }
 
 // Whether no byte of v is d: no early exit, so that many bytes are looked at together.
@@ -38,10 +36,8 @@ pub fn none_is(v: &[u8], d: u8) -> bool
     ensures { result ≡ all (differs d) v.now }
 {
     let mut none = true;
-    let mut i = 0;
-    while i < v.len() {
-        none = none & (v[i] != d);
-        i += 1;
+    for x in v {
+        none &= *x != d;
     }
     none
 }
@@ -50,18 +46,14 @@ pub fn none_is(v: &[u8], d: u8) -> bool
 fn pass_clear(s: &[u8], d: u8, from: usize) -> usize
     ensures { end_from d s.now from ≡ end_from d s.now result }
 {
-    let mut i = from;
-    while i < s.len() {
-        if s.len() - i < BLOCK {
-            return i;
+    let mut at = from;
+    for block in after(s, from).chunks_exact(BLOCK) {
+        if !none_is(block, d) {
+            return at;
         }
-        let end = i + BLOCK;
-        if !none_is(&s[i..end], d) {
-            return i;
-        }
-        i = end;
+        at += BLOCK;
     }
-    i
+    at
 }
 
 // As find, for parts that are long: block by block first.
@@ -77,10 +69,8 @@ fn count_in(v: &[u8], d: u8) -> u8
     ensures { result ≡ occurrences d v.now }
 {
     let mut n: u8 = 0;
-    let mut i = 0;
-    while i < v.len() {
-        n += u8::from(v[i] == d);
-        i += 1;
+    for x in v {
+        n += u8::from(*x == d);
     }
     n
 }
@@ -96,21 +86,16 @@ struct Left {
 fn pass_parts(s: &[u8], d: u8, k: usize) -> Left
     ensures { (result.at ≤ length s.now) × (piece_at (cut d s.now) k ≡ piece_from d s.now result.at result.parts) }
 {
-    let mut at = 0;
-    let mut left = k;
-    while at < s.len() {
-        if s.len() - at < COUNTED {
-            return Left { at, parts: left };
+    let mut left = Left { at: 0, parts: k };
+    for block in s.chunks_exact(COUNTED) {
+        let n = usize::from(count_in(block, d));
+        if left.parts <= n {
+            return left;
         }
-        let end = at + COUNTED;
-        let n = wide(count_in(&s[at..end], d));
-        if left <= n {
-            return Left { at, parts: left };
-        }
-        left -= n;
-        at = end;
+        left.parts -= n;
+        left.at += COUNTED;
     }
-    Left { at, parts: left }
+    left
 }
 
 // Part k of s cut at d, counted from 0; what is missing stands at the end of s.
@@ -120,14 +105,12 @@ pub(crate) fn part(s: &[u8], d: u8, k: usize) -> Span
     let n = s.len();
     let passed = pass_parts(s, d, k);
     let mut start = passed.at;
-    let mut left = passed.parts;
-    while 0 < left {
+    for _ in 0..passed.parts {
         let end = find(s, d, start);
         if n <= end {
             return Span { start: n, end: n };
         }
         start = end + 1;
-        left -= 1;
     }
     Span {
         start,

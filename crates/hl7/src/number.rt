@@ -48,11 +48,9 @@ pub fn read_digits(text: &[u8]) -> Digits
 {
     let mut all = true;
     let mut value = 0;
-    let mut i = 0;
-    while i < text.len() {
-        all = all & is_within(text[i], b'0', b'9');
-        value = with_digit(value, text[i]);
-        i += 1;
+    for x in text {
+        all &= is_within(*x, b'0', b'9');
+        value = with_digit(value, *x);
     }
     Digits { all, value }
 }

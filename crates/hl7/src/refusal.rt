@@ -33,10 +33,8 @@ fn all_allowed(m: &[u8]) -> bool
     ensures { result ≡ all allowed m.now }
 {
     let mut every = true;
-    let mut i = 0;
-    while i < m.len() {
-        every = every & is_allowed(m[i]);
-        i += 1;
+    for x in m {
+        every &= is_allowed(*x);
     }
     every
 }
@@ -45,14 +43,7 @@ fn all_allowed(m: &[u8]) -> bool
 fn first_wrong_byte(m: &[u8]) -> Option<usize>
     ensures { result ≡ first_of (wrong_bytes 0 m.now) }
 {
-    let mut i = 0;
-    while i < m.len() {
-        if !is_allowed(m[i]) {
-            return Some(i);
-        }
-        i += 1;
-    }
-    None
+    m.iter().position(|x| !is_allowed(*x))
 }
 
 // The first byte that is not allowed; it is looked for only where there is one.

@@ -1,26 +1,27 @@
 -- `hl7::cut::pass_parts` meets its contract, by the invariant that stands beside this. Assumes nothing.
-use mathlib.Core.Path.{◌∙◌}
+use mathlib.Core.Path.{sym, ap, ◌∙◌}
 use native.Mathlib.Omega.{arith}
-use lib.ListN.{length-take, length-drop}
-use Rattle.hl7.proofs.Cutting.{piece_from-start, piece_past}
+use Rattle.std.proofs.Common.{rules}
+use Rattle.hl7.specs.Spans.{occurrences}
+use Rattle.hl7.proofs.Cutting.{block_at, block-rest, block_within, piece_from-start, piece_past}
 use Rattle.hl7.proofs.cut.pass_parts.Goals as goal
 
-pub loop-at-init : goal.loop-at-init
-loop-at-init c = (omega arith, piece_from-start _ _ _)
+pub loop-block-init : goal.loop-block-init
+loop-block-init c = (search rules, search rules, omega arith, piece_from-start _ _ _)
 
-pub returns-then-s-at-lt-COUNTED : goal.returns-then-s-at-lt-COUNTED
-returns-then-s-at-lt-COUNTED c = c.loop-at.invariant
-
-pub count_in-requires : goal.count_in-requires
-count_in-requires c = simp (length-take, length-drop) (omega arith)
-
-pub returns-then-left-n : goal.returns-then-left-n
-returns-then-left-n c = c.loop-at.invariant
-
-pub loop-at-preserved : goal.loop-at-preserved
-loop-at-preserved c =
-    let args = c.args in
-    (omega arith, c.loop-at.invariant.1 ∙ piece_past args.d args.s.now 64 c.loop-at.at c.loop-at.left _ (omega arith) (c.wide-n.ensures.0 ∙ c.count_in.ensures) c.if-left-n.false)
-
-pub returns : goal.returns
-returns c = c.loop-at.invariant
+pub loop-block-preserved : goal.loop-block-preserved
+loop-block-preserved c =
+    let a = c.args in
+    let s = a.s.now in
+    let l = c.loop-block in
+    let at = l.left.at in
+    let next = c.in-Some.ensures.steps in
+    let left = sym l.invariant.0 ∙ next.1.0 in
+    let size = next.1.1 ∙ l.invariant.1 in
+    let within = block_within s _ _ at 64 left size (omega arith) in
+    let counted = c.from-n.ensures ∙ c.count_in.ensures ∙ ap (occurrences a.d) (sym (block_at s _ _ at 64 left size)) in (
+      block-rest s _ _ at 64 left size,
+      next.0 ∙ l.invariant.1,
+      within,
+      l.invariant.3 ∙ piece_past a.d s 64 at l.left.parts _ within counted c.if-left-n.false,
+    )

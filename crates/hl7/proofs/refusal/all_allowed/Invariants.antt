@@ -2,14 +2,10 @@
 -- Assumes nothing.
 use mathlib.Core.Path.{◌≡◌}
 use mathlib.Core.Bool.{◌&&◌}
-use Prim.Native.Nat.{◌-◌}
-use lib.ListN.{length, drop}
+use lib.ListN.{drop}
 use Rattle.hl7.specs.Bytes.{all}
 use Rattle.hl7.specs.Refusals.{allowed}
 use Rattle.hl7.proofs.refusal.all_allowed.Given as goal
 
-abbrev pub invariant-loop-i : goal.invariant-loop-i
-invariant-loop-i l = all allowed l.m ≡ l.every && all allowed (drop l.i l.m)
-
-abbrev pub decreases-loop-i : goal.decreases-loop-i
-decreases-loop-i l = length l.m - l.i
+abbrev pub invariant-loop-x : goal.invariant-loop-x
+invariant-loop-x l = all allowed l.m ≡ l.every && all allowed (drop l.x-index l.m)

@@ -1,24 +1,16 @@
--- `hl7::refusal::first_wrong_byte` meets its contract, by the invariant that stands beside this. Assumes nothing.
-use mathlib.Core.Path.{refl, sym, ap, ◌∙◌}
-use native.Mathlib.Omega.{arith}
-use Rattle.hl7.specs.Refusals.{first_of}
-use Rattle.hl7.proofs.Refusing.{byte-right, byte_wrong, bytes-over}
+-- `hl7::refusal::first_wrong_byte` meets its contract: the first position that is not allowed is the first of the wrong ones. Assumes nothing.
+use mathlib.Core.Path.{◌∙◌}
+use mathlib.Core.Bool.{not}
+use borrow.Author.Tests.{tests}
+use Rattle.std.proofs.Common.{rules}
+use Rattle.std.proofs.lemmas.Iterator.{YieldsList-from_slice}
+use Rattle.std.proofs.lemmas.Iterator.Adapters.{position_from-zero}
+use Rattle.std.proofs.lemmas.Iterator.Search.{position_from_yields_List}
+use Rattle.hl7.specs.Refusals.{allowed}
+use Rattle.hl7.proofs.Refusing.{first_position}
 use Rattle.hl7.proofs.refusal.first_wrong_byte.Goals as goal
-
-pub loop-i-init : goal.loop-i-init
-loop-i-init c = refl
-
-pub returns-then-not-is_allowed : goal.returns-then-not-is_allowed
-returns-then-not-is_allowed c =
-    let m = c.args.m.now in
-    cc (byte_wrong m c.loop-i.i (omega arith) (sym c.is_allowed.ensures ∙ c.if-not-is_allowed.true))
-
-pub loop-i-preserved : goal.loop-i-preserved
-loop-i-preserved c =
-    let m = c.args.m.now in
-    c.loop-i.invariant ∙ byte-right m c.loop-i.i (omega arith) (sym c.is_allowed.ensures ∙ c.if-not-is_allowed.false)
 
 pub returns : goal.returns
 returns c =
     let m = c.args.m.now in
-    sym (ap first_of (c.loop-i.invariant ∙ bytes-over m c.loop-i.i c.loop-i-test.false))
+    position_from_yields_List (λ x. not (allowed x)) _ _ _ c.position.ensures.ran (YieldsList-from_slice m cc) (λ x b q k. search (rules, tests)) ∙ position_from-zero _ m ∙ first_position 0 m
