@@ -318,15 +318,18 @@ between-inside s a e b f h =
     let size : a + f - (a + b) ≡ f - b = omega arith in
     rw (drop-take b (e - a) (drop a s), take-take (f - b) (e - a - b) (drop b (drop a s)) (omega arith), drop-drop b a s, size)
 
-pub spans_inside : {s : List ℕ} {outer inner : Span} {p : Piece} (f : List ℕ → Piece) → Spans s p outer → Spans (between s outer.start outer.end) (f (between s outer.start outer.end)) inner → Spans s (inside p f) (record { start = outer.start + inner.start; end = outer.start + inner.end })
-spans_inside {s} {outer} {inner} {p} f o i =
-    let fits : outer.start + inner.end ≤ outer.end = omega (arith, spans_length o, i.inside, o.forward) in
-    record {
-      start = ap₂ ◌+◌ o.start (i.start ∙ ap (λ (l : List ℕ). (f l).start) o.bytes);
-      bytes = sym (between-inside s outer.start outer.end inner.start inner.end fits) ∙ i.bytes ∙ ap (λ (l : List ℕ). (f l).bytes) o.bytes;
-      forward = omega (arith, i.forward);
-      inside = omega (arith, o.inside);
-    }
+module _ {s : List ℕ} {outer inner : Span} {p : Piece} (f : List ℕ → Piece) (o : Spans s p outer) (i : Spans (between s outer.start outer.end) (f (between s outer.start outer.end)) inner) where
+  spans_fit : (inner.start ≤ inner.end) × (outer.start + inner.end ≤ outer.end)
+  spans_fit = (i.forward, omega (arith, spans_length o, i.inside, o.forward))
+
+  pub spans_inside : {r : Span} → (r.start ≡ outer.start + inner.start) × (r.end ≡ outer.start + inner.end) → Spans s (inside p f) r
+  spans_inside {r} is =
+      record {
+        start = is.0 ∙ ap₂ ◌+◌ o.start (i.start ∙ ap (λ (l : List ℕ). (f l).start) o.bytes);
+        bytes = ap₂ (between s) is.0 is.1 ∙ sym (between-inside s outer.start outer.end inner.start inner.end spans_fit.1) ∙ i.bytes ∙ ap (λ (l : List ℕ). (f l).bytes) o.bytes;
+        forward = omega (arith, is.0, is.1, i.forward);
+        inside = omega (arith, is.1, o.inside, spans_fit.1);
+      }
 
 -- a span is fixed by the piece
 pub spans_one : {s : List ℕ} {p : Piece} {r q : Span} → Spans s p r → Spans s p q → r ≡ q

@@ -12,7 +12,7 @@ use lib.Dec.{eqb}
 use lib.ListN.{length, get_or, drop, length-drop, drop_of_length-le}
 use borrow.Author.Tests.{eq-eqb, ne_eqb, lt-ltb, le-ltb, eqb-true, ltb-false, not-false}
 use Rattle.std.specs.List.{position_from}
-use Rattle.std.specs.Prelude.{Option, Some, None, Result, Ok, Err, is_ok}
+use Rattle.std.specs.Prelude.{Some, None, Result, Ok, Err, is_ok}
 use Rattle.hl7.specs.declared.place.Delims.{Delims}
 use Rattle.hl7.specs.declared.refusal.Unreadable.{Unreadable}
 use Rattle.hl7.specs.declared.refusal.Unreadable.TheVariants.{Empty, TooLong, WrongByte, NoHeader, WrongSegment}
@@ -23,7 +23,7 @@ use Rattle.hl7.specs.Place.{delims_of, carriage_return, segments_of, segment_of,
 use Rattle.hl7.specs.Delimiters.{opens}
 use Rattle.hl7.specs.Spans.{between}
 use Rattle.hl7.specs.Refusals.{Told, told, Row, row, row_at, first_row, passes, numbers_of, apart, holds_at, First, message_limit, allowed, wrong_bytes, has_form, wrong_segments, form_rows, message_rows, first_of, is_some, reading_told, reading_of, is_sound, located}
-use Rattle.hl7.proofs.Comparing.{rest_at, none_of, and_both, distinct_one}
+use Rattle.hl7.proofs.Comparing.{none_of, and_both, distinct_one}
 use Rattle.hl7.proofs.Cutting.{first, first-at, first-begins, cut-some, parts_more, parts_last}
 use Rattle.hl7.proofs.Delimiting.{Delimiting, opens-begins, opens_delimiting}
 use Rattle.hl7.proofs.Walking.{ended_same}

@@ -1,5 +1,5 @@
 // Cutting bytes at a delimiter: where a part ends, and one part by its number.
-ghost use Rattle.std.specs.Prelude.{◌≡◌, ◌≤◌, length};
+ghost use Rattle.std.specs.Prelude.{◌≡◌, ◌+◌, ◌≤◌, length};
 ghost use Rattle.hl7.specs.Bytes.{all, differs};
 ghost use Rattle.hl7.specs.Cut.{cut, end_from, piece_at};
 ghost use Rattle.hl7.specs.Spans.{Spans, piece_from, occurrences};
@@ -17,6 +17,19 @@ const COUNTED: usize = 64;
 pub struct Span {
     pub start: usize,
     pub end: usize,
+}
+
+impl Span {
+    // Where a part of what stands here stands in the bytes that hold it all.
+    pub(crate) fn of_part(self, part: Span) -> Span
+        requires { (part.start ≤ part.end) × (self.start + part.end ≤ self.end) }
+        ensures { (result.start ≡ self.start + part.start) × (result.end ≡ self.start + part.end) }
+    {
+        Span {
+            start: self.start + part.start,
+            end: self.start + part.end,
+        }
+    }
 }
 
 // Where the part that begins at from ends: at the first d there, or at the end of s.

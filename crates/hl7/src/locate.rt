@@ -27,8 +27,6 @@ pub fn locate_span(
 pub fn locate(m: &[u8], segment: usize, field: usize, repetition: usize, component: usize) -> &[u8]
     ensures { Lies m.entry result (located m.now segment field repetition component) }
 {
-    let span = locate_span(m, segment, field, repetition, component);
-    let start = span.start;
-    let end = span.end;
-    &m[start..end]
+    let at = locate_span(m, segment, field, repetition, component);
+    &m[at.start..at.end]
 }

@@ -96,9 +96,7 @@ pub fn segment(m: &[u8], n: usize) -> &[u8]
     ensures { Lies m.entry result (segment_of m.now n) }
 {
     let at = segment_span(m, n);
-    let start = at.start;
-    let end = at.end;
-    &m[start..end]
+    &m[at.start..at.end]
 }
 
 // Which part of a segment a field is: none, the bar after the name MSH, or a part by its number.
@@ -158,17 +156,15 @@ pub fn note_fields(d: Delims, seg: &[u8], starts: &mut [usize]) -> usize
     }
     let room = size - 1;
     let mut at = 0;
-    let mut k = 0;
-    while k < room {
+    for k in 0..room {
         starts[k] = at;
         if n < at {
             return k;
         }
         at = find(seg, d.bar, at) + 1;
-        k += 1;
     }
-    starts[k] = at;
-    k
+    starts[room] = at;
+    room
 }
 
 // Part k of a segment whose parts are noted; what is missing stands at the segment's end.
@@ -217,9 +213,7 @@ pub fn noted_field<'a, 'b>(
     ensures { Lies seg.entry result (field_of d seg.now f) }
 {
     let at = noted_field_span(d, seg, msh, starts, count, f);
-    let start = at.start;
-    let end = at.end;
-    &seg[start..end]
+    &seg[at.start..at.end]
 }
 
 // Where repetition r of a field stands.
@@ -234,9 +228,7 @@ pub fn repetition(d: Delims, fld: &[u8], whole: bool, r: usize) -> &[u8]
     ensures { Lies fld.entry result (repetition_of d whole fld.now r) }
 {
     let at = repetition_span(d, fld, whole, r);
-    let start = at.start;
-    let end = at.end;
-    &fld[start..end]
+    &fld[at.start..at.end]
 }
 
 // Where component c of a repetition stands; 0 is the repetition.
@@ -257,9 +249,7 @@ pub fn component(d: Delims, rep: &[u8], whole: bool, c: usize) -> &[u8]
     ensures { Lies rep.entry result (component_of d whole rep.now c) }
 {
     let at = component_span(d, rep, whole, c);
-    let start = at.start;
-    let end = at.end;
-    &rep[start..end]
+    &rep[at.start..at.end]
 }
 
 // Where component c of repetition r of a field stands.
@@ -267,13 +257,7 @@ fn in_field(d: Delims, fld: &[u8], whole: bool, r: usize, c: usize) -> Span
     ensures { Spans fld.now (in_field d whole fld.now r c) result }
 {
     let rep = repetition_span(d, fld, whole, r);
-    let start = rep.start;
-    let end = rep.end;
-    let inner = component_span(d, &fld[start..end], whole, c);
-    Span {
-        start: start + inner.start,
-        end: start + inner.end,
-    }
+    rep.of_part(component_span(d, &fld[rep.start..rep.end], whole, c))
 }
 
 // Where field f, repetition r, component c of a segment stands.
@@ -282,13 +266,7 @@ fn in_segment(d: Delims, seg: &[u8], f: usize, r: usize, c: usize) -> Span
 {
     let whole = never_cut(seg, f);
     let fld = field_span(d, seg, f);
-    let start = fld.start;
-    let end = fld.end;
-    let inner = in_field(d, &seg[start..end], whole, r, c);
-    Span {
-        start: start + inner.start,
-        end: start + inner.end,
-    }
+    fld.of_part(in_field(d, &seg[fld.start..fld.end], whole, r, c))
 }
 
 // Where segment n, field f, repetition r, component c of any bytes stands.
@@ -296,11 +274,5 @@ pub(crate) fn in_message(d: Delims, m: &[u8], n: usize, f: usize, r: usize, c: u
     ensures { Spans m.now (place d m.now n f r c) result }
 {
     let seg = segment_span(m, n);
-    let start = seg.start;
-    let end = seg.end;
-    let inner = in_segment(d, &m[start..end], f, r, c);
-    Span {
-        start: start + inner.start,
-        end: start + inner.end,
-    }
+    seg.of_part(in_segment(d, &m[seg.start..seg.end], f, r, c))
 }

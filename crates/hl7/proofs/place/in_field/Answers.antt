@@ -7,4 +7,4 @@ pub returns : goal.returns
 unfolding in_field
 returns c =
     let a = c.args in
-    spans_inside (λ rep. component_of a.d a.whole rep a.c) c.repetition_span-rep.ensures c.component_span-inner.ensures
+    spans_inside (λ rep. component_of a.d a.whole rep a.c) c.repetition_span-rep.ensures c.component_span.ensures c.of_part.ensures

@@ -7,4 +7,4 @@ pub returns : goal.returns
 unfolding place
 returns c =
     let a = c.args in
-    spans_inside (λ seg. in_segment a.d seg a.f a.r a.c) c.segment_span-seg.ensures c.in_segment-inner.ensures
+    spans_inside (λ seg. in_segment a.d seg a.f a.r a.c) c.segment_span-seg.ensures c.in_segment.ensures c.of_part.ensures

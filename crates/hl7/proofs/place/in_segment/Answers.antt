@@ -7,4 +7,4 @@ pub returns : goal.returns
 unfolding in_segment
 returns c =
     let a = c.args in
-    spans_inside (λ fld. in_field a.d (never_cut a.seg.now a.f) fld a.r a.c) c.field_span-fld.ensures (rw c.never_cut-whole.ensures at c.in_field-inner.ensures)
+    spans_inside (λ fld. in_field a.d (never_cut a.seg.now a.f) fld a.r a.c) c.field_span-fld.ensures (rw c.never_cut-whole.ensures at c.in_field.ensures) c.of_part.ensures
