@@ -10,7 +10,7 @@ use lib.Dec.{eqb}
 use lib.ListN.{length, get_or, get_or-eq_default}
 use borrow.Author.Tests.{ne_eqb, eqb-true, not-true}
 use Rattle.hl7.specs.declared.place.Delims.{Delims}
-use Rattle.hl7.specs.Bytes.{within, is_in, distinct, all, differs, same, begins}
+use Rattle.hl7.specs.Bytes.{within, is_digit, is_letter, is_in, distinct, all, differs, same, begins}
 use Rattle.hl7.specs.Place.{delims_of}
 use Rattle.hl7.specs.Delimiters.{may_delimit, five_of, may_cut, opens}
 use Rattle.hl7.specs.Text.{bytes}
@@ -85,14 +85,14 @@ unfolding may_cut may_delimit all distinct is_in
 standard-cut d e = sym (ap may_cut (standard-is d e))
 
 -- ---- in the code's words, which asks one after the other
-pub asked_standard : (d : Delims) → (eqb d.bar (code "|") && eqb d.caret (code "^") && eqb d.tilde (code "~") && eqb d.backslash (code "\\") && eqb d.ampersand (code "&")) ≡ same (five_of d) (bytes "|^~\\&")
+pub asked_standard : (d : Delims) → (eqb d.bar (code "|") && (eqb d.caret (code "^") && (eqb d.tilde (code "~") && (eqb d.backslash (code "\\") && eqb d.ampersand (code "&"))))) ≡ same (five_of d) (bytes "|^~\\&")
 unfolding same
-asked_standard d = simp (and-true, and_assoc)
+asked_standard d = simp and-true
 
-pub asked_byte : (x : ℕ) {upper lower digit printable : Bool} → upper ≡ within 65 90 x → lower ≡ within 97 122 x → digit ≡ within 48 57 x → printable ≡ within 32 126 x
-    → (printable && not (upper || lower || digit || (eqb x 32 || eqb x 34 || eqb x 46 || eqb x 43 || eqb x 45 || eqb x 95))) ≡ may_delimit x
+pub asked_byte : (x : ℕ) {letter digit printable : Bool} → letter ≡ is_letter x → digit ≡ is_digit x → printable ≡ within 32 126 x
+    → (printable && not (letter || digit || (eqb x 32 || eqb x 34 || eqb x 46 || eqb x 43 || eqb x 45 || eqb x 95))) ≡ may_delimit x
 unfolding may_delimit is_in
-asked_byte x p q r s = rw (p, q, r, s) (simp (or-false, or_assoc))
+asked_byte x p q r = rw (p, q, r) (simp (or-false, or_assoc))
 
 pub asked_distinct : (d : Delims)
     → (not (eqb d.bar d.caret || eqb d.bar d.tilde || eqb d.bar d.backslash || eqb d.bar d.ampersand)

@@ -7,12 +7,21 @@ ghost use Rattle.hl7.specs.Text.{bytes};
 use crate::bytes::{begins_with, byte_at, is_within};
 use crate::place::{Delims, delims_of};
 
+// The standard five.
+const STANDARD: Delims = Delims {
+    bar: b'|',
+    caret: b'^',
+    tilde: b'~',
+    backslash: b'\\',
+    ampersand: b'&',
+};
+
 // Whether a byte may be a delimiter.
 fn may_delimit(x: u8) -> bool
     ensures { result ≡ may_delimit x }
 {
-    let letter = is_within(x, 65, 90) | is_within(x, 97, 122);
-    let digit = is_within(x, 48, 57);
+    let letter = x.is_ascii_alphabetic();
+    let digit = x.is_ascii_digit();
     let other = (x == b' ') | (x == b'"') | (x == b'.') | (x == b'+') | (x == b'-') | (x == b'_');
     is_within(x, 32, 126) & !(letter | digit | other)
 }
@@ -34,11 +43,7 @@ fn are_distinct(d: Delims) -> bool
 pub fn is_standard(d: Delims) -> bool
     ensures { result ≡ same (five_of d) (bytes "|^~\\&") }
 {
-    (d.bar == b'|')
-        & (d.caret == b'^')
-        & (d.tilde == b'~')
-        & (d.backslash == b'\\')
-        & (d.ampersand == b'&')
+    d == STANDARD
 }
 
 // Whether a message may be cut by these five; the standard five, which nearly all have, are seen at once.

@@ -1,39 +1,18 @@
 // The value of decimal digits, one digit after the other.
-ghost use Rattle.std.specs.Prelude.{◌≡◌, ◌-◌, ◌≤◌, min};
+ghost use Rattle.std.specs.Prelude.{◌≡◌, min};
 ghost use Rattle.hl7.specs.Bytes.{is_digit, all};
 ghost use Rattle.hl7.specs.Counted.{too_large, with_digit};
 ghost use Rattle.hl7.specs.Number.{value_of};
 
-use crate::bytes::is_within;
-
 // One past the largest number of 32 bits.
 pub const TOO_LARGE: usize = 0x1_0000_0000;
-
-// The value of a digit.
-fn digit_value(digit: u8) -> usize
-    ensures { (result ≡ digit - 48) × (result ≤ 207) }
-{
-    if digit < 48 {
-        return 0;
-    }
-    (digit - 48) as usize
-}
-
-// A value, counted up to one past the largest number of 32 bits.
-fn capped(value: usize) -> usize
-    ensures { result ≡ min value too_large }
-{
-    if TOO_LARGE < value {
-        return TOO_LARGE;
-    }
-    value
-}
 
 // A value with one digit more. A value that is capped already is capped again, which shows that ten times it fits.
 pub fn with_digit(value: usize, digit: u8) -> usize
     ensures { result ≡ with_digit value digit }
 {
-    capped(10 * capped(value) + digit_value(digit))
+    let more = 10 * value.min(TOO_LARGE) + usize::from(digit.saturating_sub(b'0'));
+    more.min(TOO_LARGE)
 }
 
 // Whether bytes are all digits, and their value, as far as values are told apart.
@@ -49,7 +28,7 @@ pub fn read_digits(text: &[u8]) -> Digits
     let mut all = true;
     let mut value = 0;
     for x in text {
-        all &= is_within(*x, b'0', b'9');
+        all &= x.is_ascii_digit();
         value = with_digit(value, *x);
     }
     Digits { all, value }

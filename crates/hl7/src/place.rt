@@ -12,7 +12,7 @@ use crate::cut::{Span, find, find_far, part};
 pub const MSH_PLACES: usize = 14;
 
 // The five bytes that a message is cut by, each named after the byte that usually stands there.
-#[derive(Clone, Copy)]
+#[derive(Clone, Copy, PartialEq, Eq)]
 pub struct Delims {
     pub bar: u8,
     pub caret: u8,

@@ -1,11 +1,11 @@
 // Refusals 1 to 5, in the order in which they are tried.
 ghost use Rattle.std.specs.Prelude.{◌≡◌};
-ghost use Rattle.hl7.specs.Bytes.{is_upper, all};
+ghost use Rattle.hl7.specs.Bytes.{all};
 ghost use Rattle.hl7.specs.Cut.{cut};
 ghost use Rattle.hl7.specs.Place.{carriage_return};
 ghost use Rattle.hl7.specs.Refusals.{allowed, wrong_bytes, is_upper_or_digit, has_form, wrong_segments, form_rows, message_rows, first_row, first_of, reading_told, is_sound};
 
-use crate::bytes::byte_at;
+use crate::bytes::{byte_at, is_within};
 use crate::cut::find_far;
 use crate::delimiters::opens_with;
 use crate::place::{Delims, delims_of};
@@ -25,7 +25,7 @@ pub enum Unreadable {
 fn is_allowed(x: u8) -> bool
     ensures { result ≡ allowed x }
 {
-    ((32 <= x) & (x <= 126)) | (x == b'\r')
+    is_within(x, 32, 126) | (x == b'\r')
 }
 
 // Whether every byte is allowed: no early exit, so that many bytes are looked at together.
@@ -56,23 +56,17 @@ pub fn wrong_byte(m: &[u8]) -> Option<usize>
     first_wrong_byte(m)
 }
 
-fn is_upper(x: u8) -> bool
-    ensures { result ≡ is_upper x }
-{
-    (65 <= x) & (x <= 90)
-}
-
 fn is_upper_or_digit(x: u8) -> bool
     ensures { result ≡ is_upper_or_digit x }
 {
-    ((65 <= x) & (x <= 90)) | ((48 <= x) & (x <= 57))
+    x.is_ascii_uppercase() | x.is_ascii_digit()
 }
 
 // Whether a segment, without its CR, has a segment's form.
 fn has_form(d: Delims, seg: &[u8]) -> bool
     ensures { result ≡ has_form d seg.now }
 {
-    is_upper(byte_at(seg, 0))
+    byte_at(seg, 0).is_ascii_uppercase()
         & is_upper_or_digit(byte_at(seg, 1))
         & is_upper_or_digit(byte_at(seg, 2))
         & ((seg.len() == 3) | (byte_at(seg, 3) == d.bar))

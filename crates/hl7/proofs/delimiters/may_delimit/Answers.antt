@@ -3,4 +3,4 @@ use Rattle.hl7.proofs.Delimiting.{asked_byte}
 use Rattle.hl7.proofs.delimiters.may_delimit.Goals as goal
 
 pub returns : goal.returns
-returns c = asked_byte _ c.is_within.ensures c.is_within-2.ensures c.is_within-digit.ensures c.is_within-3.ensures
+returns c = asked_byte _ c.is_ascii_alphabetic-letter.ensures.value c.is_ascii_digit-digit.ensures.value c.is_within.ensures

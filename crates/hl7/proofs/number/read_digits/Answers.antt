@@ -6,7 +6,7 @@ pub loop-x-init : goal.loop-x-init
 loop-x-init c = read_none _
 
 pub loop-x-preserved : goal.loop-x-preserved
-loop-x-preserved c = read_more _ c.loop-x.invariant c.loop-x-test.true c.is_within-all.ensures c.with_digit-value.ensures
+loop-x-preserved c = read_more _ c.loop-x.invariant c.loop-x-test.true c.is_ascii_digit-all.ensures.value c.with_digit-value.ensures
 
 pub returns : goal.returns
 returns c = read_all _ c.loop-x.invariant c.loop-x-test.false
