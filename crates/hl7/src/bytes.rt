@@ -1,25 +1,6 @@
 // Bytes of a lent slice. These functions are total, so that whoever calls them has nothing to show.
-ghost use Rattle.std.specs.Prelude.{◌≡◌, cond, ◌≤◌, get_or, take, drop};
+ghost use Rattle.std.specs.Prelude.{◌≡◌, cond, get_or, take, drop};
 ghost use Rattle.hl7.specs.Bytes.{within, same, begins};
-
-// A byte, or a wider number, as a number to count with.
-pub fn wide(b: u8) -> usize
-    ensures { (result ≡ b) × (result ≤ 255) }
-{
-    b as usize
-}
-
-pub fn wide16(x: u16) -> usize
-    ensures { result ≡ x }
-{
-    x as usize
-}
-
-pub fn wide32(x: u32) -> usize
-    ensures { result ≡ x }
-{
-    x as usize
-}
 
 // One value or the other, without a branch.
 pub fn pick<T: Copy>(test: bool, yes: T, otherwise: T) -> T
@@ -59,14 +40,14 @@ pub fn front(v: &[u8], count: usize) -> &[u8]
     &v[..count.min(v.len())]
 }
 
-// Whether two slices hold the same bytes.
+// Whether two slices hold the same bytes: `==`, in the documents' word for it, which the definitions use.
 pub fn same_bytes(v: &[u8], w: &[u8]) -> bool
     ensures { result ≡ same v.now w.now }
 {
     v == w
 }
 
-// Whether s begins with the bytes p.
+// Whether s begins with the bytes p: `starts_with`, likewise.
 pub fn begins_with(s: &[u8], p: &[u8]) -> bool
     ensures { result ≡ begins p.now s.now }
 {
