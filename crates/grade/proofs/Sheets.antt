@@ -4,19 +4,21 @@ use mathlib.Core.Path.{◌≡◌, refl, sym, ap, subst, ◌∙◌}
 use mathlib.Core.Bool.{Bool, true, false, cond, ◌&&◌, ◌||◌, or_assoc, true≢false}
 use mathlib.Core.List.{List, [], ◌∷◌, ◌++◌, append_assoc}
 use native.Mathlib.Omega.{arith}
-use lib.ListN.{length, replicate, length-replicate, length-append}
+use lib.ListN.{length, replicate, length-replicate, take}
 use lib.Seq.{length-take-le}
+use Rattle.std.proofs.Common.{Option}
 use Rattle.hl7.specs.Place.{delims_of}
+use Rattle.hl7.specs.declared.place.Delims.{Delims}
 use Rattle.grade.specs.Limits.{field_places, name_places}
 use Rattle.grade.specs.Deciding.{has, is_fault}
 use Rattle.grade.specs.Order.{may_follow, out_of_order}
 use Rattle.grade.specs.Standing.{Holds}
-use Rattle.grade.specs.Rest.{Given, rest, findings_in, cursor_at_start}
-use Rattle.grade.specs.Sheet.{line_count, finding_limit, held, to_come, behind, Ready, Sheeted, Gets, Lists}
+use Rattle.grade.specs.Rest.{Given, Stands, Steps, rest, findings_in, cursor_at_start}
+use Rattle.grade.specs.Sheet.{line_count, held, to_come, Ready, Sheeted, Gets, Lists}
+use Rattle.grade.specs.declared.walk.Section.{Section}
 use Rattle.grade.specs.declared.finding.Finding.{Finding}
 use Rattle.grade.specs.declared.step.Terms.{Terms}
 use Rattle.grade.specs.declared.step.Cursor.{Cursor}
-use Rattle.grade.specs.declared.sheet.Reached.{Reached}
 use Rattle.grade.specs.declared.sheet.Sheet.{Sheet}
 use Rattle.grade.proofs.Stepping.{start_left, start-stands, start-all}
 
@@ -41,14 +43,17 @@ unfolding has
 told_more {rest = rest} {f} fault e split = or_assoc fault (is_fault f) (has is_fault rest) ∙ ap (λ (l : List Finding). fault || has is_fault l) (sym split) ∙ e
 
 -- in brief a fault may be the last: it is known then
-pub told_last : {t : Bool} {left rest : List Finding} {f : Finding} (brief fault : Bool) → (fault || has is_fault left) ≡ t → left ≡ f ∷ rest
-    → ((fault || is_fault f) || has is_fault (cond (brief && (fault || is_fault f)) [] rest)) ≡ t
-told_last {t} {rest = rest} {f} brief fault e split = by brief (fault || is_fault f) (told_more fault e split)
-  where
-    by : (brief known : Bool) → (known || has is_fault rest) ≡ t → (known || has is_fault (cond (brief && known) [] rest)) ≡ t
-    by false known e = e
-    by true true e = e
-    by true false e = e
+told_last : {t : Bool} (left : List Finding) (brief known : Bool) → (known || has is_fault left) ≡ t → (known || has is_fault (cond (brief && known) [] left)) ≡ t
+unfolding has
+told_last left false known e = e
+told_last left true true e = e
+told_last left true false e = e
+
+-- ---- one sheet after another
+-- none is to come where they ended
+pub none-to_come : (m b : List ℕ) (s : Sheet) → s.ended ≡ true → to_come m b s ≡ []
+unfolding to_come
+none-to_come m b s e = rw e refl
 
 -- ---- one sheet after another
 -- after the last one, an empty one
@@ -80,61 +85,117 @@ gets_none m b s h over = record {
   briefly = refl;
 }
 
--- what the grader reached from one sheet on is the next one
-pub gets_reached : (m b : List ℕ) (s : Sheet) {out : ℕ → ℕ → Bool} {starts counts : List ℕ} {lines : List Finding} {r : Reached} → Ready m b s → s.ended ≡ false → out ≡ out_of_order may_follow
-    → Lists out s.by.d m b s.by.section false s.brief s.fault (rest out s.by.d m b s.by.section s.counts s.cursor) starts counts lines r
-    → length lines ≡ length s.lines → length starts ≡ length s.starts
-    → Gets m b s.by s.brief s.fault (to_come m b s) (record {
-      by = s.by;
-      brief = s.brief;
-      lines = lines;
-      used = r.used;
-      fault = r.fault;
-      ended = r.ended;
-      cursor = r.cursor;
-      sets = s.sets;
-      links = s.links;
-      starts = starts;
-      counts = counts;
-    })
-unfolding held to_come
-gets_reached m b s {starts = starts} {counts} {lines} {r} h goes_on same w long wide =
-    let l = subst (λ (o : ℕ → ℕ → Bool). Lists o s.by.d m b s.by.section false s.brief s.fault (rest o s.by.d m b s.by.section s.counts s.cursor) starts counts lines r) same w in
-    record {
-      sheeted = record {
-        ready = record { lined = long ∙ h.lined; wide = wide ∙ h.wide; given = h.given; stands = l.stands };
-        fits = l.fits refl;
-        goes = λ e. (l.goes e).1;
-      };
-      all = λ none. rw goes_on (l.all refl none);
-      told = rw goes_on l.told;
-      less = rw goes_on l.less;
+-- ---- the loop of `list_behind`: so many were listed behind a sheet, and from a cursor on the others are to come
+pub record Listing (m b : List ℕ) (whole : Bool) (s : Sheet) (starts counts : List ℕ) (lines : List Finding) (c : Cursor) (used : ℕ) (fault : Bool) : Type 0 where
+  pub long : length lines ≡ length s.lines
+  pub wide : length starts ≡ length s.starts
+  pub stands : Stands s.by.d m b s.by.section starts counts c
+  pub all : whole ≡ false → to_come m b s ≡ take used lines ++ rest (out_of_order may_follow) s.by.d m b s.by.section counts c
+  pub told : (fault || has is_fault (rest (out_of_order may_follow) s.by.d m b s.by.section counts c)) ≡ (s.fault || has is_fault (to_come m b s))
+  pub counted : used + length (rest (out_of_order may_follow) s.by.d m b s.by.section counts c) ≡ length (to_come m b s)
+
+-- a step by another order that says the same
+pub step-as : (d : Delims) (m b : List ℕ) (section : Section) (starts counts before : List ℕ) (c : Cursor) (r : Option (Finding × Cursor)) {out : ℕ → ℕ → Bool} → out ≡ out_of_order may_follow
+    → Steps out d m b section starts counts (rest out d m b section before c) r → Steps (out_of_order may_follow) d m b section starts counts (rest (out_of_order may_follow) d m b section before c) r
+step-as d m b section starts counts before c r same h = subst (λ (o : ℕ → ℕ → Bool). Steps o d m b section starts counts (rest o d m b section before c) r) same h
+
+module _ {m b : List ℕ} {s : Sheet} (ready : Ready m b s) where
+  abbrev left : List ℕ → Cursor → List Finding
+  left counts c = rest (out_of_order may_follow) s.by.d m b s.by.section counts c
+
+  pub listing_begun : {whole : Bool} → s.ended ≡ false → Listing m b whole s s.starts s.counts s.lines s.cursor 0 s.fault
+  unfolding to_come
+  listing_begun goes_on =
+      let is : to_come m b s ≡ left s.counts s.cursor = rw goes_on refl in
+      record { long = refl; wide = refl; stands = ready.stands goes_on; all = λ _. is; told = ap (λ (l : List Finding). s.fault || has is_fault l) (sym is); counted = omega (arith, ap length is) }
+
+  module _ {whole : Bool} {starts counts : List ℕ} {lines : List Finding} {c : Cursor} {used : ℕ} {fault : Bool} (h : Listing m b whole s starts counts lines c used fault) where
+    -- one finding more, on the next line
+    pub listing_more : {starts' counts' : List ℕ} {lines' : List Finding} {c' : Cursor} {f : Finding} {known : Bool} → known ≡ (fault || is_fault f) → length lines' ≡ length lines → length starts' ≡ length starts → left counts c ≡ f ∷ left counts' c' → Stands s.by.d m b s.by.section starts' counts' c'
+        → (whole ≡ false → take (used + 1) lines' ≡ take used lines ++ (f ∷ [])) → Listing m b whole s starts' counts' lines' c' (used + 1) known
+    listing_more {known = known} seen long wide one stands noted = record {
+      long = long ∙ h.long;
+      wide = wide ∙ h.wide;
+      stands = stands;
+      all = λ e. whole_more (take used lines) _ (h.all e) one (noted e);
+      told = rw seen (told_more fault h.told one);
+      counted = omega (arith, h.counted, ap length one);
+    }
+
+    -- the sheet is full, or in brief a fault was seen
+    pub listed : 1 ≤ used → (whole ≡ false → used ≤ line_count) → (s.brief && fault ≡ false → whole ≡ false)
+        → Lists m b whole s (record {
+          by = s.by;
+          brief = s.brief;
+          lines = lines;
+          used = used;
+          fault = fault;
+          ended = s.brief && fault;
+          cursor = c;
+          sets = s.sets;
+          links = s.links;
+          starts = starts;
+          counts = counts;
+        })
+    unfolding held to_come
+    listed some fits full = record {
+      ready = record { lined = h.long ∙ ready.lined; wide = h.wide ∙ ready.wide; given = ready.given; stands = λ _. h.stands };
+      goes = λ e. (full e, some);
+      fits = fits;
+      all = λ e none. h.all e ∙ rw none;
+      counted = λ none. rw none h.counted;
+      told = told_last _ s.brief fault h.told;
+      less = λ e. rw e (omega (arith, h.counted));
       same = refl;
       briefly = refl;
     }
 
--- no more are behind a sheet than are from it on
-pub behind-few : (m b : List ℕ) (s : Sheet) {out : ℕ → ℕ → Bool} → s.ended ≡ false → out ≡ out_of_order may_follow → length (held s ++ to_come m b s) ≤ finding_limit
-    → length (rest out s.by.d m b s.by.section s.counts s.cursor) ≤ finding_limit
-unfolding to_come
-behind-few m b s goes_on same few =
-    rw same (omega (arith, few, length-append (held s) (to_come m b s), ap (λ (e : Bool). length (cond e [] (rest (out_of_order may_follow) s.by.d m b s.by.section s.counts s.cursor))) goes_on))
+    -- nothing more is to come
+    pub listed-last : {starts' counts' : List ℕ} → left counts c ≡ [] → length starts' ≡ length starts → (whole ≡ false → used ≤ line_count)
+        → Lists m b whole s (record {
+          by = s.by;
+          brief = s.brief;
+          lines = lines;
+          used = used;
+          fault = fault;
+          ended = true;
+          cursor = c;
+          sets = s.sets;
+          links = s.links;
+          starts = starts';
+          counts = counts';
+        })
+    unfolding held to_come
+    listed-last none wide fits = record {
+      ready = record { lined = h.long ∙ ready.lined; wide = wide ∙ h.wide ∙ ready.wide; given = ready.given; stands = λ e. absurd (true≢false e) };
+      goes = λ e. absurd (true≢false e);
+      fits = fits;
+      all = λ e _. h.all e ∙ ap (λ (l : List Finding). take used lines ++ l) none;
+      counted = λ _. omega (arith, h.counted, ap length none);
+      told = ap (λ (l : List Finding). fault || has is_fault l) (sym none) ∙ h.told;
+      less = λ e. absurd (true≢false e);
+      same = refl;
+      briefly = refl;
+    }
 
--- what is counted and not noted: all of these
-pub all-counted : (m b : List ℕ) (s : Sheet) {out : ℕ → ℕ → Bool} {seen : Bool} {starts counts : List ℕ} {lines : List Finding} {r : Reached} → s.ended ≡ false → out ≡ out_of_order may_follow
-    → Lists out s.by.d m b s.by.section true false seen (rest out s.by.d m b s.by.section s.counts s.cursor) starts counts lines r
-    → r.used ≡ length (to_come m b s)
-unfolding to_come
-all-counted m b s {out} {counts = counts} {r = r} goes_on same w =
-    let here : to_come m b s ≡ rest out s.by.d m b s.by.section s.counts s.cursor = rw (goes_on, same) refl in
-    by r.ended refl ∙ ap length (sym here)
+-- what the grader listed behind a sheet is the next one
+pub gets_listed : {m b : List ℕ} {s r : Sheet} → Lists m b false s r → Gets m b s.by s.brief s.fault (to_come m b s) r
+gets_listed l = record {
+  sheeted = record { ready = l.ready; fits = l.fits refl; goes = λ e. (l.goes e).1 };
+  all = l.all refl;
+  told = l.told;
+  less = l.less;
+  same = l.same;
+  briefly = l.briefly;
+}
+
+-- where all are counted and none is noted, so many are to come
+pub all-counted : (m b : List ℕ) {s r : Sheet} → s.brief ≡ false → Lists m b true s r → r.used ≡ length (to_come m b s)
+all-counted m b {s} {r} whole l = by r.ended refl
   where
-    none : r.ended ≡ true → behind out s.by.d m b s.by.section counts r ≡ []
-    none over = rw over refl
-
-    by : (ended : Bool) → r.ended ≡ ended → r.used ≡ length (rest out s.by.d m b s.by.section s.counts s.cursor)
-    by false e = absurd (true≢false (w.goes e).0)
-    by true e = omega (arith, w.counted refl, ap length (none e))
+    by : (ended : Bool) → r.ended ≡ ended → r.used ≡ length (to_come m b s)
+    by false e = absurd (true≢false (l.goes e).0)
+    by true e = omega (arith, l.counted whole, ap length (none-to_come m b r e))
 
 -- ---- the first sheet
 module _ (m b : List ℕ) (by : Terms) (brief : Bool) {c : Cursor} (sets links : List ℕ) (lines : List Finding) (holds : Holds b by.section)
@@ -171,11 +232,6 @@ module _ (m b : List ℕ) (by : Terms) (brief : Bool) {c : Cursor} (sets links :
 
   pub gets_first : {r : Sheet} → by.d ≡ delims_of m → Gets m b by brief false (to_come m b unwritten) r → Gets m b by brief false (findings_in b by.section by.header m) r
   gets_first {r} own w = subst (λ (l : List Finding). Gets m b by brief false l r) (all-behind own) w
-
--- none is to come where they ended
-pub none-to_come : (m b : List ℕ) (s : Sheet) → s.ended ≡ true → to_come m b s ≡ []
-unfolding to_come
-none-to_come m b s e = rw e refl
 
 -- ---- a loop over the sheets ends: what is to come gets less, or they end
 abbrev pub ahead : (m b : List ℕ) → Sheet → ℕ

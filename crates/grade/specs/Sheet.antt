@@ -1,15 +1,12 @@
 -- Inner: only contracts inside the crates use these names; nothing here has to be believed.
 -- A message's findings sheet by sheet. Assumes nothing.
 use Rattle.std.specs.Prelude.{ℕ, ◌+◌, ◌≤◌, ◌<◌, ◌^◌, ◌≡◌, Bool, false, cond, ◌||◌, List, [], ◌++◌, length, take}
-use Rattle.hl7.specs.declared.place.Delims.{Delims}
 use Rattle.grade.specs.Limits.{field_places}
 use Rattle.grade.specs.Deciding.{has, is_fault}
 use Rattle.grade.specs.Order.{may_follow, out_of_order}
 use Rattle.grade.specs.Rest.{Given, Stands, rest}
 use Rattle.grade.specs.declared.finding.Finding.{Finding}
-use Rattle.grade.specs.declared.walk.Section.{Section}
 use Rattle.grade.specs.declared.step.Terms.{Terms}
-use Rattle.grade.specs.declared.sheet.Reached.{Reached}
 use Rattle.grade.specs.declared.sheet.Sheet.{Sheet}
 
 -- `src/sheet.rt` has the constant LINES
@@ -51,15 +48,14 @@ pub record Gets (m b : List ℕ) (by : Terms) (brief seen : Bool) (left : List F
   pub same : r.by ≡ by
   pub briefly : r.brief ≡ brief
 
--- ---- the grader's run for one sheet, or, for the whole, to the end
-abbrev pub behind : (ℕ → ℕ → Bool) → Delims → (m b : List ℕ) → Section → (counts : List ℕ) → Reached → List Finding
-behind out d m b s counts r = cond r.ended [] (rest out d m b s counts r.cursor)
-
-pub record Lists (out : ℕ → ℕ → Bool) (d : Delims) (m b : List ℕ) (s : Section) (whole brief seen : Bool) (left : List Finding) (starts counts : List ℕ) (lines : List Finding) (r : Reached) : Type 0 where
-  pub stands : r.ended ≡ false → Stands d m b s starts counts r.cursor
+-- ---- the grader's run from a sheet on, for the next one, or, for the whole, to the end
+pub record Lists (m b : List ℕ) (whole : Bool) (s r : Sheet) : Type 0 where
+  pub ready : Ready m b r
   pub goes : r.ended ≡ false → (whole ≡ false) × (1 ≤ r.used)
   pub fits : whole ≡ false → r.used ≤ line_count
-  pub all : whole ≡ false → brief ≡ false → left ≡ take r.used lines ++ behind out d m b s counts r
-  pub counted : brief ≡ false → r.used + length (behind out d m b s counts r) ≡ length left
-  pub told : (r.fault || has is_fault (behind out d m b s counts r)) ≡ (seen || has is_fault left)
-  pub less : r.ended ≡ false → length (behind out d m b s counts r) < length left
+  pub all : whole ≡ false → s.brief ≡ false → to_come m b s ≡ held r ++ to_come m b r
+  pub counted : s.brief ≡ false → r.used + length (to_come m b r) ≡ length (to_come m b s)
+  pub told : (r.fault || has is_fault (to_come m b r)) ≡ (s.fault || has is_fault (to_come m b s))
+  pub less : r.ended ≡ false → length (to_come m b r) < length (to_come m b s)
+  pub same : r.by ≡ s.by
+  pub briefly : r.brief ≡ s.brief

@@ -19,8 +19,8 @@ use crate::step::{Cursor, Terms, next, start};
 // So many findings are on a sheet.
 pub const LINES: usize = 64;
 
-// The first lines hold its findings, as many as are used. In brief the sheets end at the first E or W. A fault is one of this sheet's findings or of a sheet's before it. What the grader was lent stands here
-// too, for the sheet after this one.
+// The first lines hold its findings, as many as are used. In brief the sheets end at the first E or W. A fault is one of this sheet's findings or of a
+// sheet's before it. What the grader was lent stands here too, for the sheet after this one.
 #[derive(Clone, Copy)]
 pub struct Sheet {
     pub by: Terms,
@@ -34,15 +34,6 @@ pub struct Sheet {
     pub links: [u16; LINKS],
     pub starts: [usize; FIELD_PLACES],
     pub counts: [u32; NAME_PLACES],
-}
-
-// How far the grader came: how many lines are used, whether a fault was seen, and whether nothing more comes.
-#[derive(Clone, Copy)]
-pub(crate) struct Reached {
-    pub(crate) used: usize,
-    fault: bool,
-    ended: bool,
-    cursor: Cursor,
 }
 
 // Whether a finding keeps a message from AA: an E or a W.
@@ -62,50 +53,56 @@ fn note(whole: bool, lines: &mut [Finding], used: usize, finding: Finding)
     }
 }
 
-// The next findings by a follow table, until the sheet is full or nothing more comes; or all of them, which are then counted and not noted.
-pub(crate) fn list_by(
-    table: &[[bool; 11]; 10],
-    whole: bool,
-    brief: bool,
-    by: Terms,
-    m: &[u8],
-    book: &[u8],
-    sets: &[usize; SET_PLACES],
-    links: &[u16; LINKS],
-    starts: &mut [usize],
-    counts: &mut [u32; NAME_PLACES],
-    from: Cursor,
-    seen: bool,
-    lines: &mut [Finding],
-) -> Reached
-    requires { Given m.now book.now by.section sets.now links.now × Stands by.d m.now book.now by.section starts.old counts.old from × (field_places ≤ length starts.old) × (whole ≡ false → line_count ≤ length lines.old) × (whole ≡ true → length (rest (out_of_order (table_says table.now)) by.d m.now book.now by.section counts.old from) ≤ finding_limit) }
-    ensures { Lists (out_of_order (table_says table.now)) by.d m.now book.now by.section whole brief seen (rest (out_of_order (table_says table.now)) by.d m.now book.now by.section counts.old from) starts.new counts.new lines.new result }
+// The sheet behind one: the next findings, until it is full or nothing more comes; or, of the whole, all of them, which are then counted and not noted.
+pub(crate) fn list_behind(m: &[u8], book: &[u8], s: &Sheet, whole: bool) -> Sheet
+    requires { Ready m.now book.now s.now × (s.now.ended ≡ false) × (whole ≡ true → length (to_come m.now book.now s.now) ≤ finding_limit) }
+    ensures { Lists m.now book.now whole s.now result }
 {
-    let mut cursor = from;
+    let table = follow_table();
+    let mut starts = s.starts;
+    let mut counts = s.counts;
+    let mut lines = s.lines;
+    let mut cursor = s.cursor;
     let mut used = 0;
-    let mut fault = seen;
+    let mut fault = s.fault;
     while let Some((finding, then)) = next(
-        table, by, m, book, sets, links, starts, counts, cursor,
+        &table,
+        s.by,
+        m,
+        book,
+        &s.sets,
+        &s.links,
+        &mut starts,
+        &mut counts,
+        cursor,
     ) {
-        note(whole, lines, used, finding);
+        note(whole, &mut lines, used, finding);
         used += 1;
         fault = fault | is_fault(finding);
         cursor = then;
-        let ended = brief & fault;
+        let ended = s.brief & fault;
         if ended | (!whole & (LINES <= used)) {
-            return Reached {
+            return Sheet {
+                lines,
                 used,
                 fault,
                 ended,
                 cursor,
+                starts,
+                counts,
+                ..*s
             };
         }
     }
-    Reached {
+    Sheet {
+        lines,
         used,
         fault,
         ended: true,
         cursor,
+        starts,
+        counts,
+        ..*s
     }
 }
 
@@ -115,47 +112,9 @@ pub fn next_sheet(m: &[u8], book: &[u8], s: Sheet) -> Sheet
     ensures { Gets m.now book.now s.by s.brief s.fault (to_come m.now book.now s) result }
 {
     if s.ended {
-        let mut empty = s;
-        empty.used = 0;
-        return empty;
+        return Sheet { used: 0, ..s };
     }
-    let table = follow_table();
-    let by = s.by;
-    let sets = s.sets;
-    let links = s.links;
-    let mut starts = s.starts;
-    let mut counts = s.counts;
-    let mut lines = s.lines;
-    let from = s.cursor;
-    let reached = list_by(
-        &table,
-        false,
-        s.brief,
-        by,
-        m,
-        book,
-        &sets,
-        &links,
-        &mut starts,
-        &mut counts,
-        from,
-        s.fault,
-        &mut lines,
-    );
-    let cursor = reached.cursor;
-    Sheet {
-        by,
-        brief: s.brief,
-        lines,
-        used: reached.used,
-        fault: reached.fault,
-        ended: reached.ended,
-        cursor,
-        sets,
-        links,
-        starts,
-        counts,
-    }
+    list_behind(m, book, &s, false)
 }
 
 // The first sheet of a message's findings by a section of a book.
@@ -163,40 +122,18 @@ pub fn first_sheet(brief: bool, by: Terms, m: &[u8], book: &[u8]) -> Sheet
     requires { (length m.now ≤ message_limit) × Holds book.now by.section × (by.d ≡ delims_of m.now) }
     ensures { Gets m.now book.now by brief false (findings_in book.now by.section by.header m.now) result }
 {
-    let table = follow_table();
-    let from = start(by, m);
-    let sets = sets_of(book, by.section);
-    let links = links_of(book, by.section);
-    let mut starts = [0; FIELD_PLACES];
-    let mut counts = [0; NAME_PLACES];
-    let mut lines = [BLANK; LINES];
-    let reached = list_by(
-        &table,
-        false,
-        brief,
-        by,
-        m,
-        book,
-        &sets,
-        &links,
-        &mut starts,
-        &mut counts,
-        from,
-        false,
-        &mut lines,
-    );
-    let cursor = reached.cursor;
-    Sheet {
+    let unwritten = Sheet {
         by,
         brief,
-        lines,
-        used: reached.used,
-        fault: reached.fault,
-        ended: reached.ended,
-        cursor,
-        sets,
-        links,
-        starts,
-        counts,
-    }
+        lines: [BLANK; LINES],
+        used: 0,
+        fault: false,
+        ended: false,
+        cursor: start(by, m),
+        sets: sets_of(book, by.section),
+        links: links_of(book, by.section),
+        starts: [0; FIELD_PLACES],
+        counts: [0; NAME_PLACES],
+    };
+    list_behind(m, book, &unwritten, false)
 }

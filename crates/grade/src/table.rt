@@ -8,11 +8,10 @@ ghost use Rattle.grade.specs.Filling.{all_from, Fills};
 
 use crate::admit::admit;
 use crate::book::index_book;
-use crate::finding::{BLANK, Finding};
+use crate::finding::Finding;
 use crate::limits::SECTION_LIMIT;
-use crate::order::follow_table;
 use crate::refusal::{Answer, Refusal};
-use crate::sheet::{Sheet, first_sheet, list_by, next_sheet};
+use crate::sheet::{Sheet, first_sheet, list_behind, next_sheet};
 
 // How many findings there are, the first sheet given: those behind it are counted and not noted.
 fn count_findings(m: &[u8], book: &[u8], first: Sheet) -> usize
@@ -22,30 +21,7 @@ fn count_findings(m: &[u8], book: &[u8], first: Sheet) -> usize
     if first.ended {
         return first.used;
     }
-    let table = follow_table();
-    let by = first.by;
-    let sets = first.sets;
-    let links = first.links;
-    let mut starts = first.starts;
-    let mut counts = first.counts;
-    let mut none = [BLANK; 0];
-    let from = first.cursor;
-    let behind = list_by(
-        &table,
-        true,
-        false,
-        by,
-        m,
-        book,
-        &sets,
-        &links,
-        &mut starts,
-        &mut counts,
-        from,
-        false,
-        &mut none,
-    );
-    first.used + behind.used
+    first.used + list_behind(m, book, &first, true).used
 }
 
 // Sets records from one on by a sheet.

@@ -17,14 +17,12 @@ pub(crate) fn is_sign(b: u8) -> bool
 pub(crate) fn digit_run(v: &[u8]) -> usize
     ensures { result ≡ digit_run v.now }
 {
-    let mut i: usize = 0;
-    while i < v.len() {
-        if !is_within(v[i], b'0', b'9') {
+    for (i, b) in v.iter().enumerate() {
+        if !is_within(*b, b'0', b'9') {
             return i;
         }
-        i += 1;
     }
-    i
+    v.len()
 }
 
 // What the digit at a place stands for; no byte is more than 207 past '0'.
@@ -35,7 +33,7 @@ pub(crate) fn digit_at(v: &[u8], at: usize) -> usize
     if b < b'0' {
         return 0;
     }
-    (b - b'0') as usize
+    usize::from(b - b'0')
 }
 
 // ---- LENGTH and NUMBER
@@ -50,14 +48,12 @@ fn is_unsigned(v: &[u8]) -> bool
     ensures { result ≡ is_unsigned v.now }
 {
     let mut points: usize = 0;
-    let mut i: usize = 0;
-    while i < v.len() {
-        let point = v[i] == b'.';
-        if !(is_within(v[i], b'0', b'9') | point) {
+    for b in v {
+        let point = *b == b'.';
+        if !(is_within(*b, b'0', b'9') | point) {
             return false;
         }
         points += pick(point, 1, 0);
-        i += 1;
     }
     (points <= 1) & (points < v.len())
 }

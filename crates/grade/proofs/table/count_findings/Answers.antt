@@ -1,12 +1,9 @@
 -- `grade::table::count_findings` meets its contract: those on the first sheet, and those behind it. Assumes nothing.
 use mathlib.Core.Path.{ap}
-use mathlib.Core.Bool.{true≢false}
 use native.Mathlib.Omega.{arith}
 use lib.ListN.{length, length-append}
-use Rattle.grade.specs.Order.{may_follow}
 use Rattle.grade.specs.Sheet.{held, to_come}
-use Rattle.grade.proofs.Following.{by-table}
-use Rattle.grade.proofs.Sheets.{held-length, none-to_come, all-counted, behind-few}
+use Rattle.grade.proofs.Sheets.{held-length, none-to_come, all-counted}
 use Rattle.grade.proofs.table.count_findings.Goals as goal
 
 pub returns-then-first : goal.returns-then-first
@@ -15,16 +12,10 @@ returns-then-first c =
     let first = a.first in
     omega (arith, held-length first c.requires.0, length-append (held first) (to_come a.m.now a.book.now first), ap length (none-to_come a.m.now a.book.now first c.if-first.true))
 
-pub list_by-behind-requires : goal.list_by-behind-requires
-list_by-behind-requires c =
+pub list_behind-requires : goal.list_behind-requires
+list_behind-requires c =
     let a = c.args in
-    let ready = c.requires.0.ready in (
-      ready.given,
-      ready.stands c.if-first.false,
-      omega (arith, ready.wide),
-      λ e. absurd (true≢false e),
-      λ _. behind-few a.m.now a.book.now a.first c.if-first.false (by-table _ may_follow c.follow_table-table.ensures) c.requires.2,
-    )
+    (c.requires.0.ready, c.if-first.false, λ _. omega (arith, c.requires.2, length-append (held a.first) (to_come a.m.now a.book.now a.first)))
 
 pub overflow_add-result : goal.overflow_add-result
 overflow_add-result c =
@@ -36,7 +27,7 @@ overflow_add-result c =
         c.requires.2,
         held-length first c.requires.0,
         length-append (held first) (to_come a.m.now a.book.now first),
-        all-counted a.m.now a.book.now first c.if-first.false (by-table _ may_follow c.follow_table-table.ensures) c.list_by-behind.ensures,
+        all-counted a.m.now a.book.now c.requires.1 c.list_behind.ensures,
       );
     }
 
@@ -48,5 +39,5 @@ returns c =
       arith,
       held-length first c.requires.0,
       length-append (held first) (to_come a.m.now a.book.now first),
-      all-counted a.m.now a.book.now first c.if-first.false (by-table _ may_follow c.follow_table-table.ensures) c.list_by-behind.ensures,
+      all-counted a.m.now a.book.now c.requires.1 c.list_behind.ensures,
     )

@@ -7,24 +7,12 @@ use Rattle.hl7.specs.Bytes.{is_digit}
 use Rattle.grade.proofs.Counting.{run_more, run_stop, run_none}
 use Rattle.grade.proofs.value.digit_run.Goals as goal
 
-pub loop-i-init : goal.loop-i-init
-loop-i-init c = omega arith
-
-pub bounds-v-i : goal.bounds-v-i
-bounds-v-i c = omega arith
-
 pub returns-then-not-is_within : goal.returns-then-not-is_within
 returns-then-not-is_within c =
     let v = c.args.v.now in
     let i = c.loop-i.i in
     let other : is_digit (get_or v i 0) ≡ false = rw (← c.is_within.ensures) (c.if-not-is_within.true) in
     omega (arith, run_stop v i (omega arith) other)
-
-pub overflow_add-i : goal.overflow_add-i
-overflow_add-i c = omega arith
-
-pub loop-i-smaller : goal.loop-i-smaller
-loop-i-smaller c = omega arith
 
 pub loop-i-preserved : goal.loop-i-preserved
 loop-i-preserved c =
@@ -36,4 +24,4 @@ loop-i-preserved c =
 pub returns : goal.returns
 returns c =
     let v = c.args.v.now in
-    omega (arith, run_none v c.loop-i.i c.loop-i-test.false)
+    omega (arith, run_none v c.loop-i.i (omega arith))
