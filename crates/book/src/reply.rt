@@ -1,35 +1,37 @@
 // What the program prints.
 ghost use Rattle.ack.specs.Splice.{Wrote};
+ghost use Rattle.ack.specs.Output.{Adds};
 ghost use Rattle.book.specs.Reply.{line_text, refused_text, source_refused_text, compiled_text, made, told_text, book_refused_text, shown_text, legend_text, diff_text, file_text, usage_text};
 ghost use Rattle.book.specs.Standing.{new_name};
 
 use crate::counts::{Counts, counts_of};
 use crate::words::put_words;
-use ack::output::{put, put_byte, put_number};
+use ack::output::Output;
 use booktext::told::Told;
 use hl7::bytes::{front, pick};
 
 // A word, and the number of a line after it, where there is one.
-fn put_line(out: &mut [u8], at: usize, word: &[u8], line: usize) -> usize
-    ensures { Wrote out.old at (line_text word.now line) out.new result }
+fn put_line(out: &mut Output<'_>, word: &[u8], line: usize)
+    ensures { Adds out.old (line_text word.now line) out.new }
 {
-    if line == 0 {
-        return put(out, at, b"");
+    if line != 0 {
+        out.put(word);
+        out.put_number(b' ', line);
     }
-    let next = put(out, at, word);
-    put_number(out, next, b' ', line)
 }
 
 fn put_refused(out: &mut [u8], number: usize, line: usize, section: usize) -> usize
     ensures { Wrote out.old 0 (refused_text number line section) out.new result }
 {
-    let a = put(out, 0, b"refused");
-    let b = put_number(out, a, b' ', number);
-    let c = put_line(out, b, b" line", line);
-    let d = put_line(out, c, b" section", section);
-    let e = put(out, d, b": ");
-    let f = put_words(out, e, number);
-    put_byte(out, f, b'\n')
+    let mut text = Output { bytes: out, at: 0 };
+    text.put(b"refused");
+    text.put_number(b' ', number);
+    put_line(&mut text, b" line", line);
+    put_line(&mut text, b" section", section);
+    text.put(b": ");
+    put_words(&mut text, number);
+    text.put_byte(b'\n');
+    text.at
 }
 
 // A source that is refused, or a text that is too long to print; the detail of 55 is a length.
@@ -43,15 +45,17 @@ fn put_source_refused(out: &mut [u8], told: Told) -> usize
 fn put_counts(out: &mut [u8], size: usize, counts: Counts) -> usize
     ensures { Wrote out.old 0 (compiled_text size counts.sections counts.rules counts.sets) out.new result }
 {
-    let a = put(out, 0, b"compiled");
-    let b = put_number(out, a, b' ', size);
-    let c = put(out, b, b" bytes,");
-    let d = put_number(out, c, b' ', counts.sections);
-    let e = put(out, d, b" sections,");
-    let f = put_number(out, e, b' ', counts.rules);
-    let g = put(out, f, b" rules,");
-    let h = put_number(out, g, b' ', counts.sets);
-    put(out, h, b" sets\n")
+    let mut text = Output { bytes: out, at: 0 };
+    text.put(b"compiled");
+    text.put_number(b' ', size);
+    text.put(b" bytes,");
+    text.put_number(b' ', counts.sections);
+    text.put(b" sections,");
+    text.put_number(b' ', counts.rules);
+    text.put(b" rules,");
+    text.put_number(b' ', counts.sets);
+    text.put(b" sets\n");
+    text.at
 }
 
 // What compiling told, over the output that it had.
@@ -68,10 +72,12 @@ pub(crate) fn put_told(out: &mut [u8], told: Told) -> usize
 fn put_book_refused(out: &mut [u8], number: usize, which: &[u8]) -> usize
     ensures { Wrote out.old 0 (book_refused_text number which.now) out.new result }
 {
-    let a = put(out, 0, b"book refused");
-    let b = put_number(out, a, b' ', number);
-    let c = put(out, b, which);
-    put_byte(out, c, b'\n')
+    let mut text = Output { bytes: out, at: 0 };
+    text.put(b"book refused");
+    text.put_number(b' ', number);
+    text.put(which);
+    text.put_byte(b'\n');
+    text.at
 }
 
 // The text that stands in the output already.
@@ -121,27 +127,31 @@ pub(crate) fn put_diff(out: &mut [u8], told: Told) -> usize
 pub(crate) fn put_file(out: &mut [u8], what: &[u8], path: &[u8]) -> usize
     ensures { Wrote out.old 0 (file_text what.now path.now) out.new result }
 {
-    let a = put(out, 0, b"file cannot be ");
-    let b = put(out, a, what);
-    let c = put(out, b, b": ");
-    let d = put(out, c, path);
-    put_byte(out, d, b'\n')
+    let mut text = Output { bytes: out, at: 0 };
+    text.put(b"file cannot be ");
+    text.put(what);
+    text.put(b": ");
+    text.put(path);
+    text.put_byte(b'\n');
+    text.at
 }
 
 pub(crate) fn put_usage(out: &mut [u8]) -> usize
     ensures { Wrote out.old 0 usage_text out.new result }
 {
-    put(
-        out,
-        0,
+    let mut text = Output { bytes: out, at: 0 };
+    text.put(
         b"usage: book compile SOURCE BOOK | check SOURCE | show BOOK | legend SOURCE | diff OLD NEW\n",
-    )
+    );
+    text.at
 }
 
 // The name of a new file beside a path; the six letters are replaced when it is made.
 pub(crate) fn put_new_name(out: &mut [u8], path: &[u8]) -> usize
     ensures { Wrote out.old 0 (new_name path.now) out.new result }
 {
-    let a = put(out, 0, path);
-    put(out, a, b".XXXXXX")
+    let mut text = Output { bytes: out, at: 0 };
+    text.put(path);
+    text.put(b".XXXXXX");
+    text.at
 }

@@ -1,10 +1,10 @@
 -- `book::reply::put_line` meets its contract. Assumes nothing.
-use Rattle.ack.proofs.Writing.{◌then◌, wrote_as}
+use Rattle.ack.proofs.Adding.{◌next◌, adds_as, adds_none}
 use Rattle.book.proofs.Replying.{line-none, line-some}
 use Rattle.book.proofs.reply.put_line.Goals as goal
 
-pub returns-then-line-eq0 : goal.returns-then-line-eq0
-returns-then-line-eq0 c = wrote_as c.put.ensures (line-none _ _ c.if-line-eq0.true)
+pub returns-then-line-ne0 : goal.returns-then-line-ne0
+returns-then-line-ne0 c = adds_as (c.put.ensures next c.put_number.ensures) (line-some _ _ c.if-line-ne0.true)
 
-pub returns : goal.returns
-returns c = wrote_as (c.put-next.ensures then c.put_number.ensures) (line-some _ _ c.if-line-eq0.false)
+pub returns-else-line-ne0 : goal.returns-else-line-ne0
+returns-else-line-ne0 c = adds_none _ (line-none _ _ c.if-line-ne0.false)

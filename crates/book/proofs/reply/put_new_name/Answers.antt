@@ -1,11 +1,8 @@
 -- `book::reply::put_new_name` meets its contract. Assumes nothing.
-use Rattle.ack.proofs.Writing.{◌then◌, wrote-length}
+use native.Mathlib.Omega.{arith}
+use borrow.Author.Rules.{rules}
+use Rattle.ack.proofs.Adding.{◌next◌, wrote_lent}
 use Rattle.book.proofs.reply.put_new_name.Goals as goal
 
 pub returns : goal.returns
-returns c =
-    c.put-a.ensures
-    then c.put.ensures
-
-pub shape_of-out : goal.shape_of-out
-shape_of-out c = wrote-length (returns c)
+returns c = wrote_lent (c.put.ensures next c.put-2.ensures) (omega arith) (omega arith) (search rules)

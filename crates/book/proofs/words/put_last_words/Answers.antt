@@ -1,7 +1,6 @@
 -- `book::words::put_last_words` meets its contract: each arm writes its own words. Assumes nothing.
 use mathlib.Core.Path.{sym}
-use borrow.Author.Rules.{rules}
-use Rattle.ack.proofs.Writing.{wrote_as}
+use Rattle.ack.proofs.Adding.{adds_none}
 use Rattle.book.specs.Words.{last_words}
 use Rattle.book.proofs.Replying.{words-none}
 use Rattle.book.proofs.words.put_last_words.Goals as goal
@@ -9,65 +8,32 @@ use Rattle.book.proofs.words.put_last_words.Goals as goal
 pub returns-in_default : goal.returns-in_default
 returns-in_default c =
     let others = c.in_default.in_default-own.rest in
-    wrote_as c.put-in_default.ensures
-    (sym (words-none _ others.0.0.0.0.0.0.1 others.0.0.0.0.0.1 others.0.0.0.0.1 others.0.0.0.1 others.0.0.1 others.0.1 others.1))
-
-pub shape_of-out-in-50 : goal.shape_of-out-in-50
-unfolding last_words
-shape_of-out-in-50 c = search rules
+    adds_none _ (sym (words-none _ others.0.0.0.0.0.0.1 others.0.0.0.0.0.1 others.0.0.0.0.1 others.0.0.0.1 others.0.0.1 others.0.1 others.1))
 
 pub returns-in-50 : goal.returns-in-50
 unfolding last_words
 returns-in-50 c = rw c.in-50.is c.put.ensures
 
-pub shape_of-out-in-51 : goal.shape_of-out-in-51
-unfolding last_words
-shape_of-out-in-51 c = search rules
-
 pub returns-in-51 : goal.returns-in-51
 unfolding last_words
 returns-in-51 c = rw c.in-51.is c.put-in-51.ensures
-
-pub shape_of-out-in-52 : goal.shape_of-out-in-52
-unfolding last_words
-shape_of-out-in-52 c = search rules
 
 pub returns-in-52 : goal.returns-in-52
 unfolding last_words
 returns-in-52 c = rw c.in-52.is c.put-in-52.ensures
 
-pub shape_of-out-in-53 : goal.shape_of-out-in-53
-unfolding last_words
-shape_of-out-in-53 c = search rules
-
 pub returns-in-53 : goal.returns-in-53
 unfolding last_words
 returns-in-53 c = rw c.in-53.is c.put-in-53.ensures
-
-pub shape_of-out-in-54 : goal.shape_of-out-in-54
-unfolding last_words
-shape_of-out-in-54 c = search rules
 
 pub returns-in-54 : goal.returns-in-54
 unfolding last_words
 returns-in-54 c = rw c.in-54.is c.put-in-54.ensures
 
-pub shape_of-out-in-55 : goal.shape_of-out-in-55
-unfolding last_words
-shape_of-out-in-55 c = search rules
-
 pub returns-in-55 : goal.returns-in-55
 unfolding last_words
 returns-in-55 c = rw c.in-55.is c.put-in-55.ensures
 
-pub shape_of-out-in-56 : goal.shape_of-out-in-56
-unfolding last_words
-shape_of-out-in-56 c = search rules
-
 pub returns-in-56 : goal.returns-in-56
 unfolding last_words
 returns-in-56 c = rw c.in-56.is c.put-in-56.ensures
-
-pub shape_of-out-in_default : goal.shape_of-out-in_default
-unfolding last_words
-shape_of-out-in_default c = search rules

@@ -1,7 +1,6 @@
 -- `book::words::put_later_words` meets its contract: each arm writes its own words. Assumes nothing.
 use mathlib.Core.Path.{sym}
-use borrow.Author.Rules.{rules}
-use Rattle.ack.proofs.Writing.{wrote_as}
+use Rattle.ack.proofs.Adding.{adds_as}
 use Rattle.book.specs.Words.{later_words}
 use Rattle.book.proofs.Replying.{words_last}
 use Rattle.book.proofs.words.put_later_words.Goals as goal
@@ -9,65 +8,33 @@ use Rattle.book.proofs.words.put_later_words.Goals as goal
 pub returns-in_default : goal.returns-in_default
 returns-in_default c =
     let others = c.in_default.in_default-own.rest in
-    wrote_as c.put_last_words.ensures
+    adds_as c.put_last_words.ensures
     (sym (words_last _ others.0.0.0.0.0.0.1 others.0.0.0.0.0.1 others.0.0.0.0.1 others.0.0.0.1 others.0.0.1 others.0.1 others.1))
-
-pub shape_of-out-in-43 : goal.shape_of-out-in-43
-unfolding later_words
-shape_of-out-in-43 c = search rules
 
 pub returns-in-43 : goal.returns-in-43
 unfolding later_words
 returns-in-43 c = rw c.in-43.is c.put.ensures
 
-pub shape_of-out-in-44 : goal.shape_of-out-in-44
-unfolding later_words
-shape_of-out-in-44 c = search rules
-
 pub returns-in-44 : goal.returns-in-44
 unfolding later_words
 returns-in-44 c = rw c.in-44.is c.put-in-44.ensures
-
-pub shape_of-out-in-45 : goal.shape_of-out-in-45
-unfolding later_words
-shape_of-out-in-45 c = search rules
 
 pub returns-in-45 : goal.returns-in-45
 unfolding later_words
 returns-in-45 c = rw c.in-45.is c.put-in-45.ensures
 
-pub shape_of-out-in-46 : goal.shape_of-out-in-46
-unfolding later_words
-shape_of-out-in-46 c = search rules
-
 pub returns-in-46 : goal.returns-in-46
 unfolding later_words
 returns-in-46 c = rw c.in-46.is c.put-in-46.ensures
-
-pub shape_of-out-in-47 : goal.shape_of-out-in-47
-unfolding later_words
-shape_of-out-in-47 c = search rules
 
 pub returns-in-47 : goal.returns-in-47
 unfolding later_words
 returns-in-47 c = rw c.in-47.is c.put-in-47.ensures
 
-pub shape_of-out-in-48 : goal.shape_of-out-in-48
-unfolding later_words
-shape_of-out-in-48 c = search rules
-
 pub returns-in-48 : goal.returns-in-48
 unfolding later_words
 returns-in-48 c = rw c.in-48.is c.put-in-48.ensures
 
-pub shape_of-out-in-49 : goal.shape_of-out-in-49
-unfolding later_words
-shape_of-out-in-49 c = search rules
-
 pub returns-in-49 : goal.returns-in-49
 unfolding later_words
 returns-in-49 c = rw c.in-49.is c.put-in-49.ensures
-
-pub shape_of-out-in_default : goal.shape_of-out-in_default
-unfolding later_words
-shape_of-out-in_default c = search rules
