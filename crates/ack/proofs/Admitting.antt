@@ -10,7 +10,7 @@ use lib.ListN.{length, take, length-take}
 use lib.Seq.{take_all}
 use borrow.Author.Tests.{ne_eqb, eqb-true}
 use Rattle.hl7.specs.Text.{bytes}
-use Rattle.hl7.specs.Place.{delims_of, is_msh}
+use Rattle.hl7.specs.Place.{is_msh}
 use Rattle.hl7.specs.Refusals.{Told}
 use Rattle.hl7.proofs.Comparing.{and_both}
 use Rattle.hl7.proofs.Delimiting.{opens-long}

@@ -1,18 +1,15 @@
 -- Writing from records, in the words of the code: what they weigh, and the ways out. Assumes nothing.
 use Prim.Native.Nat.{ℕ, ◌+◌, ◌^◌, ◌≤◌, ◌<◌, min}
-use mathlib.Core.Path.{◌≡◌, refl, sym, ap, ap₂, subst₂, ◌∙◌}
+use mathlib.Core.Path.{◌≡◌, refl, sym, ap, ◌∙◌}
 use mathlib.Core.Bool.{Bool, true, false, cond, not, ◌&&◌, ◌||◌, or-false, or_assoc}
 use mathlib.Core.List.{List, [], ◌∷◌, ◌++◌, flat_map}
 use native.Mathlib.Omega.{arith}
-use native.Mathlib.Decide.{dec_le}
-use lib.Dec.{eqb, ltb}
+use lib.Dec.{ltb}
 use lib.ListN.{length, take, drop, length-append, length-take}
-use borrow.Author.Tests.{eq-eqb, ne_eqb, eqb-true, eqb-false, lt-ltb, le-ltb, le-leb}
+use borrow.Author.Tests.{eq-eqb, ne_eqb, lt-ltb, le-ltb}
 use Rattle.hl7.specs.Place.{delims_of}
-use Rattle.hl7.specs.Refusals.{message_limit, Told, told, first_row, passes}
+use Rattle.hl7.specs.Refusals.{Told, told, first_row, passes}
 use Rattle.hl7.specs.declared.place.Delims.{Delims}
-use Rattle.hl7.proofs.Placing.{segment-short}
-use Rattle.hl7.proofs.Refusing.{sound-msh}
 use Rattle.grade.specs.Values.{is_stamp}
 use Rattle.grade.specs.Header.{msh_of}
 use Rattle.grade.specs.Admission.{six_rows, stamp_row, Answer, refusal_told}
@@ -23,18 +20,16 @@ use Rattle.std.specs.Prelude.{Err}
 use Rattle.grade.specs.declared.finding.Finding.{Finding}
 use Rattle.grade.specs.declared.refusal.Refusal.{Refusal}
 use Rattle.grade.proofs.Telling.{refusal_some}
-use Rattle.grade.proofs.Admitting.{six_apart, six_passes}
-use Rattle.ack.specs.Splice.{limit, splice, Wrote}
+use Rattle.grade.proofs.Admitting.{six_apart}
+use Rattle.ack.specs.Splice.{limit}
 use Rattle.ack.specs.Layout.{letter, verdict, err_line, ended, ack_bytes}
-use Rattle.ack.specs.Answers.{Outcome, outcome, outcome_by, by_rows, short_row, ack_of, Gives}
-use Rattle.ack.specs.Records.{range_row, record_rows, write_records, write_from}
-use Rattle.ack.specs.Pieces.{heading, errs, short_or}
+use Rattle.ack.specs.Answers.{Outcome, outcome, by_rows, short_row, ack_of, Gives}
+use Rattle.ack.specs.Records.{range_row, write_records, write_from}
+use Rattle.ack.specs.Pieces.{errs, short_or}
 use Rattle.ack.specs.Drafts.{weightless, weighed_by, weigh_all}
 use Rattle.ack.specs.declared.write.Weight.{Weight}
-use Rattle.ack.proofs.Lines.{ack-is}
-use Rattle.ack.proofs.Sizes.{err_alike, errs-short, ack-short}
-use Rattle.ack.proofs.Writing.{◌then◌, wrote_as, wrote-at-start}
-use Rattle.ack.proofs.Answering.{number_is, table-append, need_is}
+use Rattle.ack.proofs.Sizes.{err_alike, errs-short}
+use Rattle.ack.proofs.Answering.{table-append}
 
 -- ---- what records weigh
 and_true : (b : Bool) → b ≡ (b && true)

@@ -1,5 +1,5 @@
-// Bytes written into an output that the caller lends. Each function answers the index after its last byte. What would lie past the output's end is
-// dropped and counted all the same; and none has a `requires`, so that a caller has nothing to show.
+// Bytes written into an output that the caller lends. What would lie past the output's end is dropped and counted all the same; and nothing here has a
+// `requires`, so that a caller has nothing to show.
 ghost use Rattle.std.specs.Prelude.{◌≡◌, ◌∷◌, [], ◌+◌, ◌-◌, ◌<◌, ◌≤◌, min, length};
 ghost use Rattle.ack.specs.Splice.{Wrote, limit};
 ghost use Rattle.ack.specs.Output.{Adds};
@@ -23,7 +23,7 @@ pub(crate) fn fitting(length: usize, at: usize, count: usize) -> usize
     count.min(length.saturating_sub(at))
 }
 
-// One byte.
+// One byte; the answer is the index after it.
 pub fn put_byte(out: &mut [u8], at: usize, byte: u8) -> usize
     ensures { Wrote out.old at (byte ∷ []) out.new result }
 {
@@ -34,7 +34,7 @@ pub fn put_byte(out: &mut [u8], at: usize, byte: u8) -> usize
     next
 }
 
-// All of bytes: those that fit are found first, and copied in one go.
+// All of bytes: those that fit are found first, and copied in one go. The answer is the index after the last.
 pub fn put(out: &mut [u8], at: usize, bytes: &[u8]) -> usize
     ensures { Wrote out.old at bytes.now out.new result }
 {
@@ -44,42 +44,6 @@ pub fn put(out: &mut [u8], at: usize, bytes: &[u8]) -> usize
         out[at..at + n].copy_from_slice(&bytes[..n]);
     }
     next
-}
-
-// One digit.
-fn put_digit(out: &mut [u8], at: usize, d: usize) -> usize
-    requires { d < 10 }
-    ensures { Wrote out.old at (digit d ∷ []) out.new result }
-{
-    put_byte(out, at, 48 + d as u8)
-}
-
-// n in decimal notation.
-fn put_decimal(out: &mut [u8], at: usize, n: usize) -> usize
-    ensures { Wrote out.old at (decimal n) out.new result }
-{
-    if n < 10 {
-        put_digit(out, at, n)
-    } else {
-        let next = put_decimal(out, at, n / 10);
-        put_digit(out, next, n % 10)
-    }
-}
-
-// A mark, and then all of bytes.
-pub fn put_field(out: &mut [u8], at: usize, mark: u8, bytes: &[u8]) -> usize
-    ensures { Wrote out.old at (mark ∷ bytes.now) out.new result }
-{
-    let next = put_byte(out, at, mark);
-    put(out, next, bytes)
-}
-
-// A mark, and n in decimal notation.
-pub fn put_number(out: &mut [u8], at: usize, mark: u8, n: usize) -> usize
-    ensures { Wrote out.old at (mark ∷ decimal n) out.new result }
-{
-    let next = put_byte(out, at, mark);
-    put_decimal(out, next, n)
 }
 
 // An output that the caller lends, and where in it the next byte goes.

@@ -1,9 +1,7 @@
 -- `lent::grade_and_write` meets its contract: grading into a table of its own, and then writing from it. Assumes nothing.
-use mathlib.Core.Path.{ap}
 use native.Mathlib.Omega.{arith}
-use lib.ListN.{replicate, length-replicate}
+use lib.ListN.{length-replicate}
 use Rattle.std.proofs.lemmas.Result.{err_from_is_err_and}
-use Rattle.grade.specs.declared.finding.Finding.{Finding}
 use Rattle.ack.specs.Records.{blank, own_table}
 use Rattle.ack.proofs.Lending.{lent_refused, lent_written, lent_few}
 use Rattle.ack.proofs.lent.grade_and_write.Goals as goal

@@ -1,7 +1,5 @@
 -- `write::weigh` meets its contract: each turn weighs one record. Assumes nothing.
-use Rattle.std.proofs.Common.{sym, ap, arith, ◌∙◌}
-use Rattle.ack.specs.Drafts.{weigh_all}
-use Rattle.ack.specs.declared.write.Weight.{Weight}
+use Rattle.std.proofs.Common.{sym, arith, ◌∙◌}
 use Rattle.ack.proofs.Recording.{weigh_one, weigh_none}
 use Rattle.ack.proofs.write.weigh.Goals as goal
 

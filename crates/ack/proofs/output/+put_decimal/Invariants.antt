@@ -1,5 +1,0 @@
--- `ack::output::put_decimal` meets its contract: the number falls at each call. Assumes nothing.
-use Rattle.ack.proofs.output.+put_decimal.Given as goal
-
-abbrev pub decreases-put_decimal : goal.decreases-put_decimal
-decreases-put_decimal l = l.n
