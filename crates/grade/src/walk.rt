@@ -27,7 +27,7 @@ pub fn pair_at(book: &[u8], at: usize) -> usize
     usize::from(book[at]) * 256 + usize::from(book[at + 1])
 }
 
-// Whether every byte is plain by the table: no early exit, which would cost more than it saves.
+// Whether every byte is plain: by a table, and with no early exit, which would cost more than it saves.
 fn all_plain(letters: &[u8]) -> bool
     ensures { result ≡ all plain letters.now }
 {
@@ -62,8 +62,10 @@ fn text_end(book: &[u8], at: usize, limit: usize) -> Option<usize>
     if !((1 <= size) & (size <= limit)) {
         return None;
     }
-    let end = at + 1 + size;
-    all_plain(book.get(at + 1..end)?).then_some(end)
+    if book.len() - at <= size {
+        return None;
+    }
+    all_plain(text_part(book, at)).then_some(text_after(book, at))
 }
 
 fn codes_end(book: &[u8], at: usize, count: usize) -> Option<usize>

@@ -1,6 +1,6 @@
 -- `grade::walk::text_end` meets its contract: at each exit the tests say what the readers of `text` did. Assumes nothing.
 use Prim.Native.Nat.{ℕ, ◌+◌, ◌<◌, ◌≤◌}
-use mathlib.Core.Path.{◌≡◌, ap, ◌∙◌}
+use mathlib.Core.Path.{◌≡◌, sym, ap, ◌∙◌}
 use mathlib.Core.Bool.{Bool, true, false, ◌&&◌}
 use mathlib.Core.List.{List}
 use native.Mathlib.Omega.{arith}
@@ -45,17 +45,22 @@ returns-then-not-size-limit c =
     let k = c.in_ok-get.ensures.lookup.3 in
     over-limit c.args.limit c.args.book.now c.args.at c.from-size.result k.0 (c.from-size.ensures ∙ k.1 0) c.if-not-size-limit.true
 
-pub returns-in_err-get-2 : goal.returns-in_err-get-2
-returns-in_err-get-2 c =
+pub returns-then-book-at : goal.returns-then-book-at
+returns-then-book-at c =
     let k = c.in_ok-get.ensures.lookup.3 in
-    c.from_residual-in_err-get-2.ensures
-    ∙ too-long c.args.limit c.args.book.now c.args.at c.from-size.result k.0 (c.from-size.ensures ∙ k.1 0) c.if-not-size-limit.false (omega (arith, c.in_err-get-2.ensures.lookup.0))
+    too-long c.args.limit c.args.book.now c.args.at c.from-size.result k.0 (c.from-size.ensures ∙ k.1 0) c.if-not-size-limit.false (omega (arith, k.0))
+
+pub text_part-requires : goal.text_part-requires
+text_part-requires c =
+    let k = c.in_ok-get.ensures.lookup.3 in
+    record { starts = k.0; ends = omega (arith, k.0, c.from-size.ensures ∙ k.1 0) }
 
 pub returns : goal.returns
 returns c =
     let b = c.args.book.now in
-    let end = c.args.at + 1 + c.from-size.result in
     let k = c.in_ok-get.ensures.lookup.3 in
-    let j = c.in_ok-get-2.ensures.lookup.0 in
-    c.then_some.ensures
-    ∙ whole c.args.limit b c.args.at c.from-size.result k.0 (c.from-size.ensures ∙ k.1 0) c.if-not-size-limit.false _ j.1 (c.all_plain.ensures ∙ ap (all plain) (j.2 ∙ part_slice b (c.args.at + 1) end (omega arith)))
+    let size = c.from-size.ensures ∙ k.1 0 in
+    let end : c.text_after.result ≡ c.args.at + 1 + c.from-size.result = c.text_after.ensures ∙ ap (λ (n : ℕ). c.args.at + 1 + n) (sym size) in
+    let part : c.text_part.result.now ≡ slice (c.args.at + 1) (c.args.at + 1 + c.from-size.result) b = c.text_part.ensures ∙ ap (λ (n : ℕ). slice (c.args.at + 1) (c.args.at + 1 + n) b) (sym size) in
+    c.then_some.ensures ∙ ap (then_some c.all_plain.result) end
+    ∙ whole c.args.limit b c.args.at c.from-size.result k.0 size c.if-not-size-limit.false _ (omega (arith, k.0)) (c.all_plain.ensures ∙ ap (all plain) part)
