@@ -12,17 +12,17 @@ use borrow.Author.Tests.{leb-true}
 use Rattle.hl7.specs.Bytes.{all}
 use Rattle.hl7.specs.Refusals.{Told, told, first_row}
 use Rattle.hl7.proofs.Comparing.{and_both, all-at, rest_at}
-use Rattle.grade.specs.declared.book.Indexed.{Indexed}
 use Rattle.grade.specs.declared.walk.Section.{Section}
 use Rattle.grade.specs.Limits.{rule_limit, set_limit, section_limit}
 use Rattle.grade.specs.Book.{decoded, malformed, other_version, code_set, rule_in}
-use Rattle.grade.specs.Admission.{indexed_told}
+use Rattle.grade.specs.Admission.{Indexed, indexed_told}
 use Rattle.grade.specs.Standing.{stands_at, contents_at, site_at, Indexes}
 use Rattle.grade.proofs.Readings.{row-length}
 use Rattle.grade.proofs.Parts.{stands_parts}
 use Rattle.grade.proofs.Indexing.{index_says, index_fits, index_stand}
 use Rattle.book.specs.Counts.{sections_in, rule_total, set_total}
 use Rattle.book.specs.Standing.{counts_of}
+use Rattle.std.specs.Prelude.{Ok}
 
 -- ---- one section: the counts that its bytes say are those of what it says
 record Counted (b : List ℕ) (at : ℕ) : Type 0 where
@@ -113,7 +113,7 @@ module _ (b starts : List ℕ) {r : Indexed} (is : Indexes b starts r) where
       by false true e = refl
       by false false e = absurd (some e)
 
-  pub sections-listed : {count : ℕ} → r ≡ Indexed.Of count → sections_in b ≡ map (contents_at b) (take count starts)
+  pub sections-listed : {count : ℕ} → r ≡ Ok count → sections_in b ≡ map (contents_at b) (take count starts)
   unfolding sections_in first_row
   sections-listed {count} of =
       by (malformed b) (other_version b) (sym (ap (λ (x : Indexed). (indexed_told x).number) of) ∙ ap (λ (t : Told). t.number) is.told_is)
@@ -124,5 +124,5 @@ module _ (b starts : List ℕ) {r : Indexed} (is : Indexes b starts r) where
       by false true e = absurd (omega arith)
       by false false e = refl
 
-  pub listed-stand : {count : ℕ} → r ≡ Indexed.Of count → length starts ≤ section_limit → (all (stands_at b) (take count starts) ≡ true) × (length (take count starts) ≤ section_limit)
+  pub listed-stand : {count : ℕ} → r ≡ Ok count → length starts ≤ section_limit → (all (stands_at b) (take count starts) ≡ true) × (length (take count starts) ≤ section_limit)
   listed-stand {count} of few = (index_stand b starts is of, omega (arith, index_fits b starts is of, length-take-le count starts (index_fits b starts is of)))

@@ -6,7 +6,7 @@ ghost use Rattle.grade.specs.Standing.{stands_at, contents_at};
 ghost use Rattle.book.specs.Counts.{sections_in};
 ghost use Rattle.book.specs.Standing.{counts_of};
 
-use grade::book::{Indexed, index_book, site_at};
+use grade::book::{index_book, site_at};
 
 // How many sections a book has, and how many rules and sets they have together.
 #[derive(Clone, Copy)]
@@ -41,8 +41,7 @@ pub(crate) fn counts_of(book: &[u8]) -> Counts
 {
     let mut starts = [0usize; 64];
     match index_book(book, &mut starts) {
-        Indexed::Of(count) => add_up(book, &starts[..count]),
-        Indexed::Malformed => add_up(book, &[]),
-        Indexed::OtherVersion => add_up(book, &[]),
+        Ok(count) => add_up(book, &starts[..count]),
+        Err(_) => add_up(book, &[]),
     }
 }

@@ -9,10 +9,9 @@ use Rattle.hl7.specs.Text.{bytes}
 use Rattle.hl7.specs.Bytes.{all}
 use Rattle.hl7.specs.Refusals.{Told as RowTold, told as row_told, first_row}
 use Rattle.hl7.proofs.Comparing.{from_step, from_done}
-use Rattle.grade.specs.declared.book.Indexed.{Indexed}
 use Rattle.grade.specs.declared.rule.Rule.{Rule}
 use Rattle.grade.specs.declared.walk.Section.{Section}
-use Rattle.grade.specs.Admission.{indexed_told}
+use Rattle.grade.specs.Admission.{Indexed, indexed_told}
 use Rattle.grade.specs.Book.{Contents, decoded, malformed, other_version}
 use Rattle.grade.specs.Standing.{text_at, TextFits, stands_at, contents_at, site_at, rules_in, sets_in, Holds, Indexes}
 use Rattle.grade.proofs.Encoded.{Bytes}
@@ -35,6 +34,7 @@ use Rattle.canonical.specs.Showing.{pin_bytes}
 use Rattle.canonical.proofs.Printing.{printed_both}
 use Rattle.canonical.proofs.PutSets.{two_written, sets-length, pin_printed}
 use Rattle.canonical.proofs.ShownAgain.{again_short}
+use Rattle.std.specs.Prelude.{Ok}
 
 -- ---- a section
 section_lines_lem : (c : Contents)
@@ -130,7 +130,7 @@ module _ (b starts : List ℕ) {r : Indexed} (is : Indexes b starts r) where
       by false true n = (e ∙ ap (λ (k : ℕ). tell k 0 0) n, refl)
       by false false n = absurd (some n)
 
-  module _ {count : ℕ} (of : r ≡ Indexed.Of count) where
+  module _ {count : ℕ} (of : r ≡ Ok count) where
     accepted : (malformed b ≡ false) × (other_version b ≡ false)
     accepted = by (malformed b) (other_version b) (number_is of)
       where

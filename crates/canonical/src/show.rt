@@ -20,7 +20,7 @@ use ack::layout::{put_component, put_name};
 use ack::output::Output;
 use booktext::cell::spot_number;
 use booktext::told::{Told, tell};
-use grade::book::{Indexed, index_book, site_at};
+use grade::book::{Unusable, index_book, site_at};
 use grade::limits::{RULE_LIMIT, SECTION_LIMIT};
 use grade::lookup::{rule_at, sets_of};
 use grade::rule::{Kind, Place, Rule, Severity};
@@ -310,8 +310,8 @@ pub fn show(book: &[u8], output: &mut [u8]) -> Told
 {
     let mut starts = [0usize; SECTION_LIMIT];
     match index_book(book, &mut starts) {
-        Indexed::Of(count) => write_shown(book, &starts[..count], output),
-        Indexed::Malformed => tell(7, 0, 0),
-        Indexed::OtherVersion => tell(8, 0, 0),
+        Ok(count) => write_shown(book, &starts[..count], output),
+        Err(Unusable::Malformed) => tell(7, 0, 0),
+        Err(Unusable::OtherVersion) => tell(8, 0, 0),
     }
 }

@@ -7,10 +7,9 @@ use native.Mathlib.Omega.{arith}
 use lib.ListN.{length, take}
 use borrow.Author.Tests.{ne_eqb}
 use Rattle.hl7.specs.Refusals.{Told as RowTold, told as row_told, first_row}
-use Rattle.grade.specs.Admission.{indexed_told}
+use Rattle.grade.specs.Admission.{Indexed, indexed_told}
 use Rattle.grade.specs.Book.{Contents, decoded, malformed, other_version}
 use Rattle.grade.specs.Standing.{contents_at, Indexes}
-use Rattle.grade.specs.declared.book.Indexed.{Indexed}
 use Rattle.grade.proofs.Encoded.{Bytes}
 use Rattle.ack.specs.Splice.{Wrote, limit}
 use Rattle.ack.proofs.Writing.{wrote_as}
@@ -23,9 +22,10 @@ use Rattle.canonical.proofs.PutBook.{book-listed}
 use Rattle.difference.specs.Difference.{differences, book_told, diff_of}
 use Rattle.difference.specs.Ruled.{Opened}
 use Rattle.difference.proofs.Bounds.{diff_short}
+use Rattle.std.specs.Prelude.{Ok}
 
 -- ---- a book, by what `index_book` answers
-pub opened : (b starts : List ℕ) {r : Indexed} → Indexes b starts r → {count : ℕ} → r ≡ Indexed.Of count → Opened b (take count starts)
+pub opened : (b starts : List ℕ) {r : Indexed} → Indexes b starts r → {count : ℕ} → r ≡ Ok count → Opened b (take count starts)
 opened b starts is of = let w = book-listed b starts is of in record { stand = w.0; say = w.1; formed = w.2; version = w.3 }
 
 -- why it is refused

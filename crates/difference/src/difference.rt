@@ -14,7 +14,7 @@ use crate::section::put_both;
 use crate::side::Side;
 use ack::output::Output;
 use booktext::told::{Told, tell};
-use grade::book::{Indexed, index_book};
+use grade::book::{Unusable, index_book};
 use grade::limits::SECTION_LIMIT;
 use grade::walk::text_part;
 use hl7::bytes::same_bytes;
@@ -127,9 +127,9 @@ fn compare(old: &[u8], olds: &[usize], new: &[u8], output: &mut [u8]) -> Told
 {
     let mut starts = [0usize; SECTION_LIMIT];
     match index_book(new, &mut starts) {
-        Indexed::Of(count) => write_differences(old, olds, new, &starts[..count], output),
-        Indexed::Malformed => tell(7, 2, 0),
-        Indexed::OtherVersion => tell(8, 2, 0),
+        Ok(count) => write_differences(old, olds, new, &starts[..count], output),
+        Err(Unusable::Malformed) => tell(7, 2, 0),
+        Err(Unusable::OtherVersion) => tell(8, 2, 0),
     }
 }
 
@@ -139,8 +139,8 @@ pub fn difference(old: &[u8], new: &[u8], output: &mut [u8]) -> Told
 {
     let mut starts = [0usize; SECTION_LIMIT];
     match index_book(old, &mut starts) {
-        Indexed::Of(count) => compare(old, &starts[..count], new, output),
-        Indexed::Malformed => tell(7, 1, 0),
-        Indexed::OtherVersion => tell(8, 1, 0),
+        Ok(count) => compare(old, &starts[..count], new, output),
+        Err(Unusable::Malformed) => tell(7, 1, 0),
+        Err(Unusable::OtherVersion) => tell(8, 1, 0),
     }
 }

@@ -17,12 +17,11 @@ use Rattle.hl7.specs.declared.place.Delims.{Delims}
 use Rattle.hl7.proofs.Refusing.{none_answers, rows_append, row-exactly, none-exactly, message-apart, bounded_first, reading_bounded, sound-short}
 use Rattle.grade.specs.Book.{no_section}
 use Rattle.grade.specs.Header.{msh_of, header_of}
-use Rattle.grade.specs.Admission.{has_control_id, key_of, book_rows, control_row, six_rows, msh_rows, admit_rows, stamp_row, ten_rows, refusal_told, opened_told, admitted_told}
+use Rattle.grade.specs.Admission.{has_control_id, key_of, book_rows, control_row, six_rows, msh_rows, admit_rows, stamp_row, ten_rows, refusal_told, admitted_told}
 use Rattle.grade.specs.Standing.{site_in, OpensBook, terms_of, AdmitsBy, Admits, AdmitsStamped, Holds}
 use Rattle.grade.specs.Values.{is_stamp}
 use Rattle.grade.specs.declared.refusal.Refusal.{Refusal}
 use Rattle.grade.specs.declared.step.Terms.{Terms}
-use Rattle.grade.specs.declared.book.Opened.{Opened}
 use Rattle.grade.specs.declared.header.Header.{Header}
 use Rattle.grade.specs.declared.walk.Section.{Section}
 use Rattle.grade.proofs.Opening.{Under, opened_under}
@@ -42,21 +41,21 @@ module _ (d : Delims) (msh b : List ℕ) where
       let six : first_row (msh_rows d msh b) ≡ told 6 0 = rw e in
       record { told_is = sym six; by = λ none. absurd (omega (arith, ap number_of six, none)) }
 
-  module _ {key : List ℕ} {o : Opened} (e : has_control_id d msh ≡ true) (named : key ≡ key_of d msh) (found : OpensBook (book_rows b key) (site_in b key) o) where
+  module _ {key : List ℕ} {o : Result Section Refusal} (e : has_control_id d msh ≡ true) (named : key ≡ key_of d msh) (found : OpensBook (book_rows b key) (site_in b key) o) where
     same_rows : first_row (book_rows b key) ≡ first_row (msh_rows d msh b)
     unfolding first_row
     same_rows = let rows : first_row (msh_rows d msh b) ≡ first_row (book_rows b (key_of d msh)) = rw e in ap (λ (k : List ℕ). first_row (book_rows b k)) named ∙ sym rows
 
-    pub admit_unopened : (refusal : Refusal) → refusal_told refusal ≡ opened_told o → AdmitsBy (msh_rows d msh b) d msh b (Err refusal)
+    pub admit_unopened : (refusal : Refusal) → refusal_told refusal ≡ admitted_told o → AdmitsBy (msh_rows d msh b) d msh b (Err refusal)
     admit_unopened refusal is =
         let told_is = is ∙ found.told_is ∙ same_rows in record { told_is = told_is; by = λ none. absurd (refusal_some refusal (ap number_of told_is ∙ none)) }
 
-    pub admit_opened : {t : Terms} → o ≡ Opened.At t.section → t.d ≡ d → t.header ≡ header_of d msh → AdmitsBy (msh_rows d msh b) d msh b (Ok t)
+    pub admit_opened : {t : Terms} → o ≡ Ok t.section → t.d ≡ d → t.header ≡ header_of d msh → AdmitsBy (msh_rows d msh b) d msh b (Ok t)
     admit_opened {t} is own read =
-        let told_is = sym (ap opened_told is) ∙ found.told_is ∙ same_rows in
+        let told_is = sym (ap admitted_told is) ∙ found.told_is ∙ same_rows in
         record { told_is = told_is; by = λ none. let site : t.section ≡ site_in b (key_of d msh) = at_site (found.at (ap number_of same_rows ∙ none)) in ap Ok (same_terms own site read) }
       where
-        at_site : o ≡ Opened.At (site_in b key) → t.section ≡ site_in b (key_of d msh)
+        at_site : o ≡ Ok (site_in b key) → t.section ≡ site_in b (key_of d msh)
         at_site f = let here : t.section ≡ site_in b key = cc in here ∙ rw named
 
 -- ---- reading: what it tells says whether the message is sound

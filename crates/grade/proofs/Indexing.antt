@@ -14,28 +14,35 @@ use Rattle.hl7.specs.Bytes.{within, is_in, distinct as apartly, all, among, begi
 use Rattle.hl7.specs.Refusals.{Told, told, Row, row, first_row, passes, numbers_of}
 use Rattle.hl7.proofs.Comparing.{and_both, all-at}
 use Rattle.hl7.proofs.Refusing.{rows_append, none-exactly}
-use Rattle.grade.specs.declared.book.Indexed.{Indexed}
-use Rattle.grade.specs.declared.book.Opened.{Opened}
 use Rattle.grade.specs.Limits.{head_size, book_limit, book_version, section_limit}
 use Rattle.grade.specs.Reader.{fault, found, is_found, items_of, times}
 use Rattle.grade.specs.Book.{section, distinct, keys, sections, head_right, version, decoded, malformed, other_version, no_section}
-use Rattle.grade.specs.Admission.{book_rows, indexed_told, opened_told}
+use Rattle.grade.specs.Admission.{Indexed, book_rows, indexed_told, admitted_told}
 use Rattle.grade.specs.Standing.{up_to, text_at, TextFits, stands_at, contents_at, starting, starts_in, site_of, site_in, Listed, IndexesBy, Indexes, OpensBook}
 use Rattle.grade.proofs.Readings.{starts-stand}
 use Rattle.grade.proofs.Parts.{stands-key, sections-say, keys_texts}
 use Rattle.grade.proofs.Opening.{opens-refused, opens_as, sections-started}
+use Rattle.std.specs.Prelude.{Result, Ok, Err}
+use Rattle.grade.specs.declared.walk.Section.{Section}
+use Rattle.grade.specs.declared.refusal.Refusal.{Refusal}
+use Rattle.grade.specs.declared.book.Unusable.{Unusable}
 
 -- ---- the ways out
+
+-- a book that cannot be used is refused
+pub unusable_some : (why : Unusable) → (indexed_told (Err why)).number ≡ 0 → ⊥
+unusable_some Unusable.Malformed e = omega (arith, e)
+unusable_some Unusable.OtherVersion e = omega (arith, e)
 
 -- a refusal
 indexes_refused : {rows : List Row} {b starts : List ℕ} {r : Indexed} → indexed_told r ≡ first_row rows → ((indexed_told r).number ≡ 0 → ⊥) → IndexesBy rows b starts r
 indexes_refused e some = record { told_is = e; listed = λ count is. absurd (some (ap (λ (x : Indexed). (indexed_told x).number) is)) }
 
 -- so many sections
-indexes_of : {rows : List Row} {b starts : List ℕ} {count : ℕ} → told 0 0 ≡ first_row rows → Listed b starts count → IndexesBy rows b starts (Indexed.Of count)
+indexes_of : {rows : List Row} {b starts : List ℕ} {count : ℕ} → told 0 0 ≡ first_row rows → Listed b starts count → IndexesBy rows b starts (Ok count)
 indexes_of {b = b} {starts} {count} e w = record { told_is = e; listed = λ n is. subst (Listed b starts) (same n is) w }
   where
-    same : (n : ℕ) → Indexed.Of count ≡ Indexed.Of n → count ≡ n
+    same : (n : ℕ) → ◌≡◌ {A = Indexed} (Ok count) (Ok n) → count ≡ n
     same n is = cc
 
 -- rows that tell the same allow the same
@@ -47,16 +54,16 @@ module _ (b : List ℕ) where
   abbrev pub Tells : List ℕ → Indexed → Type 0
   Tells starts = IndexesBy (row 7 (not (is_found (sections b head_size))) ∷ []) b starts
 
-  at-fault : {starts : List ℕ} → sections b head_size ≡ fault → Tells starts Indexed.Malformed
+  at-fault : {starts : List ℕ} → sections b head_size ≡ fault → Tells starts (Err Unusable.Malformed)
   unfolding first_row
   at-fault e = indexes_refused (rw e) (λ e. omega (arith, e))
 
-  pub no_count : {starts : List ℕ} → length b ≤ 5 → Tells starts Indexed.Malformed
+  pub no_count : {starts : List ℕ} → length b ≤ 5 → Tells starts (Err Unusable.Malformed)
   unfolding sections
   no_count h = at-fault (rw (lt-leb 6 (length b) (omega arith)))
 
   module _ (h : 5 < length b) where
-    pub wrong_count : {starts : List ℕ} → (leb 1 (get_or b 5 0) && leb (get_or b 5 0) section_limit) ≡ false → Tells starts Indexed.Malformed
+    pub wrong_count : {starts : List ℕ} → (leb 1 (get_or b 5 0) && leb (get_or b 5 0) section_limit) ≡ false → Tells starts (Err Unusable.Malformed)
     unfolding sections
     wrong_count e = at-fault (rw (le-leb 6 (length b) h, e))
 
@@ -65,7 +72,7 @@ module _ (b : List ℕ) where
       few-sections = leb-true (get_or b 5 0) section_limit (and_both (leb 1 (get_or b 5 0)) (leb (get_or b 5 0) section_limit) l).1
 
       module _ (starts : List ℕ) (r : Option ℕ) (w : times (get_or b 5 0) (starting section) b 6 ≡ up_to (take (get_or b 5 0) starts) r) where
-        pub wrong_section : r ≡ None → Tells starts Indexed.Malformed
+        pub wrong_section : r ≡ None → Tells starts (Err Unusable.Malformed)
         unfolding sections
         wrong_section e = at-fault (rw (le-leb 6 (length b) h, l, sections-say b (get_or b 5 0) 6, w, e))
 
@@ -79,16 +86,16 @@ module _ (b : List ℕ) where
           pub keys_fit : (k : ℕ) → k < length (take (get_or b 5 0) starts) → TextFits b (get_or (take (get_or b 5 0) starts) k 0)
           keys_fit k m = (stands-key b (get_or (take (get_or b 5 0) starts) k 0) (all-at (stands_at b) (take (get_or b 5 0) starts) k stand m)).0
 
-          pub more_after : (end ≡ length b → ⊥) → Tells starts Indexed.Malformed
+          pub more_after : (end ≡ length b → ⊥) → Tells starts (Err Unusable.Malformed)
           unfolding sections
           more_after n = at-fault (rw (le-leb 6 (length b) h, l, sections-say b (get_or b 5 0) 6, walked, ne_eqb end (length b) n))
 
           module _ (n : end ≡ length b) where
-            pub key_twice : distinct (map (text_at b) (take (get_or b 5 0) starts)) ≡ false → Tells starts Indexed.Malformed
+            pub key_twice : distinct (map (text_at b) (take (get_or b 5 0) starts)) ≡ false → Tells starts (Err Unusable.Malformed)
             unfolding sections
             key_twice d = at-fault (rw (le-leb 6 (length b) h, l, sections-say b (get_or b 5 0) 6, walked, eq-eqb end (length b) n, keys_texts b (take (get_or b 5 0) starts) stand, d))
 
-            pub all_indexed : distinct (map (text_at b) (take (get_or b 5 0) starts)) ≡ true → get_or b 5 0 ≤ length starts → Tells starts (Indexed.Of (get_or b 5 0))
+            pub all_indexed : distinct (map (text_at b) (take (get_or b 5 0) starts)) ≡ true → get_or b 5 0 ≤ length starts → Tells starts (Ok (get_or b 5 0))
             unfolding sections first_row
             all_indexed d fits =
                 let read : is_found (sections b head_size) ≡ true = rw (le-leb 6 (length b) h, l, sections-say b (get_or b 5 0) 6, walked, eq-eqb end (length b) n, keys_texts b (take (get_or b 5 0) starts) stand, d) in
@@ -102,12 +109,12 @@ head-long b h =
     leb-true head_size (length b) (and_both (leb head_size (length b)) (leb (length b) book_limit) w.0).0
 
 module _ (b starts : List ℕ) where
-  pub head_wrong : head_right b ≡ false → Indexes b starts Indexed.Malformed
+  pub head_wrong : head_right b ≡ false → Indexes b starts (Err Unusable.Malformed)
   unfolding first_row malformed
   head_wrong h = indexes_refused (rw h) (λ e. omega (arith, e))
 
   module _ (h : head_right b ≡ true) where
-    pub version_other : (version b ≡ book_version → ⊥) → Indexes b starts Indexed.OtherVersion
+    pub version_other : (version b ≡ book_version → ⊥) → Indexes b starts (Err Unusable.OtherVersion)
     unfolding first_row malformed other_version
     version_other n = indexes_refused (rw (h, ne_eqb (version b) book_version n)) (λ e. omega (arith, e))
 
@@ -125,13 +132,13 @@ unfolding book_rows numbers_of apartly is_in
 rows-say b key = rows_append (index_rows b) (row 9 (no_section b key) ∷ []) refl
 
 module _ (b starts : List ℕ) {r : Indexed} (is : Indexes b starts r) where
-  pub open_refused : (key : List ℕ) {o : Opened} → opened_told o ≡ indexed_told r → ((opened_told o).number ≡ 0 → ⊥) → OpensBook (book_rows b key) (site_in b key) o
+  pub open_refused : (key : List ℕ) {o : Result Section Refusal} → admitted_told o ≡ indexed_told r → ((admitted_told o).number ≡ 0 → ⊥) → OpensBook (book_rows b key) (site_in b key) o
   open_refused key e some =
       let first = e ∙ is.told_is in
       let refuses = ne_eqb (first_row (index_rows b)).number 0 (λ none. some (ap (λ (t : Told). t.number) first ∙ none)) in
       opens-refused (first ∙ sym (rows-say b key ∙ rw refuses)) some
 
-  module _ {count : ℕ} (of : r ≡ Indexed.Of count) where
+  module _ {count : ℕ} (of : r ≡ Ok count) where
     none-holds : (first_row (index_rows b)).number ≡ 0
     none-holds = sym (ap (λ (t : Told). t.number) is.told_is) ∙ ap (λ (x : Indexed). (indexed_told x).number) of
 
@@ -156,7 +163,7 @@ module _ (b starts : List ℕ) {r : Indexed} (is : Indexes b starts r) where
     pub index_stand : all (stands_at b) (take count starts) ≡ true
     index_stand = ap (all (stands_at b)) (is.listed count of).are ∙ (sections-started b sections_read).stand
 
-    pub open_found : (key : List ℕ) {o : Opened} → OpensBook (row 9 (not (among key (map (text_at b) (take count starts)))) ∷ []) (site_of b key (take count starts)) o → OpensBook (book_rows b key) (site_in b key) o
+    pub open_found : (key : List ℕ) {o : Result Section Refusal} → OpensBook (row 9 (not (among key (map (text_at b) (take count starts)))) ∷ []) (site_of b key (take count starts)) o → OpensBook (book_rows b key) (site_in b key) o
     unfolding no_section
     open_found key =
         let are = (is.listed count of).are in
@@ -167,14 +174,14 @@ module _ (b starts : List ℕ) {r : Indexed} (is : Indexes b starts r) where
 -- ---- one answer
 -- an answer on paper is one of the code's, with the number of sections: the other way round
 abbrev indexed_of : Told → ℕ → Indexed
-indexed_of t count = cond (eqb t.number 0) (Indexed.Of count) (cond (eqb t.number 7) Indexed.Malformed Indexed.OtherVersion)
+indexed_of t count = cond (eqb t.number 0) (Ok count) (cond (eqb t.number 7) (Err Unusable.Malformed) (Err Unusable.OtherVersion))
 
-told_index : (b starts : List ℕ) (r : Indexed) → ((count : ℕ) → r ≡ Indexed.Of count → Listed b starts count) → indexed_of (indexed_told r) (length (starts_in b)) ≡ r
-told_index b starts (Indexed.Of count) listed =
+told_index : (b starts : List ℕ) (r : Indexed) → ((count : ℕ) → r ≡ Ok count → Listed b starts count) → indexed_of (indexed_told r) (length (starts_in b)) ≡ r
+told_index b starts (Ok count) listed =
     let w = listed count refl in
-    ap Indexed.Of (sym (ap length w.are) ∙ length-take-le count starts w.fits)
-told_index b starts Indexed.Malformed listed = refl
-told_index b starts Indexed.OtherVersion listed = refl
+    ap Ok (sym (ap length w.are) ∙ length-take-le count starts w.fits)
+told_index b starts (Err Unusable.Malformed) listed = refl
+told_index b starts (Err Unusable.OtherVersion) listed = refl
 
 -- any two answers that the contract of `index_book` allows are equal
 pub index_once : (b starts starts' : List ℕ) {r q : Indexed} → Indexes b starts r → Indexes b starts' q → r ≡ q

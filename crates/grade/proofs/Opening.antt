@@ -12,14 +12,15 @@ use Rattle.hl7.specs.Refusals.{Told, told, Row, first_row}
 use Rattle.hl7.proofs.Comparing.{and_both, same_equal}
 use Rattle.grade.specs.declared.rule.Rule.{Rule}
 use Rattle.grade.specs.declared.walk.Section.{Section}
-use Rattle.grade.specs.declared.book.Opened.{Opened}
 use Rattle.grade.specs.Limits.{head_size, rule_limit, set_limit}
 use Rattle.grade.specs.Reader.{Parsed, fault, found, is_found, items_of, times}
 use Rattle.grade.specs.Book.{Contents, section, distinct, keys, sections, decoded, under, no_section}
-use Rattle.grade.specs.Admission.{opened_told}
+use Rattle.grade.specs.Admission.{admitted_told}
 use Rattle.grade.specs.Standing.{end_of, text_at, stands_at, contents_at, site_at, starting, starts_in, site_of, site_in, OpensBook, rules_in, sets_in, Holds}
 use Rattle.grade.proofs.Readings.{is_found_lem, then_found, found-same, starts-stand}
 use Rattle.grade.proofs.Parts.{SectionParts, stands_parts, stands-key, sections-say, book_parts}
+use Rattle.std.specs.Prelude.{Result, Ok}
+use Rattle.grade.specs.declared.refusal.Refusal.{Refusal}
 
 -- ---- the search
 -- whether the key is among those of the sections from number i on, and where its section is then, is as among all
@@ -29,16 +30,16 @@ Remains b key starts i = (among key (map (text_at b) (drop i starts)) ≡ among 
 -- ---- the ways out
 
 -- a refusal
-pub opens-refused : {rows : List Row} {site : Section} {r : Opened} → opened_told r ≡ first_row rows → ((opened_told r).number ≡ 0 → ⊥) → OpensBook rows site r
+pub opens-refused : {rows : List Row} {site : Section} {r : Result Section Refusal} → admitted_told r ≡ first_row rows → ((admitted_told r).number ≡ 0 → ⊥) → OpensBook rows site r
 opens-refused e some = record { told_is = e; at = λ none. absurd (some (ap (λ (t : Told). t.number) e ∙ none)) }
 
 -- the section
-pub opens_at : {rows : List Row} {site s : Section} → told 0 0 ≡ first_row rows → s ≡ site → OpensBook rows site (Opened.At s)
-opens_at e is = record { told_is = e; at = λ none. ap Opened.At is }
+pub opens_at : {rows : List Row} {site s : Section} → told 0 0 ≡ first_row rows → s ≡ site → OpensBook rows site (Ok s)
+opens_at e is = record { told_is = e; at = λ none. ap Ok is }
 
 -- rows that tell the same allow the same
-pub opens_as : {rows others : List Row} {site place : Section} {r : Opened} → first_row rows ≡ first_row others → site ≡ place → OpensBook rows site r → OpensBook others place r
-opens_as same is w = record { told_is = w.told_is ∙ same; at = λ none. w.at (ap (λ (t : Told). t.number) same ∙ none) ∙ ap Opened.At is }
+pub opens_as : {rows others : List Row} {site place : Section} {r : Result Section Refusal} → first_row rows ≡ first_row others → site ≡ place → OpensBook rows site r → OpensBook others place r
+opens_as same is w = record { told_is = w.told_is ∙ same; at = λ none. w.at (ap (λ (t : Told). t.number) same ∙ none) ∙ ap Ok is }
 
 -- ---- the section that was found
 

@@ -8,8 +8,7 @@ use Rattle.grade.specs.Book.{malformed, other_version, no_section}
 use Rattle.grade.specs.Header.{msh_of, msh_at}
 use Rattle.grade.specs.Values.{is_stamp}
 use Rattle.grade.specs.declared.refusal.Refusal.{Refusal}
-use Rattle.grade.specs.declared.book.Indexed.{Indexed}
-use Rattle.grade.specs.declared.book.Opened.{Opened}
+use Rattle.grade.specs.declared.book.Unusable.{Unusable}
 
 -- the whole MSH-10 is not empty and not over 199 bytes
 abbrev pub has_control_id : Delims → List ℕ → Bool
@@ -70,16 +69,14 @@ abbrev pub paper : Answer → Told
 paper (Ok detail) = told 0 detail
 paper (Err refusal) = refusal_told refusal
 
-abbrev pub indexed_told : Indexed → Told
-indexed_told (Indexed.Of count) = told 0 0
-indexed_told Indexed.Malformed = told 7 0
-indexed_told Indexed.OtherVersion = told 8 0
+-- how many sections a book has, or why it cannot be used
+abbrev pub Indexed : Type 0
+Indexed = Result ℕ Unusable
 
-abbrev pub opened_told : Opened → Told
-opened_told (Opened.At section) = told 0 0
-opened_told Opened.Malformed = told 7 0
-opened_told Opened.OtherVersion = told 8 0
-opened_told Opened.NoSection = told 9 0
+abbrev pub indexed_told : Indexed → Told
+indexed_told (Ok count) = told 0 0
+indexed_told (Err Unusable.Malformed) = told 7 0
+indexed_told (Err Unusable.OtherVersion) = told 8 0
 
 -- an answer in which something else than a number was asked for
 abbrev pub admitted_told : {A : Type 0} → Result A Refusal → Told

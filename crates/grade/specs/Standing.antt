@@ -10,13 +10,11 @@ use Rattle.grade.specs.Limits.{head_size, rule_limit, rule_size, set_limit}
 use Rattle.grade.specs.Reader.{Parsed, fault, found, is_found, items_of, Reader, and_then, pair, times}
 use Rattle.grade.specs.Book.{rule_in, code_set, Contents, section, malformed, other_version}
 use Rattle.grade.specs.Header.{msh_of, header_of}
-use Rattle.grade.specs.Admission.{key_of, admit_rows, ten_rows, indexed_told, opened_told, admitted_told}
+use Rattle.grade.specs.Admission.{Indexed, key_of, admit_rows, ten_rows, indexed_told, admitted_told}
 use Rattle.grade.specs.declared.rule.Rule.{Rule}
 use Rattle.grade.specs.declared.walk.Section.{Section}
 use Rattle.std.specs.declared.ops.ControlFlow.{ControlFlow}
 use Rattle.std.specs.declared.ops.ControlFlow.TheVariants.{Break, Continue}
-use Rattle.grade.specs.declared.book.Indexed.{Indexed}
-use Rattle.grade.specs.declared.book.Opened.{Opened}
 use Rattle.grade.specs.declared.refusal.Refusal.{Refusal}
 use Rattle.grade.specs.declared.step.Terms.{Terms}
 
@@ -117,16 +115,16 @@ pub record Listed (b starts : List ℕ) (count : ℕ) : Type 0 where
 -- the first of the rows that holds, or else how many sections the book has, and where they start
 pub record IndexesBy (rows : List Row) (b starts : List ℕ) (r : Indexed) : Type 0 where
   pub told_is : indexed_told r ≡ first_row rows
-  pub listed : (count : ℕ) → r ≡ Indexed.Of count → Listed b starts count
+  pub listed : (count : ℕ) → r ≡ Ok count → Listed b starts count
 
 -- a book without a key: rows 7 and 8
 abbrev pub Indexes : (b starts : List ℕ) → Indexed → Type 0
 Indexes b starts r = IndexesBy (row 7 (malformed b) ∷ row 8 (other_version b) ∷ []) b starts r
 
 -- the first of the rows that holds, or else where the section stands
-pub record OpensBook (rows : List Row) (site : Section) (r : Opened) : Type 0 where
-  pub told_is : opened_told r ≡ first_row rows
-  pub at : (first_row rows).number ≡ 0 → r ≡ Opened.At site
+pub record OpensBook (rows : List Row) (site : Section) (r : Result Section Refusal) : Type 0 where
+  pub told_is : admitted_told r ≡ first_row rows
+  pub at : (first_row rows).number ≡ 0 → r ≡ Ok site
 
 -- by what a message is graded: its delimiters, where the section stands that MSH names, and what its header says
 abbrev pub terms_of : (d : Delims) (msh b : List ℕ) → Terms

@@ -1,19 +1,16 @@
 // Refusals 1 to 10, in the order in which they are tried, or by what a message is graded.
-ghost use Rattle.std.specs.Prelude.{◌≡◌, true, [], ◌∷◌, Ok};
+ghost use Rattle.std.specs.Prelude.{◌≡◌, true, [], ◌∷◌};
 ghost use Rattle.hl7.specs.Noted.{MshNoted};
 ghost use Rattle.hl7.specs.Place.{is_msh};
 ghost use Rattle.hl7.specs.Refusals.{first_row};
-ghost use Rattle.grade.specs.Admission.{has_control_id, control_row, msh_rows, six_rows, opened_told, admitted_told};
+ghost use Rattle.grade.specs.Admission.{has_control_id, control_row, msh_rows, six_rows, admitted_told};
 ghost use Rattle.grade.specs.Standing.{Indexes, AdmitsBy, Admits, AdmitsStamped};
-ghost use Rattle.grade.specs.declared.walk.Section.{Section};
-ghost use Rattle.grade.specs.declared.book.Opened.{Opened};
 
-use crate::book::{Indexed, Opened, open_at};
+use crate::book::{Indexed, open_at};
 use crate::date::is_stamp;
 use crate::header::{header_of, msh_value};
 use crate::refusal::Refusal;
 use crate::step::Terms;
-use crate::walk::Section;
 use hl7::place::{Delims, MSH_PLACES, delims_of, note_fields, noted_field, segment};
 use hl7::refusal::check;
 
@@ -23,18 +20,6 @@ fn has_control_id(d: Delims, msh: &[u8], starts: &[usize], count: usize) -> bool
 {
     let n = noted_field(d, msh, true, starts, count, 10).len();
     (1 <= n) & (n <= 199)
-}
-
-// What opening a book told, as a refusal.
-fn by_section(opened: Opened) -> Result<Section, Refusal>
-    ensures { (admitted_told result ≡ opened_told opened) × ((s : Section) → opened ≡ Opened.At s → result ≡ Ok s) }
-{
-    match opened {
-        Opened::At(section) => Ok(section),
-        Opened::Malformed => Err(Refusal::Malformed),
-        Opened::OtherVersion => Err(Refusal::OtherVersion),
-        Opened::NoSection => Err(Refusal::NoSection),
-    }
 }
 
 // Rows 6 to 9, of a message whose first segment is given: it is cut once.
@@ -54,7 +39,7 @@ fn admit_msh(
         return Err(Refusal::NoControlId);
     }
     let key = msh_value(d, msh, &starts, count, 6, 1);
-    let section = by_section(open_at(book, sections, indexed, key))?;
+    let section = open_at(book, sections, indexed, key)?;
     Ok(Terms {
         d,
         section,

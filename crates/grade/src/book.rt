@@ -1,30 +1,37 @@
 // The whole book: its head, its sections, and the section with a key.
-ghost use Rattle.std.specs.Prelude.{◌≡◌, ℕ, ◌≤◌, ◌<◌, true, not, [], ◌∷◌, map, length, get_or, drop, take};
+ghost use Rattle.std.specs.Prelude.{Err, ◌≡◌, ℕ, ◌≤◌, ◌<◌, true, not, [], ◌∷◌, map, length, get_or, drop, take};
 ghost use Rattle.hl7.specs.Bytes.{all, among};
 ghost use Rattle.hl7.specs.Refusals.{row};
 ghost use Rattle.grade.specs.Limits.{head_size, section_limit};
 ghost use Rattle.grade.specs.Reader.{is_found, times};
 ghost use Rattle.grade.specs.Book.{section, distinct, head_right, sections};
-ghost use Rattle.grade.specs.Admission.{book_rows};
+ghost use Rattle.grade.specs.Admission.{book_rows, refusal_told, indexed_told};
 ghost use Rattle.grade.specs.Standing.{up_to, text_at, TextFits, stands_at, site_at, starting, site_of, site_in, IndexesBy, Indexes, OpensBook};
 
 use crate::limits::{BOOK_LIMIT, BOOK_VERSION, HEAD_SIZE, RULE_SIZE, SECTION_LIMIT};
+use crate::refusal::Refusal;
 use crate::walk::{Section, pair_at, section_end, text_after, text_part};
 use hl7::bytes::{begins_with, same_bytes};
 
-#[derive(Clone, Copy)]
-pub enum Indexed {
-    Of(usize),
+// Why a book cannot be used: rows 7 and 8.
+#[derive(Clone, Copy, PartialEq, Eq)]
+pub enum Unusable {
     Malformed,
     OtherVersion,
 }
 
-#[derive(Clone, Copy)]
-pub enum Opened {
-    At(Section),
-    Malformed,
-    OtherVersion,
-    NoSection,
+// How many sections a book has, or why it cannot be used.
+pub type Indexed = Result<usize, Unusable>;
+
+impl From<Unusable> for Refusal {
+    ghost from_gives = { λ why refusal. refusal_told refusal ≡ indexed_told (Err why) };
+
+    fn from(why: Unusable) -> Refusal {
+        match why {
+            Unusable::Malformed => Refusal::Malformed,
+            Unusable::OtherVersion => Refusal::OtherVersion,
+        }
+    }
 }
 
 // Reads count sections, and notes where each starts.
@@ -82,7 +89,7 @@ pub fn site_at(book: &[u8], at: usize) -> Section
 }
 
 // The section with a key, of those that start at the positions.
-fn find_section(book: &[u8], starts: &[usize], key: &[u8]) -> Opened
+fn find_section(book: &[u8], starts: &[usize], key: &[u8]) -> Result<Section, Refusal>
     requires { all (stands_at book.now) starts.now ≡ true }
     ensures { OpensBook (row 9 (not (among key.now (map (text_at book.now) starts.now))) ∷ []) (site_of book.now key.now starts.now) result }
 {
@@ -90,8 +97,8 @@ fn find_section(book: &[u8], starts: &[usize], key: &[u8]) -> Opened
         .iter()
         .find(|at| same_bytes(key, text_part(book, **at)))
     {
-        Some(at) => Opened::At(site_at(book, *at)),
-        None => Opened::NoSection,
+        Some(at) => Ok(site_at(book, *at)),
+        None => Err(Refusal::NoSection),
     }
 }
 
@@ -108,22 +115,22 @@ fn index_sections(book: &[u8], starts: &mut [usize]) -> Indexed
     ensures { IndexesBy (row 7 (not (is_found (sections book.now head_size))) ∷ []) book.now starts.new result }
 {
     if book.len() <= HEAD_SIZE {
-        return Indexed::Malformed;
+        return Err(Unusable::Malformed);
     }
     let count = book[HEAD_SIZE] as usize;
     if !((1 <= count) & (count <= SECTION_LIMIT)) {
-        return Indexed::Malformed;
+        return Err(Unusable::Malformed);
     }
     let Some(end) = walk_sections(book, HEAD_SIZE + 1, count, starts) else {
-        return Indexed::Malformed;
+        return Err(Unusable::Malformed);
     };
     if end != book.len() {
-        return Indexed::Malformed;
+        return Err(Unusable::Malformed);
     }
     if keys_distinct(book, &starts[..count]) {
-        Indexed::Of(count)
+        Ok(count)
     } else {
-        Indexed::Malformed
+        Err(Unusable::Malformed)
     }
 }
 
@@ -134,22 +141,24 @@ pub fn index_book(book: &[u8], starts: &mut [usize]) -> Indexed
     ensures { Indexes book.now starts.new result }
 {
     if !head_right(book) {
-        return Indexed::Malformed;
+        return Err(Unusable::Malformed);
     }
     if pair_at(book, 3) != BOOK_VERSION {
-        return Indexed::OtherVersion;
+        return Err(Unusable::OtherVersion);
     }
     index_sections(book, starts)
 }
 
 // The book's refusals in their order, or the section with the key, by what `index_book` answered and noted.
-pub(crate) fn open_at(book: &[u8], starts: &[usize], indexed: Indexed, key: &[u8]) -> Opened
+pub(crate) fn open_at(
+    book: &[u8],
+    starts: &[usize],
+    indexed: Indexed,
+    key: &[u8],
+) -> Result<Section, Refusal>
     requires { Indexes book.now starts.now indexed }
     ensures { OpensBook (book_rows book.now key.now) (site_in book.now key.now) result }
 {
-    match indexed {
-        Indexed::Of(count) => find_section(book, &starts[..count], key),
-        Indexed::Malformed => Opened::Malformed,
-        Indexed::OtherVersion => Opened::OtherVersion,
-    }
+    let count = indexed?;
+    find_section(book, &starts[..count], key)
 }

@@ -7,16 +7,16 @@ use Rattle.difference.proofs.Answering.{opened, new_refused}
 use Rattle.difference.proofs.difference.compare.Goals as goal
 
 pub slice_bounds-starts-end : goal.slice_bounds-starts-end
-slice_bounds-starts-end c = index_fits _ _ c.index_book.ensures c.in-Of.is
+slice_bounds-starts-end c = index_fits _ _ c.index_book.ensures c.in-Ok.is
 
 pub slice_bounds-write_differences-end : goal.slice_bounds-write_differences-end
-slice_bounds-write_differences-end c = sym (length-take-le _ _ (index_fits _ _ c.index_book.ensures c.in-Of.is))
+slice_bounds-write_differences-end c = sym (length-take-le _ _ (index_fits _ _ c.index_book.ensures c.in-Ok.is))
 
 pub write_differences-requires : goal.write_differences-requires
-write_differences-requires c = (c.requires, opened _ _ c.index_book.ensures c.in-Of.is)
+write_differences-requires c = (c.requires, opened _ _ c.index_book.ensures c.in-Ok.is)
 
-pub returns-in-Malformed : goal.returns-in-Malformed
-returns-in-Malformed c = new_refused c.args.old.now c.args.olds.now c.requires c.args.new.now _ c.args.output.now c.index_book.ensures c.in-Malformed.is (λ e. omega (arith, e)) c.tell.ensures
+pub returns-in-Err-Malformed : goal.returns-in-Err-Malformed
+returns-in-Err-Malformed c = new_refused c.args.old.now c.args.olds.now c.requires c.args.new.now _ c.args.output.now c.index_book.ensures (rw c.in-Err-Malformed.field-0-is at c.in-Err-Malformed.is) (λ e. omega (arith, e)) c.tell.ensures
 
-pub returns-in-OtherVersion : goal.returns-in-OtherVersion
-returns-in-OtherVersion c = new_refused c.args.old.now c.args.olds.now c.requires c.args.new.now _ c.args.output.now c.index_book.ensures c.in-OtherVersion.is (λ e. omega (arith, e)) c.tell-in-OtherVersion.ensures
+pub returns-in-Err-OtherVersion : goal.returns-in-Err-OtherVersion
+returns-in-Err-OtherVersion c = new_refused c.args.old.now c.args.olds.now c.requires c.args.new.now _ c.args.output.now c.index_book.ensures (rw c.in-Err-OtherVersion.field-0-is at c.in-Err-OtherVersion.is) (λ e. omega (arith, e)) c.tell-in-Err-OtherVersion.ensures

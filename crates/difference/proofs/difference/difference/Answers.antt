@@ -7,16 +7,16 @@ use Rattle.difference.proofs.Answering.{opened, old_refused}
 use Rattle.difference.proofs.difference.difference.Goals as goal
 
 pub slice_bounds-starts-end : goal.slice_bounds-starts-end
-slice_bounds-starts-end c = index_fits _ _ c.index_book.ensures c.in-Of.is
+slice_bounds-starts-end c = index_fits _ _ c.index_book.ensures c.in-Ok.is
 
 pub slice_bounds-compare-end : goal.slice_bounds-compare-end
-slice_bounds-compare-end c = sym (length-take-le _ _ (index_fits _ _ c.index_book.ensures c.in-Of.is))
+slice_bounds-compare-end c = sym (length-take-le _ _ (index_fits _ _ c.index_book.ensures c.in-Ok.is))
 
 pub compare-requires : goal.compare-requires
-compare-requires c = opened _ _ c.index_book.ensures c.in-Of.is
+compare-requires c = opened _ _ c.index_book.ensures c.in-Ok.is
 
-pub returns-in-Malformed : goal.returns-in-Malformed
-returns-in-Malformed c = old_refused c.args.old.now _ c.args.new.now c.args.output.now c.index_book.ensures c.in-Malformed.is (λ e. omega (arith, e)) c.tell.ensures
+pub returns-in-Err-Malformed : goal.returns-in-Err-Malformed
+returns-in-Err-Malformed c = old_refused c.args.old.now _ c.args.new.now c.args.output.now c.index_book.ensures (rw c.in-Err-Malformed.field-0-is at c.in-Err-Malformed.is) (λ e. omega (arith, e)) c.tell.ensures
 
-pub returns-in-OtherVersion : goal.returns-in-OtherVersion
-returns-in-OtherVersion c = old_refused c.args.old.now _ c.args.new.now c.args.output.now c.index_book.ensures c.in-OtherVersion.is (λ e. omega (arith, e)) c.tell-in-OtherVersion.ensures
+pub returns-in-Err-OtherVersion : goal.returns-in-Err-OtherVersion
+returns-in-Err-OtherVersion c = old_refused c.args.old.now _ c.args.new.now c.args.output.now c.index_book.ensures (rw c.in-Err-OtherVersion.field-0-is at c.in-Err-OtherVersion.is) (λ e. omega (arith, e)) c.tell-in-Err-OtherVersion.ensures
