@@ -27,9 +27,6 @@ use Rattle.grade.specs.declared.finding.Finding.{Finding}
 use Rattle.grade.specs.declared.within.Spot.{Spot}
 
 -- ---- the codes of a kind's set
-pub set-stands : (b : List ℕ) (at : ℕ) {kind : Kind} {set : ℕ} → kind ≡ Code set → CodesStand b kind at → SetStands b at
-set-stands b at e h = subst (λ (k : Kind). CodesStand b k at) e h
-
 pub set-in_range : {sets set : ℕ} {kind : Kind} → kind ≡ Code set → kind_fits sets kind ≡ true → (1 ≤ set) × (set ≤ sets)
 set-in_range {sets} {set} e h = code_limits sets set (sym (ap (kind_fits sets) e) ∙ h)
 

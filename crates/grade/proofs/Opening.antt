@@ -22,11 +22,6 @@ use Rattle.grade.proofs.Parts.{SectionParts, stands_parts, stands-key, sections-
 use Rattle.std.specs.Prelude.{Result, Ok}
 use Rattle.grade.specs.declared.refusal.Refusal.{Refusal}
 
--- ---- the search
--- whether the key is among those of the sections from number i on, and where its section is then, is as among all
-abbrev pub Remains : (b key starts : List ℕ) → ℕ → Type 0
-Remains b key starts i = (among key (map (text_at b) (drop i starts)) ≡ among key (map (text_at b) starts)) × (site_of b key (drop i starts) ≡ site_of b key starts)
-
 -- ---- the ways out
 
 -- a refusal

@@ -26,6 +26,7 @@ pub enum Kind {
 }
 
 // A segment's name by its number: 1 to 10 the names that count, 11 any other; 0 is the message's end, which has none.
+// It stays a number, as in the findings that other languages read.
 #[derive(Clone, Copy, PartialEq, Eq)]
 pub struct Place {
     pub segment: u8,
@@ -125,7 +126,7 @@ pub fn place_fits(place: Place) -> bool
     counted & inside & (place.component <= COMPONENT_LIMIT)
 }
 
-// The severity that a letter stands for.
+// The severity that a letter stands for: no TryFrom, since nobody asks why a letter stands for none.
 #[tactic(auto, unfolding(crate::specs::Rule::severity_of))]
 fn severity_of(letter: u8) -> Option<Severity>
     ensures { result ≡ severity_of letter }

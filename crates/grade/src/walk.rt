@@ -10,7 +10,7 @@ use crate::limits::{CODE_COUNT_LIMIT, CODE_LIMIT, KEY_LIMIT, RULE_LIMIT, RULE_SI
 use crate::plain::PLAIN;
 use crate::rule::rule_stands;
 
-// Where a section's rules and sets stand.
+// Where a section's rules and sets stand. The book goes beside it, as the definitions under the theorems have the two apart (`Holds`).
 #[derive(Clone, Copy)]
 pub struct Section {
     pub rules_at: usize,
