@@ -32,16 +32,12 @@ pub struct Weight {
 }
 
 // Of no records.
-fn no_weight() -> Weight
-    ensures { result ≡ weightless }
-{
-    Weight {
-        sound: true,
-        length: 0,
-        header: false,
-        fault: false,
-    }
-}
+const WEIGHTLESS: Weight = Weight {
+    sound: true,
+    length: 0,
+    header: false,
+    fault: false,
+};
 
 // With one record more.
 fn weighed(weight: Weight, finding: Finding) -> Weight
@@ -59,7 +55,7 @@ fn weighed(weight: Weight, finding: Finding) -> Weight
 fn weigh(records: &[Finding]) -> Weight
     ensures { result ≡ weigh_all weightless records.now }
 {
-    let mut weight = no_weight();
+    let mut weight = WEIGHTLESS;
     for finding in records {
         weight = weighed(weight, *finding);
     }

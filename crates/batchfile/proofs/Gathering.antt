@@ -1,4 +1,5 @@
 -- Laws of `specs/Messages.antt`, in the words of the code: where a segment, a message and the messages end, and what is left from there on. Assumes nothing.
+use mir.Val.{bool_byte}
 use mathlib.Core.Path.{◌≡◌, refl, sym, ap, ap₂, ◌∙◌}
 use mathlib.Core.Bool.{Bool, true, false, cond, ◌||◌, true≢false}
 use mathlib.Core.List.{List, [], ◌∷◌, ◌++◌, append_assoc, append-nil}
@@ -261,9 +262,9 @@ module _ (f : List ℕ) (at end count : ℕ) (p : Counting f at end count) where
           few = p.few;
         }
 
-    pub counting_more : {msh : Bool} {next : ℕ} → is_frame (between f end r) ≡ false → msh ≡ is_msh (between f end r) → next ≡ cond msh (count + 1) count → Counting f at r next
+    pub counting_more : {msh : Bool} {one : ℕ} → is_frame (between f end r) ≡ false → msh ≡ is_msh (between f end r) → one ≡ bool_byte msh → Counting f at r (count + one)
     unfolding from_frame gather
-    counting_more {msh} {next} e is n =
+    counting_more {msh} {one} e is n =
         let both = by msh (gathered-line f end r l more e (sym is)) n in
         record {
           forward = omega (arith, p.forward, l.onward.forward);
@@ -273,9 +274,14 @@ module _ (f : List ℕ) (at end count : ℕ) (p : Counting f at end count) where
           few = omega (arith, p.few, p.forward, l.onward.further more, both.1);
         }
       where
-        by : (b : Bool) → gathered_at f end ≡ gather b (between f end r) (gathered_at f r) → next ≡ cond b (count + 1) count → (count + length (messages_at f end) ≡ next + length (messages_at f r)) × (next ≤ count + 1)
+        by : (b : Bool) → gathered_at f end ≡ gather b (between f end r) (gathered_at f r) → one ≡ bool_byte b → (count + length (messages_at f end) ≡ count + one + length (messages_at f r)) × (one ≤ 1)
         by true here n = (omega (arith, ap (λ (g : Gathered). length g.messages) here), omega arith)
         by false here n = (omega (arith, ap (λ (g : Gathered). length g.messages) here), omega arith)
+
+-- a test counts for one at most
+pub one-at-most : (b : Bool) → bool_byte b ≤ 1
+one-at-most true = omega arith
+one-at-most false = omega arith
 
 -- ---- whether something stands before the first message
 pub started-is : (f : List ℕ) (at r : ℕ) {frame msh : Bool} → at ≤ length f → LineEnds f at r → frame ≡ is_frame (between f at r) → msh ≡ is_msh (between f at r)

@@ -6,7 +6,7 @@ ghost use Rattle.batchfile.specs.Frame.{keeps_rows, is_segment, is_none, is_fram
 ghost use Rattle.batchfile.specs.Walk.{gathered_at, BodyEnds, Framing};
 
 use crate::message::{is_frame, line_end};
-use hl7::bytes::{begins_with, pick};
+use hl7::bytes::begins_with;
 use hl7::delimiters::opens_with;
 use hl7::number::read_digits;
 use hl7::place::{Delims, field_span, is_msh, segment};
@@ -43,7 +43,7 @@ fn body_from(f: &[u8], at: usize) -> Body
         if is_frame(line) {
             return Body { end, count };
         }
-        count = pick(is_msh(line), count + 1, count);
+        count += usize::from(is_msh(line));
         end = next;
     }
     Body { end, count }
