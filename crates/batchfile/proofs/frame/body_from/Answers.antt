@@ -17,7 +17,7 @@ pub returns-then-is_frame : goal.returns-then-is_frame
 returns-then-is_frame c = counting_stop _ _ _ _ c.loop-end.invariant _ c.loop-end-test.true c.line_end-next.ensures (sym c.is_frame.ensures ∙ c.if-is_frame.true)
 
 pub overflow_add-count : goal.overflow_add-count
-overflow_add-count c = omega (arith, c.loop-end.invariant.few, c.from.ensures, one-at-most c.is_msh.result)
+overflow_add-count c = omega (arith, c.loop-end.invariant.few, c.from-count.ensures, one-at-most c.is_msh.result)
 
 pub loop-end-smaller : goal.loop-end-smaller
 loop-end-smaller c = omega (arith, c.line_end-next.ensures.onward.further c.loop-end-test.true)
@@ -25,7 +25,7 @@ loop-end-smaller c = omega (arith, c.line_end-next.ensures.onward.further c.loop
 pub loop-end-preserved : goal.loop-end-preserved
 loop-end-preserved c =
     counting_more _ _ _ _ c.loop-end.invariant _ c.loop-end-test.true c.line_end-next.ensures
-    (sym c.is_frame.ensures ∙ c.if-is_frame.false) c.is_msh.ensures c.from.ensures
+    (sym c.is_frame.ensures ∙ c.if-is_frame.false) c.is_msh.ensures c.from-count.ensures
 
 pub returns : goal.returns
 returns c = counting_over _ _ _ _ c.loop-end.invariant c.loop-end-test.false
