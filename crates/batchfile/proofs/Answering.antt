@@ -6,17 +6,17 @@ use Prim.Native.Nat.{ℕ, suc, ◌+◌, ◌≤◌, ◌<◌}
 use native.Mathlib.Omega.{arith}
 use native.Mathlib.Decide.{dec_le}
 use lib.Dec.{leb, ltb}
-use lib.ListN.{length, get_or, take, drop, length-append}
+use lib.ListN.{length, take, drop, length-append}
 use borrow.Author.Tests.{lt-ltb, le-ltb, le-leb, lt-leb, eqb-true, ltb-false, not-true, not-false}
 use Rattle.hl7.specs.Text.{bytes}
 use Rattle.hl7.specs.Delimiters.{opens}
 use Rattle.hl7.specs.Place.{delims_of}
-use Rattle.hl7.specs.Refusals.{told, row_at, is_some, first_row}
+use Rattle.hl7.specs.Refusals.{row_at, first_row}
 use Rattle.hl7.proofs.Comparing.{and_both, or_neither, none_of}
 use Rattle.std.specs.Prelude.{Ok, Err}
 use Rattle.grade.specs.Admission.{Answer}
 use Rattle.grade.specs.declared.refusal.Refusal.{Refusal}
-use Rattle.ack.specs.Answers.{outcome, outcome_by, by_rows, short_row, Gives}
+use Rattle.ack.specs.Answers.{by_rows, short_row, Gives}
 use Rattle.ack.specs.Splice.{Wrote}
 use Rattle.ack.proofs.Writing.{splice-at-start, wrote-length, ◌then◌}
 use Rattle.batchfile.specs.Messages.{gathered}

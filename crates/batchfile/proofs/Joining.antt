@@ -10,7 +10,7 @@ use Rattle.hl7.specs.Spans.{between}
 use Rattle.hl7.proofs.Comparing.{tail-whole}
 use Rattle.std.specs.Prelude.{Ok, Err}
 use Rattle.std.specs.Result.{IsOk}
-use Rattle.grade.specs.Admission.{Answer, paper, refusal_told}
+use Rattle.grade.specs.Admission.{Answer, paper}
 use Rattle.grade.specs.declared.refusal.Refusal.{Refusal}
 use Rattle.grade.proofs.Telling.{refusal_some}
 use Rattle.ack.specs.Answers.{Outcome, ack_for, answer_of, Gives}

@@ -1,12 +1,12 @@
 -- Laws of `specs/Sized.antt`: what the answer to one message tells, and what is known of all when the messages before one are measured. Assumes nothing.
 use mathlib.Core.Path.{◌≡◌, refl, sym, ap, subst, ◌∙◌}
-use mathlib.Core.Bool.{Bool, true, false, cond, true≢false}
+use mathlib.Core.Bool.{Bool, true, false, cond}
 use mathlib.Core.List.{List, [], ◌∷◌, ◌++◌}
 use Rattle.std.specs.Prelude.{Some}
 use Prim.Native.Nat.{ℕ, suc, ◌+◌, ◌-◌, ◌*◌, ◌^◌, ◌≤◌, ◌<◌}
 use native.Mathlib.Omega.{arith}
 use lib.Dec.{ltb}
-use lib.ListN.{length, get_or, drop, length-take, length-drop, length-append}
+use lib.ListN.{length, drop, length-take, length-drop, length-append}
 use borrow.Author.Tests.{ne_eqb, le-ltb, ltb-false, not-false}
 use Rattle.hl7.specs.Refusals.{Told, told, first_row, passes}
 use Rattle.hl7.specs.Spans.{between}

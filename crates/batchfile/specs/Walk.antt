@@ -1,6 +1,6 @@
 -- Inner: only contracts inside the crates use these names; nothing here has to be believed.
 -- What a walk over a file answers: where a segment, a message and the messages end, and what is left from there on. Assumes nothing.
-use Rattle.std.specs.Prelude.{ℕ, ◌-◌, ◌≤◌, ◌<◌, ◌≡◌, Bool, not, List, [], ◌∷◌, length, drop}
+use Rattle.std.specs.Prelude.{ℕ, ◌-◌, ◌≤◌, ◌<◌, ◌≡◌, List, [], ◌∷◌, length, drop}
 use Rattle.hl7.specs.Cut.{part_at}
 use Rattle.hl7.specs.Spans.{between}
 use Rattle.batchfile.specs.Messages.{lines_of, Gathered, gathered, from_frame}

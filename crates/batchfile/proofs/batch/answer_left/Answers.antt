@@ -1,6 +1,5 @@
 -- `batchfile::batch::answer_left` meets its contract: each way out is one of the rows. Assumes nothing.
 use mathlib.Core.Path.{sym}
-use native.Mathlib.Omega.{arith}
 use lib.ListN.{take}
 use lib.Seq.{length-take-le}
 use Rattle.ack.proofs.Writing.{wrote_as}

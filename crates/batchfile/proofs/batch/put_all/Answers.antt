@@ -1,6 +1,6 @@
 -- `batchfile::batch::put_all` meets its contract, by the invariant that stands beside this. Assumes nothing.
 use native.Mathlib.Omega.{arith}
-use Rattle.batchfile.proofs.Joining.{writing_none, writing_told, writing_done, writes_ok, put_small}
+use Rattle.batchfile.proofs.Joining.{writing_none, writing_told, writing_done, writes_ok}
 use Rattle.batchfile.proofs.batch.put_all.Goals as goal
 
 pub loop-k-init : goal.loop-k-init
