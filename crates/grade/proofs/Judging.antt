@@ -14,7 +14,7 @@ use Rattle.hl7.specs.declared.place.Delims.{Delims}
 use Rattle.hl7.proofs.Walking.{parts_start}
 use Rattle.hl7.proofs.Placing.{cut_later}
 use Rattle.grade.specs.Rule.{msh, counted, first_field, kind_fits, rule_fits, no_rule}
-use Rattle.grade.specs.Standing.{rules_in, sets_in, SetStands, codes_at, SetAt}
+use Rattle.grade.specs.Standing.{rules_in, sets_in, codes_at, SetAt}
 use Rattle.grade.specs.Broken.{judges, broken, codes_of, breaks_rule}
 use Rattle.grade.specs.Findings.{value_in, values_of, value_finding}
 use Rattle.grade.specs.Rest.{CodesStand, CodesAre, breaks_by, broken_values, broken_from, of_rule, of_rules, left_of}

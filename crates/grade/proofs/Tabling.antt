@@ -10,7 +10,7 @@ use lib.ListN.{length, get_or, take, drop, length-append, length-drop}
 use lib.Seq.{take-append_seam, drop-append_seam}
 use borrow.Author.Tests.{eq-eqb, eqb-true, eqb-false, leb-true, leb-false}
 use Rattle.hl7.specs.Bytes.{is_in, distinct}
-use Rattle.hl7.specs.Refusals.{Told, told, first_row, passes, numbers_of, apart, holds_at, First, message_rows, form_rows}
+use Rattle.hl7.specs.Refusals.{told, first_row, passes, numbers_of, apart, holds_at, First, message_rows, form_rows}
 use Rattle.hl7.proofs.Refusing.{row-exactly, none-exactly}
 use Rattle.grade.specs.Admission.{book_rows, admit_rows, Answer, paper}
 use Rattle.grade.specs.Grading.{findings_for}

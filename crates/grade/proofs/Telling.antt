@@ -1,5 +1,4 @@
 -- Laws of `paper`: what a refusal tells is never number 0, and what is told says which answer told it. Assumes nothing.
-use Prim.Native.Nat.{ℕ}
 use native.Mathlib.Omega.{arith}
 use mathlib.Core.Path.{◌≡◌, refl, sym, ap, ◌∙◌}
 use mathlib.Core.Bool.{cond}

@@ -1,15 +1,9 @@
 -- `grade::admit::admit_msh` meets its contract: rows 6 to 9. Assumes nothing.
-use mathlib.Core.Path.{◌≡◌, refl, sym, ap, ◌∙◌}
-use native.Mathlib.Omega.{arith}
-use Rattle.std.specs.Prelude.{Result, Ok}
+use mathlib.Core.Path.{refl, sym, ap, ◌∙◌}
 use Rattle.std.proofs.lemmas.Result.{err_from_is_err_and}
-use Rattle.hl7.specs.Refusals.{Told, told}
 use Rattle.grade.specs.Admission.{admitted_told}
-use Rattle.grade.specs.declared.refusal.Refusal.{Refusal}
-use Rattle.grade.specs.declared.walk.Section.{Section}
 use Rattle.grade.proofs.Admitting.{admit_none, admit_unopened, admit_opened}
 use Rattle.grade.proofs.admit.admit_msh.Goals as goal
-use Rattle.std.specs.Prelude.{Err}
 
 pub returns-then-not-has_control_id : goal.returns-then-not-has_control_id
 returns-then-not-has_control_id c = admit_none _ _ _ (sym c.has_control_id.ensures ∙ c.if-not-has_control_id.true)

@@ -1,7 +1,6 @@
 -- `grade::admit::admit_stamped` meets its contract: rows 1 to 9, and then the stamp's. Assumes nothing.
-use mathlib.Core.Path.{sym, subst, ◌∙◌}
+use mathlib.Core.Path.{sym, ◌∙◌}
 use Rattle.std.proofs.lemmas.Result.{err_from_is_err_and}
-use Rattle.grade.specs.Standing.{Admits}
 use Rattle.grade.proofs.Admitting.{stamped_refused, stamped_right, stamped_wrong}
 use Rattle.grade.proofs.admit.admit_stamped.Goals as goal
 

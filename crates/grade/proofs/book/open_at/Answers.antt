@@ -1,6 +1,5 @@
 -- `grade::book::open_at` meets its contract: what the index told, or what is found by it. Assumes nothing.
 use mathlib.Core.Path.{sym, ap, ◌∙◌}
-use native.Mathlib.Omega.{arith}
 use lib.Seq.{length-take-le}
 use Rattle.std.proofs.lemmas.Result.{err_from_is_err_and}
 use Rattle.hl7.specs.Refusals.{Told}

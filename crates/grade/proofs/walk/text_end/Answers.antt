@@ -11,7 +11,6 @@ use lib.Seq.{slice}
 use Rattle.std.specs.Prelude.{None}
 use Rattle.std.specs.Bool.{then_some}
 use Rattle.hl7.specs.Bytes.{all}
-use Rattle.hl7.proofs.Comparing.{part_slice}
 use Rattle.grade.specs.Book.{plain, text}
 use Rattle.grade.specs.Standing.{end_of}
 use Rattle.grade.proofs.walk.text_end.Goals as goal
