@@ -6,10 +6,12 @@ use Prim.Native.Char.{code}
 use Prim.Native.Nat.{ℕ}
 use lib.Dec.{eqb}
 use borrow.Author.Tests.{eq-eqb, ne_eqb}
+use native.Mathlib.Omega.{arith}
 use Rattle.hl7.specs.Text.{bytes}
 use Rattle.grade.specs.Rule.{severity_letter}
 use Rattle.grade.specs.declared.rule.Kind.{Kind}
 use Rattle.grade.specs.declared.rule.Rule.{Rule}
+use Rattle.grade.specs.declared.rule.Severity.{Severity}
 use Rattle.ack.specs.Decimal.{decimal}
 use Rattle.ack.specs.Layout.{joined, marked}
 use Rattle.ack.specs.Output.{Adds}
@@ -61,6 +63,18 @@ module _ (key : List ℕ) (mark n : ℕ) (rule : Rule) where
       tail-is = ap (λ (l : List ℕ). 32 ∷ severity_letter rule.severity ∷ l)
           (sym (append_assoc (marked 32 (number_words rule.kind)) (marked 32 (code_words mark codes)) (line_feed ∷ []))
           ∙ ap (λ (l : List ℕ). l ++ (line_feed ∷ [])) (sym (marked_both (number_words rule.kind) (code_words mark codes))))
+
+-- ---- severities
+pub letters_differ : (s t : Severity) → (s ≡ t → ⊥) → severity_letter s ≡ severity_letter t → ⊥
+letters_differ Severity.Error Severity.Error n e = n refl
+letters_differ Severity.Error Severity.Warning n e = omega (arith, e)
+letters_differ Severity.Error Severity.Informational n e = omega (arith, e)
+letters_differ Severity.Warning Severity.Error n e = omega (arith, e)
+letters_differ Severity.Warning Severity.Warning n e = n refl
+letters_differ Severity.Warning Severity.Informational n e = omega (arith, e)
+letters_differ Severity.Informational Severity.Error n e = omega (arith, e)
+letters_differ Severity.Informational Severity.Warning n e = omega (arith, e)
+letters_differ Severity.Informational Severity.Informational n e = n refl
 
 -- ---- a line, unless a test holds
 pub unless-skipped : {test : Bool} (line : List (List ℕ)) → test ≡ true → [] ≡ printed (unless test line)

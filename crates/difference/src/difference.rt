@@ -1,5 +1,6 @@
 // What differs between two books.
-ghost use Rattle.std.specs.Prelude.{◌≡◌, true};
+ghost use Rattle.std.specs.Prelude.{◌≡◌, ◌<◌, true, length, IfSome};
+ghost use Rattle.std.specs.Option.{unwrap_or};
 ghost use mathlib.Core.List.{[], ◌∷◌, map, flat_map};
 ghost use Rattle.hl7.specs.Text.{bytes};
 ghost use Rattle.hl7.specs.Bytes.{all};
@@ -21,17 +22,18 @@ use hl7::bytes::same_bytes;
 
 const LINE_FEED: u8 = 10;
 
-// The number from 0 of the section with a key, of those that start at the positions; their number where there is none.
-fn find_key(book: &[u8], starts: &[usize], key: &[u8]) -> usize
+// The number from 0 of the section with a key, of those that start at the positions.
+fn find_key(book: &[u8], starts: &[usize], key: &[u8]) -> Option<usize>
     requires { all (stands_at book.now) starts.now ≡ true }
-    ensures { result ≡ key_place key.now (map (text_at book.now) starts.now) }
+    ensures is { unwrap_or result (length starts.now) ≡ key_place key.now (map (text_at book.now) starts.now) }
+    ensures inside { IfSome result (λ i. i < length starts.now) }
 {
     for (i, start) in starts.iter().enumerate() {
         if same_bytes(key, text_part(book, *start)) {
-            return i;
+            return Some(i);
         }
     }
-    starts.len()
+    None
 }
 
 // A section that one book has.
@@ -50,13 +52,13 @@ fn put_old_section(out: &mut Output<'_>, old: &[u8], start: usize, new: &[u8], n
     ensures { Adds out.old (printed (old_section (map (contents_at new.now) news.now) (contents_at old.now start))) out.new }
 {
     let key = text_part(old, start);
-    let i = find_key(new, news, key);
-    if i < news.len() {
-        let before = Side::new(old, start);
-        let after = Side::new(new, news[i]);
-        put_both(out, key, &before, &after);
-    } else {
-        put_lone(out, b'-', key);
+    match find_key(new, news, key) {
+        Some(i) => {
+            let before = Side::new(old, start);
+            let after = Side::new(new, news[i]);
+            put_both(out, key, &before, &after);
+        }
+        None => put_lone(out, b'-', key),
     }
 }
 
@@ -75,10 +77,10 @@ fn put_new_section(out: &mut Output<'_>, old: &[u8], olds: &[usize], new: &[u8],
     ensures { Adds out.old (printed (new_section (map (contents_at old.now) olds.now) (contents_at new.now start))) out.new }
 {
     let key = text_part(new, start);
-    if find_key(old, olds, key) < olds.len() {
-        return;
+    match find_key(old, olds, key) {
+        Some(_) => {}
+        None => put_lone(out, b'+', key),
     }
-    put_lone(out, b'+', key);
 }
 
 fn put_new_sections(out: &mut Output<'_>, old: &[u8], olds: &[usize], new: &[u8], news: &[usize])

@@ -11,7 +11,7 @@ use crate::numbers::same_numbers;
 use crate::ruled::Ruled;
 use ack::output::Output;
 use canonical::show::{put_kind, put_place, put_range, put_severity};
-use grade::rule::{Kind, Rule, severity_letter};
+use grade::rule::{Kind, Rule};
 use grade::walk::{text_after, text_part};
 
 const LINE_FEED: u8 = 10;
@@ -96,7 +96,7 @@ pub(crate) fn put_rule(out: &mut Output<'_>, key: &[u8], mark: u8, n: usize, rul
 fn put_severities(out: &mut Output<'_>, key: &[u8], n: usize, rule: Rule, other: Rule)
     ensures { Adds out.old (printed (severity_lines key.now n rule other)) out.new }
 {
-    if severity_letter(rule.severity) == severity_letter(other.severity) {
+    if rule.severity == other.severity {
         return;
     }
     put_head(out, key, b'~', n, rule);

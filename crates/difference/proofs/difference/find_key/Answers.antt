@@ -23,7 +23,7 @@ pub returns-then-same_bytes : goal.returns-then-same_bytes
 returns-then-same_bytes c =
     let key = c.args.key.now in
     let is = ap (same key) (sym c.text_part.ensures) ∙ sym c.same_bytes.ensures ∙ c.if-same_bytes.true in
-    omega (arith, c.loop-i.invariant, place_stop (text_at c.args.book.now) c.args.starts.now c.loop-i.i key (omega arith) is)
+    record { is = omega (arith, c.loop-i.invariant, place_stop (text_at c.args.book.now) c.args.starts.now c.loop-i.i key (omega arith) is); inside = omega arith }
 
 pub loop-i-preserved : goal.loop-i-preserved
 loop-i-preserved c =
@@ -31,7 +31,7 @@ loop-i-preserved c =
     let other = ap (same key) (sym c.text_part.ensures) ∙ sym c.same_bytes.ensures ∙ c.if-same_bytes.false in
     omega (arith, c.loop-i.invariant, place_more (text_at c.args.book.now) c.args.starts.now c.loop-i.i key (omega arith) other)
 
-pub returns : goal.returns
-returns c =
+pub returns-clause-is : goal.returns-clause-is
+returns-clause-is c =
     let key = c.args.key.now in
     omega (arith, c.loop-i.invariant, place-over (text_at c.args.book.now) c.args.starts.now c.loop-i.i key (omega arith))

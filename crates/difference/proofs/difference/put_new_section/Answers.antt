@@ -1,4 +1,5 @@
 -- `difference::difference::put_new_section` meets its contract. Assumes nothing.
+use native.Mathlib.Omega.{arith}
 use Rattle.ack.proofs.Adding.{adds_none}
 use Rattle.canonical.proofs.PutBook.{section-key}
 use Rattle.difference.proofs.Sections.{section-known, section_come}
@@ -7,12 +8,12 @@ use Rattle.difference.proofs.difference.put_new_section.Goals as goal
 pub text_part-key-requires : goal.text_part-key-requires
 text_part-key-requires c = section-key c.args.new.now c.args.start c.requires.1
 
-pub returns-then-find_key-olds : goal.returns-then-find_key-olds
-returns-then-find_key-olds c =
+pub returns-in-Some : goal.returns-in-Some
+returns-in-Some c =
     adds_none _
-    (section-known c.args.old.now c.args.olds.now c.requires.0 c.args.new.now c.args.start c.requires.1 c.text_part-key.ensures c.find_key.ensures c.if-find_key-olds.true)
+    (section-known c.args.old.now c.args.olds.now c.requires.0 c.args.new.now c.args.start c.requires.1 c.text_part-key.ensures c.in-Some.ensures.is c.in-Some.ensures.inside)
 
-pub returns : goal.returns
-returns c =
+pub returns-in-None : goal.returns-in-None
+returns-in-None c =
     section_come c.args.old.now c.args.olds.now c.requires.0 c.args.new.now c.args.start c.requires.1
-    c.text_part-key.ensures c.find_key.ensures c.if-find_key-olds.false c.put_lone.ensures
+    c.text_part-key.ensures c.in-None.ensures.is (omega arith) c.put_lone.ensures

@@ -1,4 +1,5 @@
 -- `difference::difference::put_old_section` meets its contract. Assumes nothing.
+use native.Mathlib.Omega.{arith}
 use Rattle.hl7.proofs.Comparing.{all-at}
 use Rattle.grade.specs.Standing.{stands_at}
 use Rattle.canonical.proofs.PutBook.{section-key}
@@ -9,18 +10,18 @@ pub text_part-key-requires : goal.text_part-key-requires
 text_part-key-requires c = section-key c.args.old.now c.args.start c.requires.0
 
 pub new-after-requires : goal.new-after-requires
-new-after-requires c = all-at (stands_at c.args.new.now) c.args.news.now c.find_key-i.result c.requires.1 c.if-i-news.true
+new-after-requires c = all-at (stands_at c.args.new.now) c.args.news.now c.in-Some.i c.requires.1 c.in-Some.ensures.inside
 
-pub returns-then-i-news : goal.returns-then-i-news
-returns-then-i-news c =
-    let there = all-at (stands_at c.args.new.now) c.args.news.now c.find_key-i.result c.requires.1 c.if-i-news.true in
+pub returns-in-Some : goal.returns-in-Some
+returns-in-Some c =
+    let there = all-at (stands_at c.args.new.now) c.args.news.now c.in-Some.i c.requires.1 c.in-Some.ensures.inside in
     let before = c.new-before.ensures in
     let after = c.new-after.ensures in
     section_both c.args.old.now c.args.start c.requires.0 c.args.new.now c.args.news.now c.requires.1
-    c.text_part-key.ensures c.find_key-i.ensures c.if-i-news.true
+    c.text_part-key.ensures c.in-Some.ensures.is c.in-Some.ensures.inside
     (rw (before.0, before.1) at c.new-before.result.sited) (rw (after.0, after.1) at c.new-after.result.sited) there (rw (before.0, after.0) at c.put_both.ensures)
 
-pub returns-else-i-news : goal.returns-else-i-news
-returns-else-i-news c =
+pub returns-in-None : goal.returns-in-None
+returns-in-None c =
     section_lone c.args.old.now c.args.start c.requires.0 c.args.new.now c.args.news.now c.requires.1
-    c.text_part-key.ensures c.find_key-i.ensures c.if-i-news.false c.put_lone.ensures
+    c.text_part-key.ensures c.in-None.ensures.is (omega arith) c.put_lone.ensures
