@@ -54,6 +54,7 @@ fn note(whole: bool, lines: &mut [Finding], used: usize, finding: Finding)
 }
 
 // The sheet behind one: the next findings, until it is full or nothing more comes; or, of the whole, all of them, which are then counted and not noted.
+// The sheet is lent: passed by value it would be copied once more, which a short message's answer shows.
 pub(crate) fn list_behind(m: &[u8], book: &[u8], s: &Sheet, whole: bool) -> Sheet
     requires { Ready m.now book.now s.now × (s.now.ended ≡ false) × (whole ≡ true → length (to_come m.now book.now s.now) ≤ finding_limit) }
     ensures { Lists m.now book.now whole s.now result }
