@@ -87,11 +87,6 @@ all-at test [] i h k = absurd (not-suc-le-zero k)
 all-at test (x ∷ v) zero h k = (and_both (test x) (all test v) h).0
 all-at test (x ∷ v) (suc i) h k = all-at test v i (and_both (test x) (all test v) h).1 (le_of_suc-le-suc k)
 
-pub all_snoc : (test : ℕ → Bool) (v : List ℕ) (x : ℕ) → all test v ≡ true → test x ≡ true → all test (v ++ (x ∷ [])) ≡ true
-unfolding all
-all_snoc test [] x h k = rw k
-all_snoc test (y ∷ v) x h k = let t = and_both (test y) (all test v) h in rw t.0 (all_snoc test v x t.1 k)
-
 -- every byte of what is put together, or taken apart
 module _ (test : ℕ → Bool) where
   pub all_append : (s t : List ℕ) → all test s ≡ true → all test t ≡ true → all test (s ++ t) ≡ true
@@ -196,20 +191,6 @@ module _ {A : Type 0} (f : ℕ → A) (l : List ℕ) (i : ℕ) where
 
   pub from_step : i < length l → map f (drop i l) ≡ f (get_or l i 0) ∷ map f (drop (i + 1) l)
   from_step h = rw (rest_at l i h)
-
--- a text among those that stand at the positions
-module _ (f : ℕ → List ℕ) (l : List ℕ) (i : ℕ) (v : List ℕ) where
-  pub among_done : length l ≤ i → among v (map f (drop i l)) ≡ false
-  unfolding among
-  among_done h = rw (from_done f l i h)
-
-  pub among_stop : i < length l → same v (f (get_or l i 0)) ≡ true → among v (map f (drop i l)) ≡ true
-  unfolding among
-  among_stop h e = rw (from_step f l i h, e)
-
-  pub among_more : i < length l → same v (f (get_or l i 0)) ≡ false → among v (map f (drop (i + 1) l)) ≡ among v (map f (drop i l))
-  unfolding among
-  among_more h e = rw (from_step f l i h, e)
 
 -- a text among others that are put together
 pub among-append : (c : List ℕ) (cs ds : List (List ℕ)) → among c (cs ++ ds) ≡ (among c cs || among c ds)

@@ -26,7 +26,7 @@ fn may_delimit(x: u8) -> bool
     is_within(x, 32, 126) & !(letter | digit | other)
 }
 
-// Whether the five differ pairwise: ten comparisons.
+// Whether the five differ pairwise: ten comparisons, which loops over an array would not make plainer.
 fn are_distinct(d: Delims) -> bool
     ensures { result ≡ distinct (five_of d) }
 {

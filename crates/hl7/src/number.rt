@@ -15,7 +15,7 @@ pub fn with_digit(value: usize, digit: u8) -> usize
     more.min(TOO_LARGE)
 }
 
-// Whether bytes are all digits, and their value, as far as values are told apart.
+// Whether bytes are all digits, and their value, as far as values are told apart. No Option: the value is told of any bytes, digits or not.
 #[derive(Clone, Copy)]
 pub struct Digits {
     pub all: bool,

@@ -78,10 +78,7 @@ pub fn is_msh(seg: &[u8]) -> bool
 fn never_cut(seg: &[u8], f: usize) -> bool
     ensures { result ≡ never_cut seg.now f }
 {
-    if 2 < f {
-        return false;
-    }
-    is_msh(seg)
+    (f <= 2) && is_msh(seg)
 }
 
 // Where segment n of a message stands, without its CR.
@@ -108,19 +105,16 @@ enum FieldAt {
 }
 
 // Which part field f is. The bar itself is MSH-1, so that MSH's other fields are one part further left.
+#[tactic(auto, using(crate::proofs::Placing::field_msh, crate::proofs::Placing::field_other))]
 fn field_at(msh: bool, f: usize) -> FieldAt
     ensures { FieldIs msh f result }
 {
-    if f == 0 {
-        return FieldAt::Missing;
+    match (msh, f) {
+        (_, 0) => FieldAt::Missing,
+        (true, 1) => FieldAt::Bar,
+        (true, _) => FieldAt::Part(f - 1),
+        (false, _) => FieldAt::Part(f),
     }
-    if msh {
-        if f == 1 {
-            return FieldAt::Bar;
-        }
-        return FieldAt::Part(f - 1);
-    }
-    FieldAt::Part(f)
 }
 
 // Where MSH-1 stands, which is missing if the name is all there is.

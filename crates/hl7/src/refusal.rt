@@ -76,6 +76,7 @@ fn has_form(d: Delims, seg: &[u8]) -> bool
 pub fn wrong_segment(d: Delims, m: &[u8]) -> Option<usize>
     ensures { result ≡ first_of (wrong_segments d 0 (cut carriage_return m.now)) }
 {
+    // By position, and not by `split`: a CR is found block by block, and a segment without one is told.
     let mut at = 0;
     while at < m.len() {
         let end = find_far(m, b'\r', at);

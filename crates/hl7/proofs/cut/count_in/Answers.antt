@@ -3,9 +3,6 @@ use native.Mathlib.Omega.{arith}
 use Rattle.hl7.proofs.Comparing.{counted_test, occurs_more, occurs-none, picked_most}
 use Rattle.hl7.proofs.cut.count_in.Goals as goal
 
-pub overflow_add-n : goal.overflow_add-n
-overflow_add-n c = omega (arith, picked_most _ 1 0 _ (counted_test _ _ c.from-n.ensures))
-
 pub loop-x-preserved : goal.loop-x-preserved
 loop-x-preserved c =
     let args = c.args in
