@@ -213,7 +213,7 @@ pub fn spot_of(rule: Rule) -> usize
     )
 }
 
-// Whether a number is among some.
+// Whether a number is among some. It leaves the loop at the end only, so that many are looked at together.
 fn is_in(spots: &[usize], x: usize) -> bool
     ensures { result ≡ is_in x spots.now }
 {

@@ -4,6 +4,7 @@ ghost use Rattle.difference.specs.Difference.{low_of, high_of, same_numbers};
 
 use grade::rule::Kind;
 
+// The numbers as a rule has them, 0 where there is none; two kinds with the same numbers may differ in their set, which a derive would tell apart.
 fn low_of(kind: Kind) -> u8
     ensures { result ≡ low_of kind }
 {

@@ -24,6 +24,7 @@ fn put_old_rule(out: &mut Output<'_>, key: &[u8], old: &Side<'_>, new: &Side<'_>
     }
 }
 
+// The old rules, and below the new ones: one loop over a closure would be longer than the two.
 fn put_old_rules(out: &mut Output<'_>, key: &[u8], old: &Side<'_>, new: &Side<'_>)
     ensures { Adds out.old (printed (flat_map (old_lines (held key.now old.now) (held key.now new.now)) (count_from 0 old.now.section.rule_count))) out.new }
 {

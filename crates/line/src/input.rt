@@ -7,7 +7,7 @@ use std::fs;
 use std::io::Read;
 use std::rt::Files;
 
-// What a turn of reading leaves, and whether there may be more of the line.
+// What a turn of reading leaves, and whether there may be more of the line: the state counts in both cases, so it is no Option.
 #[derive(Clone, Copy)]
 struct Turn {
     more: bool,

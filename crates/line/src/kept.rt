@@ -8,7 +8,7 @@ use hl7::number::{TOO_LARGE, with_digit};
 // One byte more than a stamp has.
 const HEAD_LENGTH: usize = 20;
 
-// The first bytes of the line, and how many there are.
+// The first bytes of the line, and how many there are. Memory is fixed: no list grows.
 #[derive(Clone, Copy)]
 pub struct Head {
     pub bytes: [u8; 20],
