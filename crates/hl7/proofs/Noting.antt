@@ -98,17 +98,6 @@ module _ (d : ℕ) (s before starts : List ℕ) (k at : ℕ) (n : Noting d s bef
   noted : ((j : ℕ) → k ≤ j → j + 1 < length starts → piece_at (cut d s) j ≡ missing s) → Noted d s starts k
   noted rest = record { ahead = λ j h. (n.marked j h).ahead; here = λ j h. (n.marked j h).here; rest = rest }
 
-  -- no room for more
-  pub noted_full : length starts ≡ k + 1 → Notes d s before starts k
-  noted_full full =
-      record {
-        noted = noted (λ j h l. absurd (omega arith));
-        exact = omega (arith, n.counted, n.same);
-        first = n.first;
-        kept = n.kept;
-        same = n.same;
-      }
-
   -- no part more
   pub noted-all : k < length starts → length s < at → Notes d s before starts k
   noted-all fits past =

@@ -2,11 +2,11 @@
 use mathlib.Core.Path.{◌≡◌, refl, sym, ap, ◌∙◌}
 use mathlib.Core.Bool.{Bool, true, ◌&&◌}
 use mathlib.Core.List.{List, [], ◌∷◌, ◌++◌}
-use Prim.Native.Nat.{ℕ, ◌+◌, ◌-◌, ◌*◌, ◌≤◌, ◌<◌, min}
+use Prim.Native.Nat.{ℕ, ◌+◌, ◌-◌, ◌*◌, ◌<◌, min}
 use native.Mathlib.Omega.{arith}
 use native.Mathlib.Numerals.{add-one}
 use lib.ListN.{length, get_or, take}
-use lib.Seq.{take_all, take-suc}
+use lib.Seq.{take-suc}
 use Rattle.hl7.specs.Bytes.{is_digit, all}
 use Rattle.hl7.specs.Number.{value_after, value_of}
 use Rattle.hl7.specs.Counted.{too_large, with_digit}
@@ -39,8 +39,3 @@ module _ (text : List ℕ) {every : Bool} {value i : ℕ} (r : Read text every v
         digits = rw (more, all_last is_digit (take i text) (get_or text i 0), ← r.digits, d);
         counted = n ∙ value_more 0 (take i text) (get_or text i 0) r.counted ∙ ap (λ (l : List ℕ). min (value_of l) too_large) (sym more);
       }
-
-  pub read_all : length text ≤ i → (every ≡ all is_digit text) × (value ≡ min (value_of text) too_large)
-  read_all h =
-      let whole = take_all i text h in
-      (r.digits ∙ ap (all is_digit) whole, r.counted ∙ ap (λ (l : List ℕ). min (value_of l) too_large) whole)

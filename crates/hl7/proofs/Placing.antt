@@ -86,9 +86,6 @@ module _ (bar : ℕ) (seg : List ℕ) (f : ℕ) {msh : Bool} (a : FieldAt) (name
   pub at-bar : {r : Span} → a ≡ Bar → Spans seg (part_of_field (is_msh seg) bar seg 1) r → Spans seg (part_of_field (is_msh seg) bar seg f) r
   at-bar e found = spans_as (ap (part_of_field (is_msh seg) bar seg) (subst (FieldIs msh f) e is).1) found
 
-  pub at_part : {r : Span} (k : ℕ) → a ≡ Part k → Spans seg (piece_at (cut bar seg) k) r → Spans seg (part_of_field (is_msh seg) bar seg f) r
-  at_part k e found = spans_as (rw (← named) ((subst (FieldIs msh f) e is).0 bar seg)) found
-
   pub at-part-few : (k : ℕ) → a ≡ Part k → k ≤ f
   at-part-few k e = (subst (FieldIs msh f) e is).1
 

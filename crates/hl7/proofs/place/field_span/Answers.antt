@@ -1,5 +1,5 @@
 -- `hl7::place::field_span` meets its contract: the part that the field is. Assumes nothing.
-use Rattle.hl7.proofs.Placing.{at-missing, at-bar-named, at-bar, at_part}
+use Rattle.hl7.proofs.Placing.{at-missing, at-bar-named, at-bar}
 use Rattle.hl7.proofs.place.field_span.Goals as goal
 
 pub bar_span-requires : goal.bar_span-requires
@@ -12,6 +12,3 @@ returns-in-Missing c = at-missing _ _ _ c.field_at.result c.is_msh.ensures c.fie
 
 pub returns-in-Bar : goal.returns-in-Bar
 returns-in-Bar c = at-bar _ _ _ c.field_at.result c.is_msh.ensures c.field_at.ensures c.in-Bar.is c.bar_span.ensures
-
-pub returns-in-Part : goal.returns-in-Part
-returns-in-Part c = at_part _ _ _ c.field_at.result c.is_msh.ensures c.field_at.ensures c.in-Part.k c.in-Part.is c.part.ensures

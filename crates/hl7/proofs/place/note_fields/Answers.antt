@@ -1,10 +1,8 @@
 -- `hl7::place::note_fields` meets its contract, by the invariant that stands beside this. Assumes nothing.
-use mathlib.Core.Path.{◌≡◌}
-use Prim.Native.Nat.{◌-◌}
 use native.Mathlib.Omega.{arith}
-use lib.ListN.{length, length-set}
+use lib.ListN.{length-set}
 use Rattle.hl7.proofs.Cutting.{end_within}
-use Rattle.hl7.proofs.Noting.{noting_none, noting_more, noted_full, noted-all, noted-none}
+use Rattle.hl7.proofs.Noting.{noting_none, noting_more, noted-all, noted-none}
 use Rattle.hl7.proofs.place.note_fields.Goals as goal
 
 pub returns-then-size-eq0 : goal.returns-then-size-eq0
@@ -26,11 +24,3 @@ overflow_add-at c =
 
 pub loop-k-preserved : goal.loop-k-preserved
 loop-k-preserved c = (simp length-set c.loop-k.invariant.0, noting_more _ _ _ _ _ _ c.loop-k.invariant.1 _ (simp length-set (omega arith)) c.if-n-at.false c.find-at.ensures)
-
-pub shape_of-starts : goal.shape_of-starts
-shape_of-starts c = simp length-set (omega arith)
-
-pub returns : goal.returns
-returns c =
-    let last : c.loop-k.k ≡ length c.args.starts.now - 1 = omega arith in
-    rw (← last) (noted_full _ _ _ _ _ _ c.loop-k.invariant.1 (simp length-set (omega arith)))

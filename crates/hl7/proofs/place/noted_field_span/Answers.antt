@@ -1,6 +1,6 @@
 -- `hl7::place::noted_field_span` meets its contract: the part that the field is, as it is noted. Assumes nothing.
 use native.Mathlib.Omega.{arith}
-use Rattle.hl7.proofs.Placing.{at-missing, at-bar-named, at-bar, at_part, at-part-few}
+use Rattle.hl7.proofs.Placing.{at-missing, at-bar-named, at-part-few}
 use Rattle.hl7.proofs.place.noted_field_span.Goals as goal
 
 pub bar_span-requires : goal.bar_span-requires
@@ -15,9 +15,3 @@ noted_part-requires c =
 
 pub returns-in-Missing : goal.returns-in-Missing
 returns-in-Missing c = at-missing _ _ _ c.field_at.result c.requires.1 c.field_at.ensures c.in-Missing.is c.missing_span.ensures
-
-pub returns-in-Bar : goal.returns-in-Bar
-returns-in-Bar c = at-bar _ _ _ c.field_at.result c.requires.1 c.field_at.ensures c.in-Bar.is c.bar_span.ensures
-
-pub returns-in-Part : goal.returns-in-Part
-returns-in-Part c = at_part _ _ _ c.field_at.result c.requires.1 c.field_at.ensures c.in-Part.k c.in-Part.is c.noted_part.ensures
