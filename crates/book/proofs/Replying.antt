@@ -1,5 +1,5 @@
 -- Laws of `specs/Command.antt`, `specs/Words.antt` and `specs/Reply.antt`, in the words of the code. Assumes nothing.
-use mathlib.Core.Path.{◌≡◌, sym, ap, ◌∙◌, subst}
+use mathlib.Core.Path.{◌≡◌, refl, sym, ap, ◌∙◌, subst}
 use mathlib.Core.Bool.{Bool, true, false, cond, ◌&&◌}
 use mathlib.Core.List.{List, [], ◌∷◌, ◌++◌}
 use mathlib.Core.Logic.{⊎_elim}
@@ -14,13 +14,15 @@ use Rattle.hl7.specs.Bytes.{same}
 use Rattle.ack.specs.Decimal.{decimal}
 use Rattle.ack.specs.Splice.{limit, Wrote}
 use Rattle.ack.proofs.Writing.{lt_or_ge, splice-at-start}
-use Rattle.booktext.specs.declared.told.Told.{Told}
+use Rattle.booktext.specs.Faults.{number_of, told_by, tell}
+use Rattle.booktext.specs.declared.told.Row.{Row}
+use Rattle.booktext.specs.declared.told.Fault.{Fault}
+use Rattle.booktext.proofs.Telling.{row-some}
 use Rattle.book.specs.declared.command.Command.{Command}
 use Rattle.book.specs.declared.counts.Counts.{Counts}
 use Rattle.book.specs.Command.{command_of}
 use Rattle.book.specs.Counts.{sections_in}
-use Rattle.book.specs.Words.{last_words, later_words, words_for}
-use Rattle.book.specs.Reply.{line_text, refused_text, source_refused_text, compiled_text, made, told_text, book_refused_text, shown_text, legend_text, diff_text}
+use Rattle.book.specs.Reply.{line_text, refused_text, source_refused_text, compiled_text, told_text, book_refused_text, shown_text, legend_text, diff_text}
 use Rattle.book.specs.Standing.{counts_of}
 
 -- ---- the command line, by the tests of the code
@@ -54,28 +56,6 @@ module _ (count : ℕ) (verb : List ℕ) {first : Bool} (e : first ≡ same verb
           command_unknown t = rw (← e, f, ← g, h, ← i, j, ← k, l, ← m, t)
 
 -- ---- a refusal
-pub words-none : (n : ℕ) →
-    (n ≡ 50 → ⊥) → (n ≡ 51 → ⊥) → (n ≡ 52 → ⊥) → (n ≡ 53 → ⊥) → (n ≡ 54 → ⊥) → (n ≡ 55 → ⊥) → (n ≡ 56 → ⊥) →
-    last_words n ≡ []
-unfolding last_words
-words-none n h50 h51 h52 h53 h54 h55 h56 =
-    rw (ne_eqb n 50 h50, ne_eqb n 51 h51, ne_eqb n 52 h52, ne_eqb n 53 h53, ne_eqb n 54 h54, ne_eqb n 55 h55, ne_eqb n 56 h56)
-
-pub words_last : (n : ℕ) →
-    (n ≡ 43 → ⊥) → (n ≡ 44 → ⊥) → (n ≡ 45 → ⊥) → (n ≡ 46 → ⊥) → (n ≡ 47 → ⊥) → (n ≡ 48 → ⊥) → (n ≡ 49 → ⊥) →
-    later_words n ≡ last_words n
-unfolding later_words
-words_last n h43 h44 h45 h46 h47 h48 h49 =
-    rw (ne_eqb n 43 h43, ne_eqb n 44 h44, ne_eqb n 45 h45, ne_eqb n 46 h46, ne_eqb n 47 h47, ne_eqb n 48 h48, ne_eqb n 49 h49)
-
-pub words-later : (n : ℕ) →
-    (n ≡ 31 → ⊥) → (n ≡ 32 → ⊥) → (n ≡ 33 → ⊥) → (n ≡ 34 → ⊥) → (n ≡ 35 → ⊥) → (n ≡ 36 → ⊥) →
-    (n ≡ 37 → ⊥) → (n ≡ 38 → ⊥) → (n ≡ 39 → ⊥) → (n ≡ 40 → ⊥) → (n ≡ 41 → ⊥) → (n ≡ 42 → ⊥) →
-    words_for n ≡ later_words n
-unfolding words_for
-words-later n h31 h32 h33 h34 h35 h36 h37 h38 h39 h40 h41 h42 =
-    rw (ne_eqb n 31 h31, ne_eqb n 32 h32, ne_eqb n 33 h33, ne_eqb n 34 h34, ne_eqb n 35 h35, ne_eqb n 36 h36, ne_eqb n 37 h37, ne_eqb n 38 h38, ne_eqb n 39 h39, ne_eqb n 40 h40, ne_eqb n 41 h41, ne_eqb n 42 h42)
-
 module _ (word : List ℕ) (line : ℕ) where
   pub line-none : line ≡ 0 → [] ≡ line_text word line
   unfolding line_text
@@ -96,58 +76,84 @@ front-stands out n room h =
       ends = omega (arith, taken);
     }
 
-pub made-stands : (t : Told) (out : List ℕ) {front : List ℕ} → front ≡ made t out → length out < limit → Wrote out 0 (made t out) out (length front)
-made-stands t out is room =
-    subst (λ (l : List ℕ). Wrote out 0 (made t out) out (length l)) (sym is)
+pub made-stands : (size : ℕ) (out : List ℕ) {front : List ℕ} → front ≡ take size out → length out < limit → Wrote out 0 (take size out) out (length front)
+made-stands size out is room =
+    subst (λ (l : List ℕ). Wrote out 0 (take size out) out (length l)) (sym is)
     (⊎_elim
-    (λ near. front-stands out t.detail room (omega arith))
+    (λ near. front-stands out size room (omega arith))
     (λ far.
-    subst (λ (l : List ℕ). Wrote out 0 l out (length l)) (take_all (length out) out (omega arith) ∙ sym (take_all t.detail out far)) (front-stands out (length out) room (omega arith)))
-    (lt_or_ge t.detail (length out)))
+    subst (λ (l : List ℕ). Wrote out 0 l out (length l)) (take_all (length out) out (omega arith) ∙ sym (take_all size out far)) (front-stands out (length out) room (omega arith)))
+    (lt_or_ge size (length out)))
 
-pub source_refused : (t : Told) {line : ℕ} → line ≡ cond (eqb t.number 55) 0 t.detail → refused_text t.number line t.section ≡ source_refused_text t
-unfolding source_refused_text
-source_refused t e = rw e
+-- no other refusal has the number of the output's
+other_row : (row : Row) → (row ≡ Row.ShortOutput → ⊥) → eqb (number_of row) 55 ≡ false
+other_row Row.Malformed n = refl
+other_row Row.OtherVersion n = refl
+other_row Row.LongText n = refl
+other_row Row.WrongByte n = refl
+other_row Row.UnknownStatement n = refl
+other_row Row.Misplaced n = refl
+other_row Row.WordCount n = refl
+other_row Row.WrongVersion n = refl
+other_row Row.WrongKey n = refl
+other_row Row.WrongCode n = refl
+other_row Row.WrongPlace n = refl
+other_row Row.WrongKind n = refl
+other_row Row.WrongSeverity n = refl
+other_row Row.WrongBound n = refl
+other_row Row.NameTaken n = refl
+other_row Row.SectionCount n = refl
+other_row Row.UnknownName n = refl
+other_row Row.UsedTwice n = refl
+other_row Row.RuleStands n = refl
+other_row Row.NoRule n = refl
+other_row Row.WrongChange n = refl
+other_row Row.RuleCount n = refl
+other_row Row.SetCount n = refl
+other_row Row.StraySet n = refl
+other_row Row.CodeCount n = refl
+other_row Row.LongBook n = refl
+other_row Row.ShortOutput n = absurd (n refl)
+other_row Row.StatementCount n = refl
 
-module _ (t : Told) (output : List ℕ) where
-  pub told-compiled : t.number ≡ 0 → {book : List ℕ} → book ≡ made t output → {c : Counts} → c ≡ counts_of (sections_in book) → compiled_text t.detail c.sections c.rules c.sets ≡ told_text t output
+module _ (f : Fault) where
+  pub source-output : f.row ≡ Row.ShortOutput → refused_text (number_of f.row) 0 f.section ≡ source_refused_text (told_by f)
+  unfolding source_refused_text
+  source-output e = rw e refl
+
+  pub source-other : (f.row ≡ Row.ShortOutput → ⊥) → refused_text (number_of f.row) f.detail f.section ≡ source_refused_text (told_by f)
+  unfolding source_refused_text
+  source-other n = rw (other_row f.row n) refl
+
+module _ (f : Fault) (output : List ℕ) where
+  some : eqb (number_of f.row) 0 ≡ false
+  some = ne_eqb (number_of f.row) 0 (row-some f.row)
+
+  pub told-refused : source_refused_text (told_by f) ≡ told_text (told_by f) output
   unfolding told_text
-  told-compiled e made is = rw (eq-eqb t.number 0 e, is, made)
+  told-refused = rw some refl
 
-  pub told-refused : (t.number ≡ 0 → ⊥) → source_refused_text t ≡ told_text t output
-  unfolding told_text
-  told-refused e = rw (ne_eqb t.number 0 e)
-
-  pub shown-made : t.number ≡ 0 → made t output ≡ shown_text t output
+  pub shown-refused : book_refused_text (number_of f.row) [] ≡ shown_text (told_by f) output
   unfolding shown_text
-  shown-made e = rw (eq-eqb t.number 0 e)
+  shown-refused = rw some refl
 
-  pub shown-refused : (t.number ≡ 0 → ⊥) → book_refused_text t.number [] ≡ shown_text t output
-  unfolding shown_text
-  shown-refused e = rw (ne_eqb t.number 0 e)
-
-  pub legend-made : t.number ≡ 0 → made t output ≡ legend_text t output
+  pub legend-refused : source_refused_text (told_by f) ≡ legend_text (told_by f) output
   unfolding legend_text
-  legend-made e = rw (eq-eqb t.number 0 e)
+  legend-refused = rw some refl
 
-  pub legend-refused : (t.number ≡ 0 → ⊥) → source_refused_text t ≡ legend_text t output
-  unfolding legend_text
-  legend-refused e = rw (ne_eqb t.number 0 e)
-
-  pub diff_made : t.number ≡ 0 → made t output ≡ diff_text t output
+  pub diff_long : f.row ≡ Row.ShortOutput → source_refused_text (told_by f) ≡ diff_text (told_by f) output
   unfolding diff_text
-  diff_made e = rw (eq-eqb t.number 0 e)
+  diff_long e = rw e refl
 
-  module _ (some : t.number ≡ 0 → ⊥) where
-    pub diff_long : t.number ≡ 55 → source_refused_text t ≡ diff_text t output
+  module _ (n : f.row ≡ Row.ShortOutput → ⊥) where
+    pub diff_old : f.detail ≡ 1 → book_refused_text (number_of f.row) (bytes " old") ≡ diff_text (told_by f) output
     unfolding diff_text
-    diff_long e = rw (ne_eqb t.number 0 some, eq-eqb t.number 55 e)
+    diff_old e = rw (some, other_row f.row n, eq-eqb f.detail 1 e) refl
 
-    module _ (short : t.number ≡ 55 → ⊥) where
-      pub diff_old : t.detail ≡ 1 → book_refused_text t.number (bytes " old") ≡ diff_text t output
-      unfolding diff_text
-      diff_old e = rw (ne_eqb t.number 0 some, ne_eqb t.number 55 short, eq-eqb t.detail 1 e)
+    pub diff_new : (f.detail ≡ 1 → ⊥) → book_refused_text (number_of f.row) (bytes " new") ≡ diff_text (told_by f) output
+    unfolding diff_text
+    diff_new e = rw (some, other_row f.row n, ne_eqb f.detail 1 e) refl
 
-      pub diff_new : (t.detail ≡ 1 → ⊥) → book_refused_text t.number (bytes " new") ≡ diff_text t output
-      unfolding diff_text
-      diff_new e = rw (ne_eqb t.number 0 some, ne_eqb t.number 55 short, ne_eqb t.detail 1 e)
+pub told-compiled : (size : ℕ) (output : List ℕ) {book : List ℕ} → book ≡ take size output → {c : Counts} → c ≡ counts_of (sections_in book) → compiled_text size c.sections c.rules c.sets ≡ told_text (tell 0 size 0) output
+unfolding told_text
+told-compiled size output made is = rw (is, made) refl

@@ -9,7 +9,7 @@ use Rattle.grade.specs.Reader.{times}
 use Rattle.grade.specs.Rule.{segment_names, number_from, name_of_letters, place_fits, severity_of, kind_of, rule_said, rule_of}
 use Rattle.grade.specs.Book.{text, code_set, rule_in, section, distinct, sections, head_right, decoded, malformed, other_version}
 use Rattle.ack.specs.Decimal.{last_digits, decimal}
-use Rattle.booktext.specs.declared.told.Told.{Told}
+use Rattle.booktext.specs.Faults.{Told}
 use Rattle.book.specs.Counts.{sections_in, rule_total, set_total}
 use Rattle.book.specs.Words.{last_words, later_words, words_for}
 use Rattle.book.specs.Reply.{line_text, refused_text, source_refused_text, compiled_text, told_text, book_refused_text, shown_text, legend_text, diff_text}

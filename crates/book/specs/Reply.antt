@@ -2,7 +2,7 @@
 use Rattle.std.specs.Prelude.{ℕ, cond, List, [], ◌++◌, eqb, length, take}
 use Rattle.hl7.specs.Text.{bytes}
 use Rattle.ack.specs.Decimal.{decimal}
-use Rattle.booktext.specs.declared.told.Told.{Told}
+use Rattle.booktext.specs.Faults.{Told}
 use Rattle.book.specs.Counts.{sections_in, rule_total, set_total}
 use Rattle.book.specs.Words.{words_for}
 

@@ -134,11 +134,11 @@ fn is_source(rt: &impl Env, path: &[u8]) -> bool {
 
 // The book is written only where nothing is refused, and not over its source.
 fn keep(rt: &(impl Env + Files), told: Told, output: &mut [u8]) -> usize {
-    if told.number == 0 {
+    if let Ok(size) = told {
         let mut path = [0u8; 4096];
         let length = put_word(rt, 3, &mut path);
         if is_source(rt, front(&path, length))
-            || write_whole(rt, front(&path, length), front(output, told.detail)).is_err()
+            || write_whole(rt, front(&path, length), front(output, size)).is_err()
         {
             return put_file(output, b"written", front(&path, length));
         }

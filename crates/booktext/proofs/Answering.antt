@@ -10,9 +10,8 @@ use borrow.Author.Tests.{lt-ltb, le-ltb}
 use Rattle.hl7.proofs.Comparing.{none_of}
 use Rattle.ack.specs.Splice.{Wrote, limit}
 use Rattle.ack.proofs.Writing.{wrote-length, wrote-at-start}
-use Rattle.booktext.specs.Faults.{tell}
+use Rattle.booktext.specs.Faults.{Told, tell}
 use Rattle.booktext.specs.Refusals.{written}
-use Rattle.booktext.specs.declared.told.Told.{Told}
 
 module _ (result out : List ℕ) {size : ℕ} (e : size ≡ length result) where
   pub written-short : length out < size → {r : Told} → r ≡ tell 55 size 0 → (r ≡ (written result out).told) × (out ≡ (written result out).output)

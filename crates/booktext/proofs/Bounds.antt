@@ -17,9 +17,8 @@ use Rattle.booktext.specs.Lines.{Statement, word, says, verb, line_feed, line_of
 use Rattle.booktext.specs.Meaning.{body, from, expand}
 use Rattle.booktext.specs.Changes.{spot_of, settled}
 use Rattle.booktext.specs.Contents.{names_of, held, section_of, meaning}
-use Rattle.booktext.specs.Faults.{tell, nothing, firstly, may_stand, inside, count_right, version_right, key_right, codes_right, place_right, kind_right, severity_right, before_bound, bound_right, fault_of, first_fault}
+use Rattle.booktext.specs.Faults.{Told, tell, nothing, firstly, may_stand, inside, count_right, version_right, key_right, codes_right, place_right, kind_right, severity_right, before_bound, bound_right, fault_of, first_fault}
 use Rattle.booktext.specs.Refusals.{wrong_at, bytes_told, at_of, is_first, lacks, name_fault, first_name_fault, used_twice, statement_limit, stands, code_asked, rule_fault, first_rule_fault, first_stray, first_bad_set, over, section_told, sections_told, named_told, refusal, beginning, outcome, written, unless_refused, compiled, compile_of}
-use Rattle.booktext.specs.declared.told.Told.{Told}
 use Rattle.booktext.proofs.Promises.{never_7}
 
 -- nothing, or a refusal by a row of its own: 55 is none, its detail is a length

@@ -8,6 +8,7 @@ use lib.Dec.{eqb, ltb}
 use lib.ListN.{length, take, drop}
 use lib.Seq.{take-append_seam}
 use borrow.Author.Tests.{eqb-true, eq-eqb, ne_eqb, ltb-false}
+use Rattle.std.specs.Prelude.{Result, Ok, Err}
 use Rattle.hl7.specs.Text.{bytes}
 use Rattle.hl7.proofs.Comparing.{and_both}
 use Rattle.grade.specs.Book.{Contents}
@@ -17,11 +18,11 @@ use Rattle.ack.specs.Splice.{limit, Wrote}
 use Rattle.ack.proofs.Writing.{wrote_as, wrote-length, wrote-at-start, ◌then◌}
 use Rattle.booktext.specs.Lines.{Statement, verb, says, statements, line_of, text_limit, a_section}
 use Rattle.booktext.specs.Contents.{section_of, sections_in, meaning}
-use Rattle.booktext.specs.Faults.{tell, nothing, firstly, first_fault}
+use Rattle.booktext.specs.Faults.{Told, tell, nothing, told_of, firstly, first_fault}
 use Rattle.booktext.specs.Refusals.{wrong_at, bytes_told, first_name_fault, section_told, sections_told, beginning, named_told, refusal, outcome, written, unless_refused, compiled, compile_of}
-use Rattle.booktext.specs.Standing.{statement_at, next_line, left, Finds, sound, Puts, MakesBy}
-use Rattle.booktext.specs.declared.told.Told.{Told}
-use Rattle.booktext.specs.declared.sets.Put.{Put}
+use Rattle.booktext.specs.Standing.{statement_at, next_line, left, Finds, told_in, end_in, sound, Puts, MakesBy}
+use Rattle.booktext.specs.declared.told.Fault.{Fault}
+use Rattle.booktext.proofs.Telling.{row-some}
 use Rattle.booktext.proofs.Completing.{Completes, completes_more, completes_over}
 use Rattle.booktext.proofs.Answering.{written-short, written_done}
 use Rattle.booktext.proofs.Stating.{left-start, onward, onward-none, onward-some, found-onward}
@@ -47,21 +48,21 @@ abbrev pub bytes_at : List Statement → Statement → List Statement → List �
 bytes_at all s after = cond (says a_section s) (section_bytes (section_of all s after)) []
 
 -- nothing is refused, and the bytes were put
-puts_done : {want told : Told} {xs o after : List ℕ} {at next : ℕ} {r : Put} → nothing ≡ want → told ≡ nothing → Wrote o at xs after next → (r.told ≡ told) × (r.at ≡ next) → Puts want xs o at after r
-puts_done {xs = xs} {o} {after} {at} e f w r = record { tells = r.0 ∙ f ∙ e; wrote = λ z. subst (Wrote o at xs after) (sym r.1) w; length = wrote-length w }
+puts_done : {want : Told} {xs o after : List ℕ} {at next : ℕ} → nothing ≡ want → Wrote o at xs after next → Puts want xs o at after (Ok next)
+puts_done e w = record { tells = e; wrote = λ z. w; length = wrote-length w }
 
 module _ (s : Statement) {v : ℕ} (e : v ≡ verb s) where
   pub says-section : v ≡ a_section → says a_section s ≡ true
   says-section f = eq-eqb (verb s) a_section (sym e ∙ f)
 
-  module _ (t : List ℕ) (all after : List Statement) {o out : List ℕ} {at : ℕ} {r : Put} where
-    pub any_section : v ≡ a_section → Puts (section_told t all at s after) (section_bytes (section_of all s after)) o at out r → Puts (told_at t all at s after) (bytes_at all s after) o at out r
+  module _ (t : List ℕ) (all after : List Statement) {o out : List ℕ} {at : ℕ} where
+    pub any_section : v ≡ a_section → {r : Result ℕ Fault} → Puts (section_told t all at s after) (section_bytes (section_of all s after)) o at out r → Puts (told_at t all at s after) (bytes_at all s after) o at out r
     any_section f p = rw (says-section f) p
 
-    pub any_other : (v ≡ a_section → ⊥) → {told : Told} {next : ℕ} → told ≡ nothing → Wrote o at [] out next → (r.told ≡ told) × (r.at ≡ next) → Puts (told_at t all at s after) (bytes_at all s after) o at out r
-    any_other n f w k =
+    pub any_other : (v ≡ a_section → ⊥) → {next : ℕ} → Wrote o at [] out next → Puts (told_at t all at s after) (bytes_at all s after) o at out (Ok next)
+    any_other n w =
         let other : says a_section s ≡ false = ne_eqb (verb s) a_section (λ z. n (e ∙ z)) in
-        rw other (puts_done refl f w k)
+        rw other (puts_done refl w)
 
 -- ---- the sections
 module _ (t : List ℕ) (all : List Statement) (s : Statement) (ss : List Statement) where
@@ -115,17 +116,16 @@ making_start t o at h e f =
     (record { near = h; size = refl; right = e; tells = refl; puts = λ after r w. w })
 
 -- all sections were put, or one was refused
-abbrev pub Made : (t o : List ℕ) → ℕ → (after : List ℕ) → Put → Type 0
+abbrev pub Made : (t o : List ℕ) → ℕ → (after : List ℕ) → Result ℕ Fault → Type 0
 Made t o at after r = Puts (sections_told t (statements t) at (statements t)) (spell_all section_bytes (sections_in (statements t) (statements t))) o at after r
 
 module _ (t : List ℕ) (line : ℕ) {o out : List ℕ} {at to : ℕ} (m : Making t o at (onward t (left t) line) out to) where
-  pub making_over : length t < line → {told : Told} {after : List ℕ} {next : ℕ} {r : Put} → told ≡ nothing → Wrote out to [] after next → (r.told ≡ told) × (r.at ≡ next) → Made t o at after r
+  pub making_over : length t < line → {after : List ℕ} {next : ℕ} → Wrote out to [] after next → Made t o at after (Ok next)
   unfolding sections_told sections_in
-  making_over h f w r =
+  making_over h w =
       let none = onward-none t (left t) h in
-      puts_done (sym (m.tells ∙ ap (sections_told t (statements t) to) none)) f
+      puts_done (sym (m.tells ∙ ap (sections_told t (statements t) to) none))
       (completes_over m.puts (ap (λ (ss : List Statement). spell_all section_bytes (sections_in (statements t) ss)) none) w)
-      r
 
   module _ (h : line ≤ length t) where
     abbrev s : Statement
@@ -137,8 +137,8 @@ module _ (t : List ℕ) (line : ℕ) {o out : List ℕ} {at to : ℕ} (m : Makin
     pub making_right : each sound (s ∷ after) ≡ true
     making_right = ap (each sound) (sym (onward-some t (left t) h)) ∙ m.right
 
-    module _ {next : List ℕ} {one : Put} (p : Puts (told_at t (statements t) to s after) (bytes_at (statements t) s after) out to next one) where
-      pub making_refused : (one.told.number ≡ 0 → ⊥) → Made t o at next one
+    module _ {next : List ℕ} {one : Result ℕ Fault} (p : Puts (told_at t (statements t) to s after) (bytes_at (statements t) s after) out to next one) where
+      pub making_refused : ((told_in one).number ≡ 0 → ⊥) → Made t o at next one
       making_refused n =
           record {
             tells = sections-refused t (statements t) s after to p.tells n ∙ sym (m.tells ∙ ap (sections_told t (statements t) to) (onward-some t (left t) h));
@@ -146,11 +146,11 @@ module _ (t : List ℕ) (line : ℕ) {o out : List ℕ} {at to : ℕ} (m : Makin
             length = p.length ∙ m.size;
           }
 
-      pub making_on : one.told.number ≡ 0 → {q r : ℕ} → q ≡ next_line t line → Finds t (left t q) (left t (next_line t r)) r → Making t o at (onward t (left t) r) next one.at
+      pub making_on : (told_in one).number ≡ 0 → {q r : ℕ} → q ≡ next_line t line → Finds t (left t q) (left t (next_line t r)) r → Making t o at (onward t (left t) r) next (end_in one)
       making_on z e f =
           let here = onward-some t (left t) h in
           let on = sections_go_on t (statements t) s after to p.tells m.near z (p.wrote z).ends in
-          subst (λ (ss : List Statement). Making t o at ss next one.at) (ap (left t) (sym e) ∙ found-onward t (left t) f)
+          subst (λ (ss : List Statement). Making t o at ss next (end_in one)) (ap (left t) (sym e) ∙ found-onward t (left t) f)
           (record {
             near = on.0;
             size = p.length ∙ m.size;
@@ -161,7 +161,7 @@ module _ (t : List ℕ) (line : ℕ) {o out : List ℕ} {at to : ℕ} (m : Makin
 
 -- ---- the book
 -- what it begins with, and its sections
-pub book-made : (t : List ℕ) {o second third fourth after : List ℕ} {a b c sections : ℕ} {r : Put} → sections ≡ length (meaning t)
+pub book-made : (t : List ℕ) {o second third fourth after : List ℕ} {a b c sections : ℕ} {r : Result ℕ Fault} → sections ≡ length (meaning t)
     → Wrote o 0 (bytes "VXB") second a → Wrote second a (two_bytes_of 1) third b → Wrote third b (sections ∷ []) fourth c
     → Made t fourth c after r
     → Puts (sections_told t (statements t) beginning (statements t)) (book_bytes (meaning t)) o 0 after r
@@ -196,26 +196,22 @@ module _ (t : List ℕ) {names : Told} (e : names ≡ first_name_fault t (statem
   pub names-refused : (place : List ℕ) → (names.number ≡ 0 → ⊥) → MakesBy (named_told t) t names place
   names-refused place n = makes_refused t place (told-first (first_name_fault t (statements t) 0 (statements t)) told e n) n
 
-  module _ (h : names.number ≡ 0) {place after : List ℕ} {book : Put} (p : Puts told (book_bytes (meaning t)) place 0 after book) where
-    named-is : book.told ≡ named_told t
-    named-is = p.tells ∙ sym (told-next (first_name_fault t (statements t) 0 (statements t)) told e h)
-
-    pub book-refused : (book.told.number ≡ 0 → ⊥) → MakesBy (named_told t) t book.told after
-    book-refused n = makes_refused t after named-is n
-
-    pub book_done : length place ≡ book_limit → book.told.number ≡ 0 → {r : Told} → r ≡ tell 0 book.at 0 → MakesBy (named_told t) t r after
-    unfolding compiled meaning
-    book_done room z f =
-        let short = sizes_fit t (statements t) beginning (statements t) (omega arith) (sym (numbers p.tells) ∙ z) in
-        let fits : length (compiled t) ≤ book_limit = omega (arith, short, book-length (meaning t)) in
-        let put : Wrote place 0 (compiled t) after book.at = p.wrote z in
-        let size : book.at ≡ length (compiled t) = omega (arith, put.ends, fits) in
-        let none = eq-eqb (named_told t).number 0 (sym (numbers named-is) ∙ z) in
-        record {
-          tells = f ∙ ap (λ (n : ℕ). tell 0 n 0) size ∙ sym (ap (λ (x : Bool). cond x (tell 0 (length (compiled t)) 0) (named_told t)) none);
-          fits = λ k. fits;
-          holds = λ k. ap (take (length (compiled t))) (wrote-at-start put (omega (arith, fits, room))) ∙ take-append_seam (compiled t) (drop (length (compiled t)) place);
-        }
+  pub book_done : names.number ≡ 0 → {place after : List ℕ} → length place ≡ book_limit → (book : Result ℕ Fault) → Puts told (book_bytes (meaning t)) place 0 after book → MakesBy (named_told t) t (told_of book) after
+  unfolding compiled meaning
+  book_done h {after = after} room (Err fault) p =
+      makes_refused t after (p.tells ∙ sym (told-next (first_name_fault t (statements t) 0 (statements t)) told e h)) (row-some fault.row)
+  book_done h {place} {after} room (Ok size) p =
+      let named-is : nothing ≡ named_told t = p.tells ∙ sym (told-next (first_name_fault t (statements t) 0 (statements t)) told e h) in
+      let short = sizes_fit t (statements t) beginning (statements t) (omega arith) (sym (numbers p.tells)) in
+      let fits : length (compiled t) ≤ book_limit = omega (arith, short, book-length (meaning t)) in
+      let put : Wrote place 0 (compiled t) after size = p.wrote refl in
+      let size_is : size ≡ length (compiled t) = omega (arith, put.ends, fits) in
+      let none = eq-eqb (named_told t).number 0 (sym (numbers named-is)) in
+      record {
+        tells = ap (λ (n : ℕ). tell 0 n 0) size_is ∙ sym (ap (λ (x : Bool). cond x (tell 0 (length (compiled t)) 0) (named_told t)) none);
+        fits = λ k. fits;
+        holds = λ k. ap (take (length (compiled t))) (wrote-at-start put (omega (arith, fits, room))) ∙ take-append_seam (compiled t) (drop (length (compiled t)) place);
+      }
 
 -- rows 31 to 42, then the others
 module _ (t : List ℕ) {first : Told} (e : first ≡ bytes_told t) where

@@ -13,7 +13,7 @@ use Rattle.grade.specs.Encoding.{each, text_fits}
 use Rattle.booktext.specs.Lines.{Statement, word, verb, cut_at, statements, line_of, text_limit, of_codes, a_set, a_code}
 use Rattle.booktext.specs.Faults.{tell, nothing, may_stand, inside, count_right, version_right, key_right, codes_right, place_right, kind_right, severity_right, before_bound, bound_right, fault_of, first_fault}
 use Rattle.booktext.specs.Refusals.{allowed, wrong_at, bytes_told}
-use Rattle.booktext.specs.Standing.{statement_at, next_line, left, Finds, late_fault, sound}
+use Rattle.booktext.specs.Standing.{statement_at, next_line, left, Finds, sound}
 use Rattle.booktext.proofs.Stating.{left-start, onward, onward-none, onward-some, onward_step, found-onward}
 
 -- ---- rows 31 and 32
@@ -58,17 +58,6 @@ module _ (words : List (List ℕ)) {v : ℕ} where
     codes-others e = rw (ne_eqb v a_code n, ← of, e)
 
 -- ---- one statement
--- the first five rows, and then the others
-pub fault_late : (here : ℕ) (s : Statement) → fault_of here s ≡
-    cond (eqb (verb s) 0) 33
-    (cond (not (may_stand here (verb s))) 34
-    (cond (not (count_right (verb s) (length s.words))) 35
-    (cond (not (version_right (verb s) (word s 1))) 36
-    (cond (not (key_right (verb s) (word s 1))) 37
-    (late_fault (verb s) (length s.words) s.words)))))
-unfolding fault_of late_fault
-fault_late here s = refl
-
 -- where no row holds, what each asks for is so
 none-holds : (unknown stands count version key codes place kind severity bound : Bool)
     → ◌≡◌ {A = ℕ} (cond unknown 33 (cond (not stands) 34 (cond (not count) 35 (cond (not version) 36 (cond (not key) 37

@@ -18,10 +18,9 @@ use Rattle.booktext.specs.Words.{kind_number, a_code_kind}
 use Rattle.booktext.specs.Meaning.{body, from, expand}
 use Rattle.booktext.specs.Changes.{settled}
 use Rattle.booktext.specs.Contents.{made, rules_of, asks_code, pinned, named, with_name, with_names, names_of, held, contents_of, section_of, sections_in}
-use Rattle.booktext.specs.Faults.{firstly, nothing, tell, key_right}
+use Rattle.booktext.specs.Faults.{Told, firstly, nothing, tell, key_right}
 use Rattle.booktext.specs.Refusals.{at_of, is_first, lacks, name_fault, first_name_fault, used_twice, statement_limit, first_rule_fault, first_stray, first_bad_set, over, section_told, sections_told}
 use Rattle.booktext.specs.Standing.{sound, ready}
-use Rattle.booktext.specs.declared.told.Told.{Told}
 use Rattle.booktext.proofs.Sounding.{sounds}
 use Rattle.booktext.proofs.Each.{each-body}
 use Rattle.booktext.proofs.Fitting.{held_fit}

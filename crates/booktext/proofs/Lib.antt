@@ -1,6 +1,7 @@
 pub mod Words
 pub mod Reading
 pub mod Stating
+pub mod Telling
 pub mod Faulting
 pub mod Heading
 pub mod Marking

@@ -8,6 +8,7 @@ use native.Mathlib.Decide.{dec_lt}
 use lib.Dec.{ltb}
 use lib.ListN.{length, get_or, take, length-map, length-take}
 use borrow.Author.Tests.{eqb-true, lt-ltb, le-ltb, eq-eqb, ne_eqb}
+use Rattle.std.specs.Prelude.{Result}
 use Rattle.hl7.specs.Bytes.{within}
 use Rattle.hl7.proofs.Comparing.{and_both}
 use Rattle.grade.specs.Book.{Contents}
@@ -19,13 +20,12 @@ use Rattle.booktext.specs.Lines.{Statement, statements, word, verb, says, line_o
 use Rattle.booktext.specs.Meaning.{body, from, expand}
 use Rattle.booktext.specs.Changes.{settled}
 use Rattle.booktext.specs.Contents.{rules_of, names_of, held, contents_of, section_of}
-use Rattle.booktext.specs.Faults.{tell, nothing, firstly, key_right}
+use Rattle.booktext.specs.Faults.{Told, tell, nothing, firstly, key_right}
 use Rattle.booktext.specs.Refusals.{at_of, statement_limit, used_twice, first_rule_fault, first_stray, first_bad_set, over, sizes_told, section_told}
-use Rattle.booktext.specs.Standing.{words_from, span_bytes, statement_at, next_line, left, body_from, sound, ready, noted, Holds, CountsRules, names_in, Names64, Puts}
+use Rattle.booktext.specs.Standing.{words_from, span_bytes, statement_at, next_line, left, body_from, sound, ready, noted, Holds, CountsRules, names_in, Names64, told_in, end_in, Puts}
 use Rattle.booktext.specs.declared.cell.Cell.{Cell}
-use Rattle.booktext.specs.declared.told.Told.{Told}
 use Rattle.booktext.specs.declared.names.Names.{Names}
-use Rattle.booktext.specs.declared.sets.Put.{Put}
+use Rattle.booktext.specs.declared.told.Fault.{Fault}
 use Rattle.booktext.proofs.Each.{each-body}
 use Rattle.booktext.proofs.Sounding.{sounds}
 use Rattle.booktext.proofs.Changing.{settled-few}
@@ -38,14 +38,14 @@ use Rattle.booktext.proofs.Including.{plainly, statements-plain, expand-ready}
 
 module _ {a told : Told} (e : told ≡ a) where
   -- the first of two
-  pub puts_first : (b : Told) {bytes o after : List ℕ} {at : ℕ} {r : Put} → (told.number ≡ 0 → ⊥) → r.told ≡ told → length after ≡ length o → Puts (firstly a b) bytes o at after r
+  pub puts_first : (b : Told) {bytes o after : List ℕ} {at : ℕ} {r : Result ℕ Fault} → (told.number ≡ 0 → ⊥) → told_in r ≡ told → length after ≡ length o → Puts (firstly a b) bytes o at after r
   puts_first b h f same = puts_refused (f ∙ e ∙ sym is) (λ z. h (ap (λ (x : Told). x.number) (e ∙ sym is) ∙ z)) same
     where
       is : firstly a b ≡ a
       is = rw (ne_eqb a.number 0 (λ z. h (ap (λ (x : Told). x.number) e ∙ z)))
 
   -- the second, where the first does not
-  pub puts_next : {b : Told} {bytes o after : List ℕ} {at : ℕ} {r : Put} → told.number ≡ 0 → Puts b bytes o at after r → Puts (firstly a b) bytes o at after r
+  pub puts_next : {b : Told} {bytes o after : List ℕ} {at : ℕ} {r : Result ℕ Fault} → told.number ≡ 0 → Puts b bytes o at after r → Puts (firstly a b) bytes o at after r
   puts_next {b} z p =
       let is : firstly a b ≡ b = rw (eq-eqb a.number 0 (ap (λ (x : Told). x.number) (sym e) ∙ z)) in
       record { tells = p.tells ∙ sym is; wrote = p.wrote; length = p.length }
@@ -86,7 +86,7 @@ module _ (t : List ℕ) (head : ℕ) (ss : List Statement) (at : ℕ) where
   abbrev section : Contents
   section = contents_of (statements t) key_of ss
 
-  abbrev Made : List ℕ → List ℕ → Put → Type 0
+  abbrev Made : List ℕ → List ℕ → Result ℕ Fault → Type 0
   Made o after r = Puts (sizes_told t (statements t) at (line_of t head) section ss) (section_bytes section) o at after r
 
   module _ {rules : ℕ} (counted : CountsRules (settled ss) rules) where
@@ -94,7 +94,7 @@ module _ (t : List ℕ) (head : ℕ) (ss : List Statement) (at : ℕ) where
     unfolding contents_of
     rules-held = counted (names_of (settled ss))
 
-    pub rules_many : {o : List ℕ} {r : Put} → rule_limit < rules → r.told ≡ tell 50 (line_of t head) (line_of t head) → Made o o r
+    pub rules_many : {o : List ℕ} {r : Result ℕ Fault} → rule_limit < rules → told_in r ≡ tell 50 (line_of t head) (line_of t head) → Made o o r
     rules_many h e = puts_first (over-told 50 (line_of t head) rule_limit (length section.rules) (omega (arith, rules-held, h))) _ (λ z. absurd (omega (arith, z))) e refl
 
     module _ (few : rules ≤ rule_limit) {names : Names} (n : Names64 t names (names_of (settled ss))) where
@@ -105,7 +105,7 @@ module _ (t : List ℕ) (head : ℕ) (ss : List Statement) (at : ℕ) where
       unfolding contents_of
       sets-held = length-map (names_of (settled ss)) (held (statements t) ss)
 
-      pub sets_many : {o : List ℕ} {r : Put} → set_limit < names.count → r.told ≡ tell 51 (line_of t head) (line_of t head) → Made o o r
+      pub sets_many : {o : List ℕ} {r : Result ℕ Fault} → set_limit < names.count → told_in r ≡ tell 51 (line_of t head) (line_of t head) → Made o o r
       sets_many h e =
           puts_next few_rules_lem refl
           (puts_first (over-told 51 (line_of t head) set_limit (length section.sets) (omega (arith, sets-held, n.over h))) _ (λ z. absurd (omega (arith, z))) e refl)
@@ -124,39 +124,39 @@ module _ (t : List ℕ) (head : ℕ) (ss : List Statement) (at : ℕ) where
           told_stray = strayed ∙ ap (λ (names : List (List ℕ)). first_stray t (line_of t head) names ss) (n.exact short)
 
           -- a set is changed that it does not hold
-          pub set_stray : {o : List ℕ} {r : Put} → (stray.number ≡ 0 → ⊥) → r.told ≡ stray → Made o o r
+          pub set_stray : {o : List ℕ} {r : Result ℕ Fault} → (stray.number ≡ 0 → ⊥) → told_in r ≡ stray → Made o o r
           set_stray h e = puts_next few_rules_lem refl (puts_next few_sets_lem refl (puts_first told_stray _ h e refl))
 
-          module _ (held_All : stray.number ≡ 0) {o p q : List ℕ} {next : ℕ} {sets : Put}
+          module _ (held_All : stray.number ≡ 0) {o p q : List ℕ} {next : ℕ} {sets : Result ℕ Fault}
               (front : Wrote o at (text_bytes key_of ++ (two_bytes_of rules ++ (names.count ∷ spell_all rule_bytes (rules_of (names_in t names) (settled ss))))) p next)
               (put : Puts (first_bad_set t (line_of t head) (statements t) ss (names_in t names)) (spell_all set_bytes (map (held (statements t) ss) (names_in t names))) p next q sets) where
-            told_bad : sets.told ≡ first_bad_set t (line_of t head) (statements t) ss (names_of (settled ss))
+            told_bad : told_in sets ≡ first_bad_set t (line_of t head) (statements t) ss (names_of (settled ss))
             told_bad = put.tells ∙ ap (first_bad_set t (line_of t head) (statements t) ss) (n.exact short)
 
             same_size : length q ≡ length o
             same_size = put.length ∙ wrote-length front
 
             -- rows 50 to 52 tell nothing
-            late : (b : Told) {r : Put} → Puts (firstly (first_bad_set t (line_of t head) (statements t) ss (names_of (settled ss))) b) (section_bytes section) o at q r
+            late : (b : Told) {r : Result ℕ Fault} → Puts (firstly (first_bad_set t (line_of t head) (statements t) ss (names_of (settled ss))) b) (section_bytes section) o at q r
                 → Puts (firstly (over 50 (line_of t head) (ltb rule_limit (length section.rules))) (firstly (over 51 (line_of t head) (ltb set_limit (length section.sets))) (firstly (first_stray t (line_of t head) (names_of (settled ss)) ss) (firstly (first_bad_set t (line_of t head) (statements t) ss (names_of (settled ss))) b)))) (section_bytes section) o at q r
             late b p = puts_next few_rules_lem refl (puts_next few_sets_lem refl (puts_next told_stray held_All p))
 
             -- a set is bad
-            pub set_bad : (sets.told.number ≡ 0 → ⊥) → Made o q sets
+            pub set_bad : ((told_in sets).number ≡ 0 → ⊥) → Made o q sets
             set_bad h = late _ (puts_first told_bad _ h refl same_size)
 
-            module _ (right : sets.told.number ≡ 0) where
+            module _ (right : (told_in sets).number ≡ 0) where
               spelt : (text_bytes key_of ++ (two_bytes_of rules ++ (names.count ∷ spell_all rule_bytes (rules_of (names_in t names) (settled ss))))) ++ spell_all set_bytes (map (held (statements t) ss) (names_in t names)) ≡ section_bytes section
               unfolding contents_of
               spelt =
                   append_assoc (text_bytes key_of) (two_bytes_of rules ++ (names.count ∷ spell_all rule_bytes (rules_of (names_in t names) (settled ss)))) (spell_all set_bytes (map (held (statements t) ss) (names_in t names)))
                   ∙ rw (n.exact short, names-held, rules-held)
 
-              whole : Wrote o at (section_bytes section) q sets.at
+              whole : Wrote o at (section_bytes section) q (end_in sets)
               whole = wrote_as (front then put.wrote right) spelt
 
               -- the book is too long
-              pub book-long : {r : Put} → book_limit < sets.at → r.told ≡ tell 54 (line_of t head) (line_of t head) → Made o q r
+              pub book-long : {r : Result ℕ Fault} → book_limit < (end_in sets) → told_in r ≡ tell 54 (line_of t head) (line_of t head) → Made o q r
               book-long h e =
                   late _ (puts_next told_bad right (puts_refused (e ∙ told) (λ z. absurd (omega (arith, ap (λ (x : Told). x.number) told ∙ z))) same_size))
                 where
@@ -164,7 +164,7 @@ module _ (t : List ℕ) (head : ℕ) (ss : List Statement) (at : ℕ) where
                   told = over-told 54 (line_of t head) book_limit (at + length (section_bytes section)) (omega (arith, h, whole.ends))
 
               -- nothing is refused
-              pub section_put : sets.at ≤ book_limit → Made o q sets
+              pub section_put : (end_in sets) ≤ book_limit → Made o q sets
               section_put h =
                   late _
                   (puts_next told_bad right
@@ -219,11 +219,11 @@ module _ (t : List ℕ) (head : ℕ) {start : ℕ} (e : start ≡ next_line t he
   included = expand (statements t) (body after)
 
   -- made from row 46 on
-  abbrev Section : ℕ → List ℕ → List ℕ → Put → Type 0
+  abbrev Section : ℕ → List ℕ → List ℕ → Result ℕ Fault → Type 0
   Section at o to r = Puts (section_told t (statements t) at (statement_at t head 0) after) (section_bytes (section_of (statements t) (statement_at t head 0) after)) o at to r
 
   -- made from row 47 on, by those statements
-  abbrev Checked : List Statement → ℕ → List ℕ → List ℕ → Put → Type 0
+  abbrev Checked : List Statement → ℕ → List ℕ → List ℕ → Result ℕ Fault → Type 0
   Checked ss at o to r =
       Puts
       (firstly (first_rule_fault t (statements t) (line_of t head) [] ss) (sizes_told t (statements t) at (line_of t head) (contents_of (statements t) (get_or (words_from t head) 1 []) ss) ss))
@@ -247,18 +247,18 @@ module _ (t : List ℕ) (head : ℕ) {start : ℕ} (e : start ≡ next_line t he
     used_is : twice ≡ used_twice t (line_of t head) after (body after)
     used_is = used ∙ ap (λ (n : ℕ). used_twice t (line_of t head) (left t n) (body_from t n)) e
 
-    pub twice_told : {at : ℕ} {o : List ℕ} {r : Put} → (twice.number ≡ 0 → ⊥) → r.told ≡ twice → Section at o o r
+    pub twice_told : {at : ℕ} {o : List ℕ} {r : Result ℕ Fault} → (twice.number ≡ 0 → ⊥) → told_in r ≡ twice → Section at o o r
     unfolding section_told
     twice_told h f = puts_first used_is _ h f refl
 
     module _ (once : twice.number ≡ 0) {cells : List Cell} {count : ℕ} (holds : Holds t cells count (expand (statements t) (body_from t start))) where
-      pub statements_many : {at : ℕ} {o : List ℕ} {r : Put} → statement_limit < count → r.told ≡ tell 56 (line_of t head) (line_of t head) → Section at o o r
+      pub statements_many : {at : ℕ} {o : List ℕ} {r : Result ℕ Fault} → statement_limit < count → told_in r ≡ tell 56 (line_of t head) (line_of t head) → Section at o o r
       unfolding section_told
       statements_many h f =
           puts_next used_is once
           (puts_first (over-told 56 (line_of t head) statement_limit (length included) ((holds-all holds).over h)) _ (λ z. absurd (omega (arith, z))) f refl)
 
-      pub section-made : {at : ℕ} {o to : List ℕ} {r : Put} → count ≤ statement_limit → Checked (map (noted t) (take count cells)) at o to r → Section at o to r
+      pub section-made : {at : ℕ} {o to : List ℕ} {r : Result ℕ Fault} → count ≤ statement_limit → Checked (map (noted t) (take count cells)) at o to r → Section at o to r
       unfolding section_told
       section-made {at} {o} {to} {r} few p =
           let exact = (holds-all holds).exact few in

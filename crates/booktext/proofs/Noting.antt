@@ -13,11 +13,10 @@ use borrow.Author.Tests.{eq-eqb, ne_eqb}
 use Rattle.booktext.specs.Lines.{Statement, verb, says, line_of, a_use, a_common, statements}
 use Rattle.booktext.specs.Meaning.{body, from, under, give, taken, expand}
 use Rattle.booktext.specs.Changes.{settled_as, settled}
-use Rattle.booktext.specs.Faults.{tell, nothing}
+use Rattle.booktext.specs.Faults.{Told, tell, nothing}
 use Rattle.booktext.specs.Refusals.{is_first, used_twice, statement_limit}
 use Rattle.booktext.specs.Standing.{words_from, statement_at, next_line, left, body_from, Finds, noted, Marked, Holds, NotesMore}
 use Rattle.booktext.specs.declared.cell.Cell.{Cell}
-use Rattle.booktext.specs.declared.told.Told.{Told}
 use Rattle.booktext.proofs.Stating.{onward, onward-none, onward-some, onward_step}
 
 -- ---- row 46
@@ -41,8 +40,8 @@ module _ (t : List ℕ) (head start : ℕ) where
   twice_none = refl
 
   module _ (at : ℕ) (passed : all_twice (body_from t start) ≡ all_twice (onward t (body_from t) at)) where
-    pub twice_over : length t < at → {r : Told} → r ≡ nothing → r ≡ all_twice (body_from t start)
-    twice_over h e = e ∙ sym (passed ∙ ap all_twice (onward-none t (body_from t) h) ∙ twice_none)
+    pub twice_over : length t < at → nothing ≡ all_twice (body_from t start)
+    twice_over h = sym (passed ∙ ap all_twice (onward-none t (body_from t) h) ∙ twice_none)
 
     module _ {b : Bool} (h : at ≤ length t) (e : b ≡ (says a_use (statement_at t at 0) && not (is_first (left t start) (statement_at t at 0)))) where
       twice_step : (ss : List Statement) → onward t (body_from t) at ≡ statement_at t at 0 ∷ ss → all_twice (body_from t start) ≡ cond b (tell 46 (line_of t at) (line_of t head)) (all_twice ss)

@@ -18,11 +18,10 @@ use Rattle.booktext.specs.Lines.{Statement, statements, word, verb, says, of_rul
 use Rattle.booktext.specs.Meaning.{from}
 use Rattle.booktext.specs.Changes.{spot_of, says_of, amended, dropped, settled_as, settled, names_code, lessened, kept, added_by, added}
 use Rattle.booktext.specs.Contents.{listed, codes_at, codes_of, held}
-use Rattle.booktext.specs.Faults.{tell, nothing}
+use Rattle.booktext.specs.Faults.{Told, tell, nothing}
 use Rattle.booktext.specs.Refusals.{spots_of, stands, has_code, code_asked, rule_fault, first_rule_fault}
 use Rattle.booktext.specs.Standing.{words_from, span_bytes, NextWord, statement_at, next_line, left, body_from, Finds, noted, no_cell, Marked, Marks, rules_it}
 use Rattle.booktext.specs.declared.cell.Cell.{Cell}
-use Rattle.booktext.specs.declared.told.Told.{Told}
 use Rattle.booktext.proofs.Stating.{onward, onward-none, onward-some, onward_step}
 use Rattle.booktext.proofs.Marking.{noted-verb, noted-at, noted_other, cells_step, cells_done, mark_says, mark_at}
 use Rattle.booktext.proofs.Changing.{amend-rule, amend-spot, amended_as}
@@ -391,10 +390,10 @@ module _ (t : List ℕ) (cells : List Cell) (i : ℕ) (m : Marks t cells) (h : i
 
     module _ (k : placed ≡ false) {codes : Bool} (q : codes ≡ of_codes it.verb) where
       pub fault-codes : codes ≡ true → {r : ℕ} {right : Bool} → right ≡ each (code_asked (statements t) earlier (statement_at t it.line 0)) (drop 2 (words_from t it.line))
-          → r ≡ cond right 0 49 → r ≡ rule_fault (statements t) earlier here
+          → cond right 0 49 ≡ r → r ≡ rule_fault (statements t) earlier here
       fault-codes c {right = right} g o =
           let plain : makes_rule here ≡ false = ap of_rule (sym mark-here.by_verb) ∙ codes-plain it.verb (sym q ∙ c) in
-          o
+          sym o
           ∙ rows-codes it.verb (sym p ∙ k) (stands (spot_of here) earlier) right (sym q ∙ c)
           ∙ rows-here (stands (spot_of here) earlier) right refl (g ∙ sym (ap asked_of (noted_other t it plain)))
 

@@ -15,10 +15,9 @@ use Rattle.booktext.specs.Lines.{Statement, verb, says, of_rule, of_codes, line_
 use Rattle.booktext.specs.Words.{kind_number, a_code_kind}
 use Rattle.booktext.specs.Meaning.{from}
 use Rattle.booktext.specs.Contents.{asks_code, section_of, sections_in, meaning}
-use Rattle.booktext.specs.Faults.{tell, nothing, before_bound}
+use Rattle.booktext.specs.Faults.{Told, tell, nothing, before_bound}
 use Rattle.booktext.specs.Refusals.{at_of, is_first, is_there, is_set, names_set, set_named, lacks, name_fault, first_name_fault}
 use Rattle.booktext.specs.Standing.{words_from, statement_at, next_line, left, Finds}
-use Rattle.booktext.specs.declared.told.Told.{Told}
 use Rattle.booktext.proofs.Stating.{left-start, onward, found-onward, onward-none, onward-some, onward_step}
 
 -- ---- the first with a verb and a name
@@ -132,12 +131,6 @@ module _ (all : List Statement) (count : ℕ) (s : Statement) where
       by_case false true lack k = absurd (omega (arith, k))
       by_case false false lack k = refl
 
-pub ended-none : {count : ℕ} {r : Told} → count ≡ 0 → r ≡ tell 44 0 0 → r ≡ cond (eqb count 0) (tell 44 0 0) nothing
-ended-none {count} e f = f ∙ sym (ap (λ (b : Bool). cond b (tell 44 0 0) nothing) (eq-eqb count 0 e))
-
-pub ended_some : {count : ℕ} {r : Told} → (count ≡ 0 → ⊥) → r ≡ nothing → r ≡ cond (eqb count 0) (tell 44 0 0) nothing
-ended_some {count} e f = f ∙ sym (ap (λ (b : Bool). cond b (tell 44 0 0) nothing) (ne_eqb count 0 e))
-
 -- ---- the first that is told, and the sections counted
 abbrev name-told : List ℕ → ℕ → List Statement → Told
 name-told t = first_name_fault t (statements t)
@@ -147,10 +140,6 @@ pub record Naming (t : List ℕ) (sections at : ℕ) : Type 0 where
   pub told : name-told t 0 (statements t) ≡ name-told t sections (onward t (left t) at)
   pub counted : length (meaning t) ≡ sections + length (sections_in (statements t) (onward t (left t) at))
   pub few : sections ≤ section_limit
-
--- what is answered
-abbrev Named : List ℕ → Told → ℕ → Type 0
-Named t r sections = (r ≡ name-told t 0 (statements t)) × (r.number ≡ 0 → (sections ≡ length (meaning t)) × (1 ≤ sections) × (sections ≤ section_limit))
 
 pub naming_start : (t : List ℕ) {at : ℕ} → Finds t (left t 0) (left t (next_line t at)) at → Naming t 0 at
 unfolding meaning
@@ -179,14 +168,21 @@ module _ (t : List ℕ) (sections at : ℕ) (w : Naming t sections at) where
   abbrev s : Statement
   s = statement_at t at 0
 
-  pub naming_done : length t < at → {r : Told} → r ≡ cond (eqb sections 0) (tell 44 0 0) nothing → Named t r sections
-  naming_done h {r} e =
-      let all : length (meaning t) ≡ sections = omega (arith, w.counted, ap (λ (ss : List Statement). length (sections_in (statements t) ss)) (onward-none t (left t) h), ap length (sections-none (statements t))) in
-      (e ∙ sym (w.told ∙ ap (name-told t sections) (onward-none t (left t) h) ∙ told_none t sections), λ k. (sym all, some (eqb sections 0) refl (sym (ap (λ (x : Told). x.number) e) ∙ k), w.few))
-    where
-      some : (b : Bool) → eqb sections 0 ≡ b → (cond (eqb sections 0) (tell 44 0 0) nothing).number ≡ 0 → 1 ≤ sections
-      some true f k = absurd (omega (arith, sym (ap (λ (b : Bool). (cond b (tell 44 0 0) nothing).number) f) ∙ k))
-      some false f k = omega (arith, eqb-false sections 0 f)
+  module _ (h : length t < at) where
+    name-last : name-told t 0 (statements t) ≡ cond (eqb sections 0) (tell 44 0 0) nothing
+    name-last = w.told ∙ ap (name-told t sections) (onward-none t (left t) h) ∙ told_none t sections
+
+    pub naming_none : sections ≡ 0 → tell 44 0 0 ≡ name-told t 0 (statements t)
+    naming_none z = sym (name-last ∙ ap (λ (b : Bool). cond b (tell 44 0 0) nothing) (eq-eqb sections 0 z))
+
+    module _ (n : sections ≡ 0 → ⊥) where
+      pub naming_done : nothing ≡ name-told t 0 (statements t)
+      naming_done = sym (name-last ∙ ap (λ (b : Bool). cond b (tell 44 0 0) nothing) (ne_eqb sections 0 n))
+
+      pub naming_count : (sections ≡ length (meaning t)) × (1 ≤ sections) × (sections ≤ section_limit)
+      naming_count =
+          let all : length (meaning t) ≡ sections = omega (arith, w.counted, ap (λ (ss : List Statement). length (sections_in (statements t) ss)) (onward-none t (left t) h), ap length (sections-none (statements t))) in
+          (sym all, omega (arith, n), w.few)
 
   module _ (h : at ≤ length t) {fault : ℕ} (f : fault ≡ name_fault (statements t) sections s) where
     told_here : (ss : List Statement) → onward t (left t) at ≡ s ∷ ss → name-told t 0 (statements t) ≡ cond (eqb fault 0) (name-told t (cond (says a_section s) (suc sections) sections) ss) (tell fault (line_of t at) 0)
@@ -194,11 +190,11 @@ module _ (t : List ℕ) (sections at : ℕ) (w : Naming t sections at) where
         w.told ∙ ap (name-told t sections) e ∙ told_is_lem t sections s ss
         ∙ ap (λ (n : ℕ). cond (eqb n 0) (name-told t (cond (says a_section s) (suc sections) sections) ss) (tell n (line_of t at) 0)) (sym f)
 
-    pub naming_fault : (fault ≡ 0 → ⊥) → {line count : ℕ} {r : Told} → line ≡ line_of t at → r ≡ tell fault line 0 → Named t r count
+    pub naming_fault : (fault ≡ 0 → ⊥) → {line : ℕ} {r : Told} → line ≡ line_of t at → r ≡ tell fault line 0 → r ≡ name-told t 0 (statements t)
     naming_fault k l e =
         let ss = left t (next_line t at) in
         let here = told_here ss (onward-some t (left t) h) ∙ ap (λ (b : Bool). cond b (name-told t (cond (says a_section s) (suc sections) sections) ss) (tell fault (line_of t at) 0)) (ne_eqb fault 0 k) in
-        (e ∙ ap (λ (n : ℕ). tell fault n 0) l ∙ sym here, λ q. absurd (k (sym (ap (λ (x : Told). x.number) e) ∙ q)))
+        e ∙ ap (λ (n : ℕ). tell fault n 0) l ∙ sym here
 
     pub naming_on : fault ≡ 0 → {v n p r : ℕ} → v ≡ verb s → n ≡ cond (eqb v a_section) (sections + 1) sections → p ≡ next_line t at → Finds t (left t p) (left t (next_line t r)) r → Naming t n r
     naming_on k {v} {n} {p} {r} e c g d = record { told = told_on; counted = (by_case (says a_section s) refl).0; few = (by_case (says a_section s) refl).1 }

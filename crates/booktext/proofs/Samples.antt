@@ -17,9 +17,8 @@ use Rattle.booktext.specs.Words.{is_number, number_in, place_in, is_place, is_se
 use Rattle.booktext.specs.Meaning.{body, from, taken, expand}
 use Rattle.booktext.specs.Changes.{spot_of, amended, dropped, settled_as, settled, lessened, kept, added}
 use Rattle.booktext.specs.Contents.{made, rules_of, pinned, named, with_names, names_of, listed, codes_of, held, contents_of, sections_in, meaning}
-use Rattle.booktext.specs.Faults.{codes_right, fault_of, first_fault}
+use Rattle.booktext.specs.Faults.{Told, codes_right, fault_of, first_fault}
 use Rattle.booktext.specs.Refusals.{lacks, name_fault, first_name_fault, used_twice, spots_of, stands, has_code, rule_fault, first_rule_fault, first_stray, first_bad_set, section_told, sections_told, refusal, compiled}
-use Rattle.booktext.specs.declared.told.Told.{Told}
 
 -- a text makes these bytes; or it is refused, with a line and a section's line
 data Sample : Type 0 where

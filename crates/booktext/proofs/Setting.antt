@@ -7,6 +7,7 @@ use native.Mathlib.Omega.{arith}
 use lib.Dec.{eqb, leb, ltb}
 use lib.ListN.{length, get_or, drop}
 use borrow.Author.Tests.{leb-true, le-leb, le-ltb, ltb-false}
+use Rattle.std.specs.Prelude.{Result, Ok}
 use Rattle.hl7.specs.Bytes.{within, among}
 use Rattle.hl7.proofs.Comparing.{and_both, or_neither, none_of}
 use Rattle.grade.specs.Limits.{code_count_limit}
@@ -16,13 +17,12 @@ use Rattle.ack.proofs.Writing.{wrote_as, wrote-length, ◌then◌}
 use Rattle.booktext.specs.Lines.{Statement, statements, line_of, word, verb, of_codes, a_set, number_from}
 use Rattle.booktext.specs.Meaning.{from}
 use Rattle.booktext.specs.Contents.{held}
-use Rattle.booktext.specs.Faults.{tell, nothing}
+use Rattle.booktext.specs.Faults.{Told, tell, nothing}
 use Rattle.booktext.specs.Refusals.{first_stray, first_bad_set, at_of}
-use Rattle.booktext.specs.Standing.{words_from, span_bytes, next_line, left, Finds, names_in, no_span, noted, no_cell, Marked, Spelt, Puts}
+use Rattle.booktext.specs.Standing.{words_from, span_bytes, next_line, left, Finds, names_in, no_span, noted, no_cell, Marked, Spelt, told_in, end_in, Puts}
 use Rattle.booktext.specs.declared.cell.Cell.{Cell}
-use Rattle.booktext.specs.declared.told.Told.{Told}
 use Rattle.booktext.specs.declared.names.Names.{Names}
-use Rattle.booktext.specs.declared.sets.Put.{Put}
+use Rattle.booktext.specs.declared.told.Fault.{Fault}
 use Rattle.booktext.specs.declared.sets.Run.{Run}
 use Rattle.booktext.proofs.Naming.{names_left, names_step, names-past, number-among}
 use Rattle.booktext.proofs.Marking.{noted-at, noted-first, cells_step, cells_done}
@@ -63,7 +63,7 @@ module _ {count : ℕ} (f : (ltb count 1 || ltb code_count_limit count) ≡ fals
 
 -- ---- the set with a name
 -- a row refuses, whatever was written
-pub puts_refused : {want : Told} {bytes o after : List ℕ} {at : ℕ} {r : Put} → r.told ≡ want → (want.number ≡ 0 → ⊥) → length after ≡ length o → Puts want bytes o at after r
+pub puts_refused : {want : Told} {bytes o after : List ℕ} {at : ℕ} {r : Result ℕ Fault} → told_in r ≡ want → (want.number ≡ 0 → ⊥) → length after ≡ length o → Puts want bytes o at after r
 puts_refused e h same = record { tells = e; wrote = λ z. absurd (h (ap (λ (x : Told). x.number) (sym e) ∙ z)); length = same }
 
 -- its codes were written onto no byte, which counted them
@@ -76,24 +76,24 @@ module _ (t name : List ℕ) (ss : List Statement) (out : List ℕ) {p : List �
 
   -- it has too few or too many
   pub set_wrong : {line : ℕ} → Finds t (from a_set name (statements t)) (left t (next_line t line)) line → (head : ℕ) → (ltb first.count 1 || ltb code_count_limit first.count) ≡ true
-      → {told : Told} {x a b : ℕ} (at : ℕ) → x ≡ cond (leb line (length t)) line 0 → a ≡ line_of t x → b ≡ line_of t head → told ≡ tell 53 a b
-      → Puts (first_bad_set t (line_of t head) (statements t) ss (name ∷ [])) (set_bytes (held (statements t) ss name)) out at (p ++ out) (record { told = told; at = at })
-  set_wrong f head w {told} {a = a} {b} at g k l e =
+      → {r : Result ℕ Fault} {x a b : ℕ} (at : ℕ) → x ≡ cond (leb line (length t)) line 0 → a ≡ line_of t x → b ≡ line_of t head → told_in r ≡ tell 53 a b
+      → Puts (first_bad_set t (line_of t head) (statements t) ss (name ∷ [])) (set_bytes (held (statements t) ss name)) out at (p ++ out) r
+  set_wrong f head w {a = a} {b} at g k l e =
       let want : tell 53 a b ≡ first_bad_set t (line_of t head) (statements t) ss (name ∷ []) =
       ap₂ (tell 53) (k ∙ ap (line_of t) (at-found t f g)) l ∙ sym (bad_is t (line_of t head) (statements t) ss name [] false (size_wrong _ sized w)) in
       puts_refused (e ∙ want) (λ z. absurd (omega (arith, ap (λ (x : Told). x.number) want ∙ z))) (ap length nothing_written)
 
   -- its bytes were put
-  pub set_put : (head : ℕ) → (ltb first.count 1 || ltb code_count_limit first.count) ≡ false → {told : Told} {second after : List ℕ} {at next : ℕ} {r : Run} → told ≡ nothing
+  pub set_put : (head : ℕ) → (ltb first.count 1 || ltb code_count_limit first.count) ≡ false → {second after : List ℕ} {at next : ℕ} {r : Run}
       → Wrote (p ++ out) at (two_bytes_of first.count) second next → Spelt (held (statements t) ss name) second (record { at = next; count = 0 }) after r
-      → Puts (first_bad_set t (line_of t head) (statements t) ss (name ∷ [])) (set_bytes (held (statements t) ss name)) out at after (record { told = told; at = r.at })
+      → Puts (first_bad_set t (line_of t head) (statements t) ss (name ∷ [])) (set_bytes (held (statements t) ss name)) out at after (Ok r.at)
   unfolding first_bad_set
-  set_put head w {second = second} {after} {at} {next} {r} e u v =
+  set_put head w {second = second} {after} {at} {next} {r} u v =
       let count : Wrote out at (two_bytes_of (length (held (statements t) ss name))) second next =
       wrote_as (subst (λ (l : List ℕ). Wrote l at (two_bytes_of first.count) second next) nothing_written u) (ap two_bytes_of (count-exact w _ sized)) in
       let whole : Wrote out at (set_bytes (held (statements t) ss name)) after r.at = count then v.wrote in
       record {
-        tells = e ∙ sym (bad_is t (line_of t head) (statements t) ss name [] true (size_right w _ sized));
+        tells = sym (bad_is t (line_of t head) (statements t) ss name [] true (size_right w _ sized));
         wrote = λ z. whole;
         length = wrote-length whole;
       }
@@ -123,19 +123,19 @@ sets-start t head ss names o at = (refl, refl, λ after r w. w)
 
 module _ (t : List ℕ) (head : ℕ) (ss : List Statement) (names more : List (List ℕ)) {o out : List ℕ} {at to : ℕ} (inv : SetsLeft t head ss names more o at out to) where
   -- the next one
-  module _ {name : List ℕ} {others : List (List ℕ)} (e : more ≡ name ∷ others) {next : List ℕ} {one : Put} (p : Puts (first_bad_set t (line_of t head) (statements t) ss (name ∷ [])) (set_bytes (held (statements t) ss name)) out to next one) where
-    pub sets-refused : (one.told.number ≡ 0 → ⊥) → Puts (first_bad_set t (line_of t head) (statements t) ss names) (spell_all set_bytes (map (held (statements t) ss) names)) o at next one
+  module _ {name : List ℕ} {others : List (List ℕ)} (e : more ≡ name ∷ others) {next : List ℕ} {one : Result ℕ Fault} (p : Puts (first_bad_set t (line_of t head) (statements t) ss (name ∷ [])) (set_bytes (held (statements t) ss name)) out to next one) where
+    pub sets-refused : ((told_in one).number ≡ 0 → ⊥) → Puts (first_bad_set t (line_of t head) (statements t) ss names) (spell_all set_bytes (map (held (statements t) ss) names)) o at next one
     unfolding first_bad_set
     sets-refused h = record { tells = by_case (within 1 code_count_limit (length (held (statements t) ss name))) refl; wrote = λ z. absurd (h z); length = p.length ∙ inv.0 }
       where
-        by_case : (b : Bool) → within 1 code_count_limit (length (held (statements t) ss name)) ≡ b → one.told ≡ first_bad_set t (line_of t head) (statements t) ss names
+        by_case : (b : Bool) → within 1 code_count_limit (length (held (statements t) ss name)) ≡ b → told_in one ≡ first_bad_set t (line_of t head) (statements t) ss names
         by_case true f = absurd (h (ap (λ (x : Told). x.number) (p.tells ∙ bad_is t (line_of t head) (statements t) ss name [] true f)))
         by_case false f =
             p.tells
             ∙ bad_is t (line_of t head) (statements t) ss name [] false f
             ∙ sym (inv.1 ∙ ap (first_bad_set t (line_of t head) (statements t) ss) e ∙ bad_is t (line_of t head) (statements t) ss name others false f)
 
-    pub sets_again : one.told.number ≡ 0 → SetsLeft t head ss names others o at next one.at
+    pub sets_again : (told_in one).number ≡ 0 → SetsLeft t head ss names others o at next (end_in one)
     sets_again h = (
       p.length ∙ inv.0,
       inv.1 ∙ ap (first_bad_set t (line_of t head) (statements t) ss) e ∙ by_case (within 1 code_count_limit (length (held (statements t) ss name))) refl,
@@ -146,11 +146,11 @@ module _ (t : List ℕ) (head : ℕ) (ss : List Statement) (names more : List (L
         by_case true f = bad_is t (line_of t head) (statements t) ss name others true f
         by_case false f = absurd (omega (arith, h, ap (λ (x : Told). x.number) (p.tells ∙ bad_is t (line_of t head) (statements t) ss name [] false f)))
 
-  pub sets_over : more ≡ [] → {told : Told} {after : List ℕ} {r : ℕ} → told ≡ nothing → Wrote out to [] after r → Puts (first_bad_set t (line_of t head) (statements t) ss names) (spell_all set_bytes (map (held (statements t) ss) names)) o at after (record { told = told; at = r })
+  pub sets_over : more ≡ [] → {after : List ℕ} {r : ℕ} → Wrote out to [] after r → Puts (first_bad_set t (line_of t head) (statements t) ss names) (spell_all set_bytes (map (held (statements t) ss) names)) o at after (Ok r)
   unfolding first_bad_set
-  sets_over e f w =
+  sets_over e w =
       record {
-        tells = f ∙ sym (inv.1 ∙ ap (first_bad_set t (line_of t head) (statements t) ss) e);
+        tells = sym (inv.1 ∙ ap (first_bad_set t (line_of t head) (statements t) ss) e);
         wrote = λ z. completes_over inv.2 (ap (λ (l : List (List ℕ)). spell_all set_bytes (map (held (statements t) ss) l)) e) w;
         length = wrote-length w ∙ inv.0;
       }
@@ -189,6 +189,6 @@ module _ (t : List ℕ) (names : List (List ℕ)) (line : ℕ) (cells : List Cel
     pub stray_later : b ≡ false → first_stray t line names (map (noted t) cells) ≡ first_stray t line names (map (noted t) (drop (i + 1) cells))
     stray_later f = stray_first f
 
-  pub stray_over : length cells ≤ i → {told : Told} → told ≡ nothing → told ≡ first_stray t line names (map (noted t) cells)
+  pub stray_over : length cells ≤ i → nothing ≡ first_stray t line names (map (noted t) cells)
   unfolding first_stray
-  stray_over h e = e ∙ sym (inv ∙ ap (first_stray t line names) (cells_done (noted t) cells i h))
+  stray_over h = sym (inv ∙ ap (first_stray t line names) (cells_done (noted t) cells i h))

@@ -1,16 +1,22 @@
 -- To be believed. What one statement may be refused for by itself: rows 33 to 42. Assumes nothing.
-use Rattle.std.specs.Prelude.{ℕ, suc, ◌-◌, Bool, cond, not, ◌||◌, List, [], ◌∷◌, eqb, leb, length, drop}
+use Rattle.std.specs.Prelude.{ℕ, suc, ◌-◌, Bool, cond, not, ◌||◌, List, [], ◌∷◌, eqb, leb, length, drop, Option, Some, None, Result, Ok, Err}
 use Rattle.hl7.specs.Text.{bytes}
 use Rattle.hl7.specs.Bytes.{within, same}
 use Rattle.grade.specs.Encoding.{each, text_fits}
 use Rattle.grade.specs.Limits.{key_limit, code_limit}
 use Rattle.booktext.specs.Lines.{Statement, word, verb, of_rule, line_of, of_place, of_codes, a_book, a_set, a_common, a_section, a_code, a_use, some_sets, a_severity, a_bound, a_drop}
 use Rattle.booktext.specs.Words.{is_place, is_severity_word, kind_number, bound_fits}
-use Rattle.booktext.specs.declared.told.Told.{Told}
+use Rattle.booktext.specs.declared.told.Row.{Row}
+use Rattle.booktext.specs.declared.told.Fault.{Fault}
 
 -- ---- answers
 
 -- a number and two details: a line, or with 0 and 55 a length; and the line of the section that was being made, 0 outside one
+pub record Told : Type 0 where
+  pub number : ℕ
+  pub detail : ℕ
+  pub section : ℕ
+
 abbrev pub tell : ℕ → ℕ → ℕ → Told
 tell number detail section = record { number = number; detail = detail; section = section }
 
@@ -20,6 +26,46 @@ nothing = tell 0 0 0
 -- the first that refuses
 abbrev pub firstly : Told → Told → Told
 firstly a b = cond (eqb a.number 0) b a
+
+-- the number of a refusal
+abbrev pub number_of : Row → ℕ
+number_of Row.Malformed = 7
+number_of Row.OtherVersion = 8
+number_of Row.LongText = 31
+number_of Row.WrongByte = 32
+number_of Row.UnknownStatement = 33
+number_of Row.Misplaced = 34
+number_of Row.WordCount = 35
+number_of Row.WrongVersion = 36
+number_of Row.WrongKey = 37
+number_of Row.WrongCode = 38
+number_of Row.WrongPlace = 39
+number_of Row.WrongKind = 40
+number_of Row.WrongSeverity = 41
+number_of Row.WrongBound = 42
+number_of Row.NameTaken = 43
+number_of Row.SectionCount = 44
+number_of Row.UnknownName = 45
+number_of Row.UsedTwice = 46
+number_of Row.RuleStands = 47
+number_of Row.NoRule = 48
+number_of Row.WrongChange = 49
+number_of Row.RuleCount = 50
+number_of Row.SetCount = 51
+number_of Row.StraySet = 52
+number_of Row.CodeCount = 53
+number_of Row.LongBook = 54
+number_of Row.ShortOutput = 55
+number_of Row.StatementCount = 56
+
+-- what it tells, with its details
+abbrev pub told_by : Fault → Told
+told_by f = tell (number_of f.row) f.detail f.section
+
+-- what an answer tells: the length with 0, or the refusal
+abbrev pub told_of : Result ℕ Fault → Told
+told_of (Ok size) = tell 0 size 0
+told_of (Err fault) = told_by fault
 
 -- ---- where a statement stands
 

@@ -10,8 +10,7 @@ use Rattle.booktext.specs.Words.{kind_number, a_code_kind}
 use Rattle.booktext.specs.Meaning.{body, from, expand}
 use Rattle.booktext.specs.Changes.{spot_of, settled}
 use Rattle.booktext.specs.Contents.{names_of, held, section_of, meaning}
-use Rattle.booktext.specs.Faults.{tell, nothing, firstly, before_bound, first_fault}
-use Rattle.booktext.specs.declared.told.Told.{Told}
+use Rattle.booktext.specs.Faults.{Told, tell, nothing, firstly, before_bound, first_fault}
 
 -- ---- rows 31 and 32: the text's bytes
 

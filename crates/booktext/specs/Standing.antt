@@ -1,6 +1,6 @@
 -- Inner: only contracts inside the crate use these names; nothing here has to be believed.
 -- A statement by the position of its line, what is still to come from a position on, and what is noted of a section. Assumes nothing.
-use Rattle.std.specs.Prelude.{ℕ, suc, ◌+◌, ◌≤◌, ◌<◌, min, ◌≡◌, Bool, true, cond, not, ◌&&◌, ◌||◌, List, [], ◌∷◌, ◌++◌, map, eqb, leb, length, get_or, take, drop, All, Option, Some, None}
+use Rattle.std.specs.Prelude.{ℕ, suc, ◌+◌, ◌≤◌, ◌<◌, min, ◌≡◌, Bool, true, cond, not, ◌&&◌, ◌||◌, List, [], ◌∷◌, ◌++◌, map, eqb, leb, length, get_or, take, drop, All, Option, Some, None, Result, Ok, Err}
 use Rattle.hl7.specs.Bytes.{within}
 use Rattle.hl7.specs.Cut.{part_at, end_from}
 use Rattle.hl7.specs.Spans.{between, parts_from}
@@ -11,16 +11,16 @@ use Rattle.booktext.specs.Meaning.{body, is_of, from}
 use Rattle.booktext.specs.Words.{is_severity, a_length, a_time, a_code_kind}
 use Rattle.booktext.specs.Changes.{spot_of, bind}
 use Rattle.booktext.specs.Contents.{rules_of, with_names}
-use Rattle.booktext.specs.Faults.{count_right, key_right, codes_right, place_right, kind_right, severity_right, before_bound, bound_right, tell}
+use Rattle.booktext.specs.Faults.{count_right, key_right, codes_right, place_right, kind_right, severity_right, before_bound, bound_right, Told, tell, nothing, number_of, told_by}
 use Rattle.booktext.specs.Refusals.{statement_limit, compiled}
 use Rattle.grade.specs.Encoding.{spell_all, text_bytes}
 use Rattle.grade.specs.Limits.{book_limit}
 use Rattle.grade.specs.Rule.{name_bytes, severity_of}
 use Rattle.grade.specs.declared.rule.Place.{Place}
-use Rattle.booktext.specs.declared.told.Told.{Told}
+use Rattle.booktext.specs.declared.told.Row.{Row}
+use Rattle.booktext.specs.declared.told.Fault.{Fault}
 use Rattle.booktext.specs.declared.cell.Cell.{Cell}
 use Rattle.booktext.specs.declared.names.Names.{Names}
-use Rattle.booktext.specs.declared.sets.Put.{Put}
 use Rattle.booktext.specs.declared.sets.Run.{Run}
 
 -- ---- words from a position on
@@ -91,6 +91,23 @@ from_noted t v name (at ∷ heads) later =
 pub record Heads (t heads : List ℕ) (rest : ℕ) : Type 0 where
   pub whole : (v : ℕ) (name : List ℕ) → within a_set a_section v ≡ true → from_noted t v name heads (from v name (left t rest)) ≡ from v name (statements t)
   pub inside : (i : ℕ) → i < length heads → get_or heads i 0 ≤ length t
+
+-- ---- refusals
+
+-- the number of one that was found, 0 where none was
+abbrev pub row_number : Option Row → ℕ
+row_number None = 0
+row_number (Some row) = number_of row
+
+-- what a step tells; nothing where it goes on
+abbrev pub told_in : {A : Type 0} → Result A Fault → Told
+told_in (Ok a) = nothing
+told_in (Err fault) = told_by fault
+
+-- where the next byte goes, 0 where there is none
+abbrev pub end_in : Result ℕ Fault → ℕ
+end_in (Ok at) = at
+end_in (Err fault) = 0
 
 -- ---- rows 33 to 42
 
@@ -202,9 +219,9 @@ pub record Spelt (codes : List (List ℕ)) (before : List ℕ) (from : Run) (aft
 -- ---- what a part of a book was made to be
 
 -- told what the rows give; and where they give nothing, the bytes were written
-pub record Puts (told : Told) (bytes before : List ℕ) (at : ℕ) (after : List ℕ) (r : Put) : Type 0 where
-  pub tells : r.told ≡ told
-  pub wrote : r.told.number ≡ 0 → Wrote before at bytes after r.at
+pub record Puts (told : Told) (bytes before : List ℕ) (at : ℕ) (after : List ℕ) (r : Result ℕ Fault) : Type 0 where
+  pub tells : told_in r ≡ told
+  pub wrote : (told_in r).number ≡ 0 → Wrote before at bytes after (end_in r)
   pub length : length after ≡ length before
 
 -- told why there is no book; or its length, and the book in the first bytes of a place

@@ -6,13 +6,13 @@ ghost use Rattle.booktext.specs.Lines.{statements, word, line_of, says, a_rule, 
 ghost use Rattle.booktext.specs.Changes.{says_of, names_code};
 ghost use Rattle.booktext.specs.Contents.{listed, codes_of};
 ghost use Rattle.booktext.specs.Refusals.{stands, has_code, code_asked, rule_fault, first_rule_fault};
-ghost use Rattle.booktext.specs.Standing.{words_from, statement_at, body_from, Heads, noted, no_cell, Marked, Marks, rules_it};
+ghost use Rattle.booktext.specs.Standing.{words_from, statement_at, body_from, Heads, told_in, row_number, noted, no_cell, Marked, Marks, rules_it};
 
 use crate::cell::Cell;
 use crate::heads::seek_head;
 use crate::line::{line_of, next_word, part, skip_words, word_of};
 use crate::statement::{next_in_body, next_line, verb_at};
-use crate::told::{Told, nothing, tell};
+use crate::told::{Fault, Row};
 use crate::word::{CODE, DROP, LESS, MORE, RULE, SET, either, is_codes, is_placed, is_rule};
 use hl7::bytes::{pick, same_bytes};
 
@@ -165,31 +165,33 @@ fn codes_asked(
 
 // ---- the rows
 // Of a statement that speaks of a place and kind, where a rule of them stands or not.
-fn place_fault(verb: u8, stands: bool) -> usize
-    ensures { result ≡ cond (eqb verb a_rule && stands) 47 (cond (not (eqb verb a_rule) && not stands) 48 0) }
+fn place_fault(verb: u8, stands: bool) -> Option<Row>
+    ensures { row_number result ≡ cond (eqb verb a_rule && stands) 47 (cond (not (eqb verb a_rule) && not stands) 48 0) }
 {
-    pick(
-        (verb == RULE) & stands,
-        47,
-        pick((verb != RULE) & !stands, 48, 0),
-    )
+    match (verb == RULE, stands) {
+        (true, true) => Some(Row::RuleStands),
+        (false, false) => Some(Row::NoRule),
+        _ => None,
+    }
 }
 
-// The row that holds of statement i after those before it; 0 where none does.
-fn rule_fault(t: &[u8], heads: &[usize], rest: usize, cells: &[Cell], i: usize) -> usize
+// The row that holds of statement i after those before it.
+fn rule_fault(t: &[u8], heads: &[usize], rest: usize, cells: &[Cell], i: usize) -> Option<Row>
     requires { Heads t.now heads.now rest × Marks t.now cells.now × (i < length cells.now) }
-    ensures { result ≡ rule_fault (statements t.now) (map (noted t.now) (take i cells.now)) (noted t.now (get_or cells.now i no_cell)) }
+    ensures { row_number result ≡ rule_fault (statements t.now) (map (noted t.now) (take i cells.now)) (noted t.now (get_or cells.now i no_cell)) }
 {
     let cell = cells[i];
     let earlier = &cells[..i];
     if is_placed(cell.verb) {
         return place_fault(cell.verb, is_standing(earlier, cell.spot));
     }
-    if is_codes(cell.verb) {
-        let right = codes_asked(t, heads, rest, earlier, cell.line, cell.verb == LESS);
-        return pick(right, 0, 49);
+    if !is_codes(cell.verb) {
+        return None;
     }
-    0
+    if !codes_asked(t, heads, rest, earlier, cell.line, cell.verb == LESS) {
+        return Some(Row::WrongChange);
+    }
+    None
 }
 
 // The first statement that has one, in a section with a head.
@@ -199,17 +201,14 @@ pub(crate) fn first_rule_fault(
     rest: usize,
     head: usize,
     cells: &[Cell],
-) -> Told
+) -> Result<(), Fault>
     requires { Heads t.now heads.now rest × Marks t.now cells.now }
-    ensures { result ≡ first_rule_fault t.now (statements t.now) (line_of t.now head) [] (map (noted t.now) cells.now) }
+    ensures { told_in result ≡ first_rule_fault t.now (statements t.now) (line_of t.now head) [] (map (noted t.now) cells.now) }
 {
-    let mut i = 0;
-    while i < cells.len() {
-        let fault = rule_fault(t, heads, rest, cells, i);
-        if fault != 0 {
-            return tell(fault, line_of(t, cells[i].line), line_of(t, head));
+    for i in 0..cells.len() {
+        if let Some(row) = rule_fault(t, heads, rest, cells, i) {
+            return Err(row.in_section(line_of(t, cells[i].line), line_of(t, head)));
         }
-        i += 1;
     }
-    nothing()
+    Ok(())
 }

@@ -6,7 +6,7 @@ ghost use Rattle.ack.specs.Splice.{Wrote};
 ghost use Rattle.booktext.specs.Lines.{statements, says, line_of, text_limit, a_section};
 ghost use Rattle.booktext.specs.Changes.{settled};
 ghost use Rattle.booktext.specs.Contents.{rules_of, contents_of, section_of, sections_in, meaning};
-ghost use Rattle.booktext.specs.Faults.{tell, nothing, firstly};
+ghost use Rattle.booktext.specs.Faults.{tell, nothing, firstly, number_of, told_by, told_of};
 ghost use Rattle.booktext.specs.Refusals.{statement_limit, first_rule_fault, sizes_told, section_told, sections_told, named_told, refusal, compile_of};
 ghost use Rattle.booktext.specs.Standing.{words_from, statement_at, next_line, left, sound, ready, noted, Marks, names_in, Puts, Heads, MakesBy};
 
@@ -20,26 +20,19 @@ use crate::names::{Names, SET_LIMIT, names_of};
 use crate::refer::first_name_fault;
 use crate::rules::{count_rules, put_rules};
 use crate::section::{STATEMENT_LIMIT, note_section, used_twice};
-use crate::sets::{Put, first_stray, put_sets, put_text, put_two};
+use crate::sets::{first_stray, put_sets, put_text, put_two};
 use crate::statement::{next_line, next_statement, verb_at};
-use crate::told::{Told, nothing, tell};
+use crate::told::{Fault, Row, Told};
 use crate::word::SECTION;
 use ack::output::{put, put_byte};
 use grade::limits::{BOOK_LIMIT, RULE_LIMIT};
 
-// A refusal, with nothing more written.
-fn refused(told: Told, at: usize) -> Put
-    ensures { (result.told ≡ told) × (result.at ≡ at) }
-{
-    Put { told, at }
-}
-
 // One that is told with the line of the section's own head.
-fn over(t: &[u8], number: usize, head: usize, at: usize) -> Put
-    ensures { (result.told ≡ tell number (line_of t.now head) (line_of t.now head)) × (result.at ≡ at) }
+fn over(t: &[u8], row: Row, head: usize) -> Fault
+    ensures { told_by result ≡ tell (number_of row) (line_of t.now head) (line_of t.now head) }
 {
     let line = line_of(t, head);
-    refused(tell(number, line, line), at)
+    row.in_section(line, line)
 }
 
 // Key, counts, rules: what stands before a section's sets.
@@ -55,10 +48,9 @@ fn put_front(
     requires { (names.count ≤ 64) × (length names.spans ≡ 64) × (each ready (map (noted t.now) cells.now) ≡ true) × (rules < 65536) × (length (get_or (words_from t.now head) 1 []) ≤ 255) }
     ensures { Wrote out.old at (text_bytes (get_or (words_from t.now head) 1 []) ++ (two_bytes_of rules ++ (names.count ∷ spell_all rule_bytes (rules_of (names_in t.now names) (map (noted t.now) cells.now))))) out.new result }
 {
-    let count = names.count;
     let second = put_text(out, at, word_of(t, head, 1));
     let third = put_two(out, second, rules);
-    let fourth = put_byte(out, third, count as u8);
+    let fourth = put_byte(out, third, names.count as u8);
     put_rules(out, fourth, t, cells, names)
 }
 
@@ -72,31 +64,25 @@ fn put_section(
     head: usize,
     cells: &[Cell],
     lasting: &[Cell],
-) -> Put
+) -> Result<usize, Fault>
     requires { Heads t.now heads.now rest × (each sound (statements t.now) ≡ true) × (each ready (map (noted t.now) cells.now) ≡ true) × Marks t.now cells.now × (map (noted t.now) lasting.now ≡ settled (map (noted t.now) cells.now)) × (length (get_or (words_from t.now head) 1 []) ≤ 255) }
     ensures { Puts (sizes_told t.now (statements t.now) at (line_of t.now head) (contents_of (statements t.now) (get_or (words_from t.now head) 1 []) (map (noted t.now) cells.now)) (map (noted t.now) cells.now)) (section_bytes (contents_of (statements t.now) (get_or (words_from t.now head) 1 []) (map (noted t.now) cells.now))) out.old at out.new result }
 {
     let rules = count_rules(t, lasting);
     if RULE_LIMIT < rules {
-        return over(t, 50, head, at);
+        return Err(over(t, Row::RuleCount, head));
     }
     let names = names_of(t, lasting);
     if SET_LIMIT < names.count {
-        return over(t, 51, head, at);
+        return Err(over(t, Row::SetCount, head));
     }
-    let stray = first_stray(t, head, cells, names);
-    if stray.number != 0 {
-        return refused(stray, at);
-    }
+    first_stray(t, head, cells, names)?;
     let next = put_front(out, at, t, head, lasting, names, rules);
-    let sets = put_sets(out, next, t, heads, rest, head, cells, names);
-    if sets.told.number != 0 {
-        return sets;
+    let end = put_sets(out, next, t, heads, rest, head, cells, names)?;
+    if BOOK_LIMIT < end {
+        return Err(over(t, Row::LongBook, head));
     }
-    if BOOK_LIMIT < sets.at {
-        return over(t, 54, head, at);
-    }
-    sets
+    Ok(end)
 }
 
 // Rows 47 to 49, then the others; the statements are settled in between.
@@ -109,14 +95,11 @@ fn check_section(
     head: usize,
     cells: &[Cell],
     lasting: &mut [Cell],
-) -> Put
+) -> Result<usize, Fault>
     requires { Heads t.now heads.now rest × (each sound (statements t.now) ≡ true) × (each ready (map (noted t.now) cells.now) ≡ true) × Marks t.now cells.now × (length cells.now ≤ statement_limit) × (length lasting.old ≡ statement_limit) × (length (get_or (words_from t.now head) 1 []) ≤ 255) }
     ensures { Puts (firstly (first_rule_fault t.now (statements t.now) (line_of t.now head) [] (map (noted t.now) cells.now)) (sizes_told t.now (statements t.now) at (line_of t.now head) (contents_of (statements t.now) (get_or (words_from t.now head) 1 []) (map (noted t.now) cells.now)) (map (noted t.now) cells.now))) (section_bytes (contents_of (statements t.now) (get_or (words_from t.now head) 1 []) (map (noted t.now) cells.now))) out.old at out.new result }
 {
-    let fault = first_rule_fault(t, heads, rest, head, cells);
-    if fault.number != 0 {
-        return refused(fault, at);
-    }
+    first_rule_fault(t, heads, rest, head, cells)?;
     let count = settle(t, cells, lasting);
     put_section(out, at, t, heads, rest, head, cells, &lasting[..count])
 }
@@ -131,18 +114,15 @@ fn make_section(
     head: usize,
     cells: &mut [Cell],
     lasting: &mut [Cell],
-) -> Put
+) -> Result<usize, Fault>
     requires { Heads t.now heads.now rest × (length t.now ≤ text_limit) × (head ≤ length t.now) × (says a_section (statement_at t.now head 0) ≡ true) × (each sound (statements t.now) ≡ true) × (each sound (statement_at t.now head 0 ∷ left t.now (next_line t.now head)) ≡ true) × (length cells.old ≡ statement_limit) × (length lasting.old ≡ statement_limit) }
     ensures { Puts (section_told t.now (statements t.now) at (statement_at t.now head 0) (left t.now (next_line t.now head))) (section_bytes (section_of (statements t.now) (statement_at t.now head 0) (left t.now (next_line t.now head)))) out.old at out.new result }
 {
     let start = next_line(t, head);
-    let twice = used_twice(t, head, start);
-    if twice.number != 0 {
-        return refused(twice, at);
-    }
+    used_twice(t, head, start)?;
     let count = note_section(t, heads, rest, cells, start);
     if STATEMENT_LIMIT < count {
-        return over(t, 56, head, at);
+        return Err(over(t, Row::StatementCount, head));
     }
     check_section(out, at, t, heads, rest, head, &cells[..count], lasting)
 }
@@ -157,14 +137,14 @@ fn make_any(
     line: usize,
     cells: &mut [Cell],
     lasting: &mut [Cell],
-) -> Put
+) -> Result<usize, Fault>
     requires { Heads t.now heads.now rest × (length t.now ≤ text_limit) × (line ≤ length t.now) × (each sound (statements t.now) ≡ true) × (each sound (statement_at t.now line 0 ∷ left t.now (next_line t.now line)) ≡ true) × (length cells.old ≡ statement_limit) × (length lasting.old ≡ statement_limit) }
     ensures { Puts (cond (says a_section (statement_at t.now line 0)) (section_told t.now (statements t.now) at (statement_at t.now line 0) (left t.now (next_line t.now line))) nothing) (cond (says a_section (statement_at t.now line 0)) (section_bytes (section_of (statements t.now) (statement_at t.now line 0) (left t.now (next_line t.now line)))) []) out.old at out.new result }
 {
     if verb_at(t, line) == SECTION {
         return make_section(out, at, t, heads, rest, line, cells, lasting);
     }
-    refused(nothing(), put(out, at, b""))
+    Ok(put(out, at, b""))
 }
 
 // The sections of a text, from its first line on.
@@ -176,25 +156,27 @@ fn make_sections(
     rest: usize,
     cells: &mut [Cell],
     lasting: &mut [Cell],
-) -> Put
+) -> Result<usize, Fault>
     requires { Heads t.now heads.now rest × (at ≤ book_limit) × (length t.now ≤ text_limit) × (each sound (statements t.now) ≡ true) × (length cells.old ≡ statement_limit) × (length lasting.old ≡ statement_limit) }
     ensures { Puts (sections_told t.now (statements t.now) at (statements t.now)) (spell_all section_bytes (sections_in (statements t.now) (statements t.now))) out.old at out.new result }
 {
     let mut to = at;
     let mut line = next_statement(t, 0);
     while line <= t.len() {
-        let one = make_any(out, to, t, heads, rest, line, cells, lasting);
-        if one.told.number != 0 {
-            return one;
-        }
-        to = one.at;
+        to = make_any(out, to, t, heads, rest, line, cells, lasting)?;
         line = next_statement(t, next_line(t, line));
     }
-    refused(nothing(), put(out, to, b""))
+    Ok(put(out, to, b""))
 }
 
 // The whole book of a text with so many sections.
-fn make_book(out: &mut [u8], t: &[u8], heads: &[usize], rest: usize, sections: usize) -> Put
+fn make_book(
+    out: &mut [u8],
+    t: &[u8],
+    heads: &[usize],
+    rest: usize,
+    sections: usize,
+) -> Result<usize, Fault>
     requires { Heads t.now heads.now rest × (length t.now ≤ text_limit) × (each sound (statements t.now) ≡ true) × (sections ≡ length (meaning t.now)) × (sections ≤ 64) }
     ensures { Puts (sections_told t.now (statements t.now) 6 (statements t.now)) (book_bytes (meaning t.now)) out.old 0 out.new result }
 {
@@ -206,54 +188,36 @@ fn make_book(out: &mut [u8], t: &[u8], heads: &[usize], rest: usize, sections: u
     make_sections(out, fourth, t, heads, rest, &mut cells, &mut lasting)
 }
 
-// Rows 31 to 54 and 56. Where none holds, the book stands in the first bytes of the place, and the detail is its length.
+// Rows 31 to 54 and 56. Where none holds, the book stands in the first bytes of the place, and its length is answered.
 pub fn make(t: &[u8], place: &mut [u8]) -> Told
     requires { length place.old ≡ book_limit }
-    ensures { MakesBy (refusal t.now) t.now result place.new }
+    ensures { MakesBy (refusal t.now) t.now (told_of result) place.new }
 {
-    let bytes = bytes_told(t);
-    if bytes.number != 0 {
-        return bytes;
-    }
-    let fault = first_fault(t);
-    if fault.number != 0 {
-        return fault;
-    }
+    bytes_told(t)?;
+    first_fault(t)?;
     let mut heads = [0usize; HEAD_LIMIT];
     let noted = note_heads(t, &mut heads);
-    let count = noted.count;
-    make_named(t, &heads[..count], noted.rest, place)
+    make_named(t, &heads[..noted.count], noted.rest, place)
 }
 
 // Rows 43 to 54 and 56, likewise, of a text that passes the others.
 fn make_named(t: &[u8], heads: &[usize], rest: usize, place: &mut [u8]) -> Told
     requires { Heads t.now heads.now rest × (length place.old ≡ book_limit) × (length t.now ≤ text_limit) × (each sound (statements t.now) ≡ true) }
-    ensures { MakesBy (named_told t.now) t.now result place.new }
+    ensures { MakesBy (named_told t.now) t.now (told_of result) place.new }
 {
-    let names = first_name_fault(t, heads, rest);
-    if names.told.number != 0 {
-        return names.told;
-    }
-    let book = make_book(place, t, heads, rest, names.sections);
-    if book.told.number != 0 {
-        return book.told;
-    }
-    tell(0, book.at, 0)
+    let sections = first_name_fault(t, heads, rest)?;
+    make_book(place, t, heads, rest, sections)
 }
 
 // The book of a text, into a lent output: all of it, or nothing.
 pub fn compile(text: &[u8], output: &mut [u8]) -> Told
-    ensures { (result ≡ (compile_of text.now output.old).told) × (output.new ≡ (compile_of text.now output.old).output) }
+    ensures { (told_of result ≡ (compile_of text.now output.old).told) × (output.new ≡ (compile_of text.now output.old).output) }
 {
     let mut place = [0u8; BOOK_LIMIT];
-    let made = make(text, &mut place);
-    if made.number != 0 {
-        return made;
-    }
-    let size = made.detail;
+    let size = make(text, &mut place)?;
     if output.len() < size {
-        return tell(55, size, 0);
+        return Err(Row::ShortOutput.with(size));
     }
     put(output, 0, &place[..size]);
-    made
+    Ok(size)
 }

@@ -5,11 +5,11 @@ ghost use Rattle.grade.specs.Encoding.{each, text_fits};
 ghost use Rattle.booktext.specs.Faults.{may_stand, inside, count_right, version_right, key_right, codes_right, place_right, kind_right, severity_right, bound_right, fault_of, first_fault};
 ghost use Rattle.booktext.specs.Refusals.{allowed, wrong_at, bytes_told};
 ghost use Rattle.booktext.specs.Lines.{statements, of_codes, a_severity, a_bound, a_drop};
-ghost use Rattle.booktext.specs.Standing.{words_from, statement_at, late_fault};
+ghost use Rattle.booktext.specs.Standing.{words_from, statement_at, told_in, row_number, late_fault};
 
 use crate::line::{count_words, line_of, next_word, part, skip_words, word_of};
 use crate::statement::{is_head, next_line, next_statement, verb_at};
-use crate::told::{Told, nothing, tell};
+use crate::told::{Fault, Row};
 use crate::word::{
     BOOK, BOUND, CODE, COMMON, DROP, SECTION, SET, SETS, SEVERITY, USE, before_bound, bound_fits,
     either, is_codes, is_place, is_placed, is_rule, is_severity_word, is_text, kind_number, minus,
@@ -41,17 +41,17 @@ fn wrong_at(t: &[u8]) -> usize
 }
 
 // Rows 31 and 32.
-pub(crate) fn bytes_told(t: &[u8]) -> Told
-    ensures { result ≡ bytes_told t.now }
+pub(crate) fn bytes_told(t: &[u8]) -> Result<(), Fault>
+    ensures { told_in result ≡ bytes_told t.now }
 {
     if TEXT_LIMIT < t.len() {
-        return tell(31, 0, 0);
+        return Err(Row::LongText.with(0));
     }
     let at = wrong_at(t);
     if at < t.len() {
-        return tell(32, line_of(t, at), 0);
+        return Err(Row::WrongByte.with(line_of(t, at)));
     }
-    nothing()
+    Ok(())
 }
 
 // ---- one statement
@@ -156,58 +156,72 @@ fn bound_right(verb: u8, n: usize, kind: &[u8], low: &[u8], high: &[u8]) -> bool
 }
 
 // The first row of 38 to 42 that holds.
-fn late_fault(t: &[u8], at: usize, verb: u8, n: usize) -> usize
-    ensures { result ≡ late_fault verb n (words_from t.now at) }
+#[tactic(auto, unfolding(crate::specs::Standing::late_fault))]
+fn late_fault(t: &[u8], at: usize, verb: u8, n: usize) -> Option<Row>
+    ensures { row_number result ≡ late_fault verb n (words_from t.now at) }
 {
+    if !codes_right(t, at, verb) {
+        return Some(Row::WrongCode);
+    }
+    if !place_right(verb, word_of(t, at, 1)) {
+        return Some(Row::WrongPlace);
+    }
     let kind = word_of(t, at, 2);
-    let severe = severity_right(verb, n, kind, word_of(t, at, 3));
+    if !kind_right(verb, kind) {
+        return Some(Row::WrongKind);
+    }
+    if !severity_right(verb, n, kind, word_of(t, at, 3)) {
+        return Some(Row::WrongSeverity);
+    }
     let start = before_bound(verb);
     let low = word_of(t, at, start);
     let high = word_of(t, at, start + 1);
-    let bounded = bound_right(verb, n, kind, low, high);
-    let last = pick(
-        !kind_right(verb, kind),
-        40,
-        pick(!severe, 41, pick(!bounded, 42, 0)),
-    );
-    pick(
-        !codes_right(t, at, verb),
-        38,
-        pick(!place_right(verb, word_of(t, at, 1)), 39, last),
-    )
+    if !bound_right(verb, n, kind, low, high) {
+        return Some(Row::WrongBound);
+    }
+    None
 }
 
-// The first row of 33 to 42 that holds of a statement; 0 where none does.
-fn fault_of(t: &[u8], at: usize, here: u8) -> usize
-    ensures { result ≡ fault_of here (statement_at t.now at 0) }
+// The first row of 33 to 42 that holds of a statement.
+#[tactic(auto, unfolding(crate::specs::Faults::fault_of, crate::specs::Standing::late_fault))]
+fn fault_of(t: &[u8], at: usize, here: u8) -> Option<Row>
+    ensures { row_number result ≡ fault_of here (statement_at t.now at 0) }
 {
     let verb = verb_at(t, at);
+    if verb == 0 {
+        return Some(Row::UnknownStatement);
+    }
+    if !may_stand(here, verb) {
+        return Some(Row::Misplaced);
+    }
     let n = count_words(t, at);
+    if !count_right(verb, n) {
+        return Some(Row::WordCount);
+    }
     let first = word_of(t, at, 1);
-    let late = pick(!key_right(verb, first), 37, late_fault(t, at, verb, n));
-    let middle = pick(
-        !count_right(verb, n),
-        35,
-        pick(!version_right(verb, first), 36, late),
-    );
-    pick(verb == 0, 33, pick(!may_stand(here, verb), 34, middle))
+    if !version_right(verb, first) {
+        return Some(Row::WrongVersion);
+    }
+    if !key_right(verb, first) {
+        return Some(Row::WrongKey);
+    }
+    late_fault(t, at, verb, n)
 }
 
 // The first statement that has one.
-pub(crate) fn first_fault(t: &[u8]) -> Told
-    ensures { result ≡ first_fault t.now 0 (statements t.now) }
+pub(crate) fn first_fault(t: &[u8]) -> Result<(), Fault>
+    ensures { told_in result ≡ first_fault t.now 0 (statements t.now) }
 {
     let mut here = 0;
     let mut at = next_statement(t, 0);
     while at <= t.len() {
-        let fault = fault_of(t, at, here);
-        if fault != 0 {
-            return tell(fault, line_of(t, at), 0);
+        if let Some(row) = fault_of(t, at, here) {
+            return Err(row.with(line_of(t, at)));
         }
         here = inside(here, verb_at(t, at));
         at = next_statement(t, next_line(t, at));
     }
-    nothing()
+    Ok(())
 }
 
 // Where the statement after one with a verb stands.

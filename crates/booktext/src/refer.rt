@@ -1,18 +1,18 @@
 // Rows 43 to 45: names that stand twice, names that are not there, and how many sections there are.
-ghost use Rattle.std.specs.Prelude.{◌≡◌, true, cond, not, ◌&&◌, ◌≤◌, eqb, leb, length};
+ghost use Rattle.std.specs.Prelude.{◌≡◌, true, cond, not, ◌&&◌, ◌≤◌, eqb, leb, length, IfOk};
 ghost use Rattle.hl7.specs.Bytes.{within};
 ghost use Rattle.grade.specs.Encoding.{each};
 ghost use Rattle.booktext.specs.Lines.{verb, of_codes, statements};
 ghost use Rattle.booktext.specs.Meaning.{from};
 ghost use Rattle.booktext.specs.Contents.{meaning};
-ghost use Rattle.booktext.specs.Faults.{tell, nothing, before_bound};
+ghost use Rattle.booktext.specs.Faults.{before_bound};
 ghost use Rattle.booktext.specs.Refusals.{is_first, is_there, is_set, names_set, lacks, name_fault, first_name_fault};
-ghost use Rattle.booktext.specs.Standing.{words_from, statement_at, left, Heads};
+ghost use Rattle.booktext.specs.Standing.{words_from, statement_at, left, told_in, row_number, Heads};
 
 use crate::heads::seek_head;
 use crate::line::{line_of, next_word, part, skip_words, word_of};
 use crate::statement::{next_line, next_statement, seek, verb_at};
-use crate::told::{Told, nothing, tell};
+use crate::told::{Fault, Row};
 use crate::word::{
     BOUND, CODE_KIND, COMMON, SECTION, SET, SETS, USE, before_bound, is_codes, is_rule, kind_number,
 };
@@ -20,13 +20,6 @@ use hl7::bytes::{is_within, pick};
 
 // The most sections of a book.
 const SECTION_LIMIT: usize = 64;
-
-// What is told, and where nothing is, how many sections there are.
-#[derive(Clone, Copy)]
-pub struct Counted {
-    pub told: Told,
-    pub sections: usize,
-}
 
 // Where a statement was found, 0 where it was not.
 pub(crate) fn found_at(t: &[u8], found: usize) -> usize
@@ -114,53 +107,40 @@ fn lacks_name(t: &[u8], heads: &[usize], rest: usize, at: usize) -> bool
     false
 }
 
-// The first row that holds of a statement with so many sections before it; 0 where none does.
-fn name_fault(t: &[u8], heads: &[usize], rest: usize, at: usize, count: usize) -> usize
+// The first row that holds of a statement with so many sections before it.
+fn name_fault(t: &[u8], heads: &[usize], rest: usize, at: usize, count: usize) -> Option<Row>
     requires { Heads t.now heads.now rest }
-    ensures { result ≡ name_fault (statements t.now) count (statement_at t.now at 0) }
+    ensures { row_number result ≡ name_fault (statements t.now) count (statement_at t.now at 0) }
 {
     if is_double(t, heads, rest, at) {
-        return 43;
+        return Some(Row::NameTaken);
     }
     if (verb_at(t, at) == SECTION) & (SECTION_LIMIT <= count) {
-        return 44;
+        return Some(Row::SectionCount);
     }
     if lacks_name(t, heads, rest, at) {
-        return 45;
+        return Some(Row::UnknownName);
     }
-    0
-}
-
-// What is told at the end: 44 where there is no section.
-fn end_told(sections: usize) -> Told
-    ensures { result ≡ cond (eqb sections 0) (tell 44 0 0) nothing }
-{
-    if sections == 0 {
-        return tell(44, 0, 0);
-    }
-    nothing()
+    None
 }
 
 // The first statement that has one, or how many sections there are.
-pub(crate) fn first_name_fault(t: &[u8], heads: &[usize], rest: usize) -> Counted
+pub(crate) fn first_name_fault(t: &[u8], heads: &[usize], rest: usize) -> Result<usize, Fault>
     requires { Heads t.now heads.now rest }
-    ensures { (result.told ≡ first_name_fault t.now (statements t.now) 0 (statements t.now)) × (result.told.number ≡ 0 → (result.sections ≡ length (meaning t.now)) × (1 ≤ result.sections) × (result.sections ≤ 64)) }
+    ensures told { told_in result ≡ first_name_fault t.now (statements t.now) 0 (statements t.now) }
+    ensures sections { IfOk result (λ n. (n ≡ length (meaning t.now)) × (1 ≤ n) × (n ≤ 64)) }
 {
     let mut sections = 0;
     let mut at = next_statement(t, 0);
     while at <= t.len() {
-        let fault = name_fault(t, heads, rest, at, sections);
-        if fault != 0 {
-            return Counted {
-                told: tell(fault, line_of(t, at), 0),
-                sections: 0,
-            };
+        if let Some(row) = name_fault(t, heads, rest, at, sections) {
+            return Err(row.with(line_of(t, at)));
         }
         sections = pick(verb_at(t, at) == SECTION, sections + 1, sections);
         at = next_statement(t, next_line(t, at));
     }
-    Counted {
-        told: end_told(sections),
-        sections,
+    if sections == 0 {
+        return Err(Row::SectionCount.with(0));
     }
+    Ok(sections)
 }

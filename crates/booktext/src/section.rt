@@ -3,14 +3,14 @@ ghost use Rattle.std.specs.Prelude.{◌≡◌, not, ◌&&◌, List, [], ◌∷�
 ghost use Rattle.booktext.specs.Lines.{statements, says, line_of, a_use};
 ghost use Rattle.booktext.specs.Meaning.{give, taken, expand};
 ghost use Rattle.booktext.specs.Refusals.{is_first, used_twice, statement_limit};
-ghost use Rattle.booktext.specs.Standing.{statement_at, left, body_from, Heads, noted, Marked, Holds, NotesMore};
+ghost use Rattle.booktext.specs.Standing.{statement_at, left, body_from, Heads, told_in, noted, Marked, Holds, NotesMore};
 
 use crate::cell::{Cell, cell_at};
 use crate::heads::seek_head;
 use crate::line::{line_of, word_of};
 use crate::refer::is_first;
 use crate::statement::{next_in_body, next_line, verb_at};
-use crate::told::{Told, nothing, tell};
+use crate::told::{Fault, Row};
 use crate::word::{COMMON, USE};
 use hl7::bytes::byte_at;
 
@@ -29,17 +29,17 @@ fn is_repeated(t: &[u8], start: usize, at: usize) -> bool
 }
 
 // The first such one of the section with a head, whose statements begin at start.
-pub(crate) fn used_twice(t: &[u8], head: usize, start: usize) -> Told
-    ensures { result ≡ used_twice t.now (line_of t.now head) (left t.now start) (body_from t.now start) }
+pub(crate) fn used_twice(t: &[u8], head: usize, start: usize) -> Result<(), Fault>
+    ensures { told_in result ≡ used_twice t.now (line_of t.now head) (left t.now start) (body_from t.now start) }
 {
     let mut at = next_in_body(t, start);
     while at <= t.len() {
         if is_repeated(t, start, at) {
-            return tell(46, line_of(t, at), line_of(t, head));
+            return Err(Row::UsedTwice.in_section(line_of(t, at), line_of(t, head)));
         }
         at = next_in_body(t, next_line(t, at));
     }
-    nothing()
+    Ok(())
 }
 
 // ---- statements after inclusion

@@ -8,7 +8,7 @@ ghost use Rattle.booktext.specs.Meaning.{from};
 ghost use Rattle.booktext.specs.Changes.{names_code, lessened, kept, added_by, added};
 ghost use Rattle.booktext.specs.Contents.{listed, codes_of, held};
 ghost use Rattle.booktext.specs.Refusals.{first_stray, first_bad_set};
-ghost use Rattle.booktext.specs.Standing.{words_from, statement_at, next_line, left, body_from, Finds, Heads, noted, no_cell, Marked, Marks, names_in, is_short, sound, ready, Spelt, Puts};
+ghost use Rattle.booktext.specs.Standing.{words_from, statement_at, next_line, left, body_from, Finds, Heads, told_in, noted, no_cell, Marked, Marks, names_in, is_short, sound, ready, Spelt, Puts};
 
 use crate::before::names_code;
 use crate::cell::Cell;
@@ -17,7 +17,7 @@ use crate::line::{line_of, next_word, part, skip_words, word_of};
 use crate::names::{Names, name_at, number_of};
 use crate::refer::found_at;
 use crate::statement::{next_in_body, next_line, verb_at};
-use crate::told::{Told, nothing, tell};
+use crate::told::{Fault, Row};
 use crate::word::{CODE, LESS, MORE, SET, is_codes};
 use ack::output::{put, put_byte};
 use grade::limits::CODE_COUNT_LIMIT;
@@ -28,13 +28,6 @@ use hl7::bytes::same_bytes;
 pub struct Run {
     pub at: usize,
     pub count: usize,
-}
-
-// What is told, and where the next byte goes.
-#[derive(Clone, Copy)]
-pub struct Put {
-    pub told: Told,
-    pub at: usize,
 }
 
 // ---- bytes
@@ -208,24 +201,19 @@ fn put_set(
     head: usize,
     cells: &[Cell],
     name: &[u8],
-) -> Put
+) -> Result<usize, Fault>
     requires { Heads t.now heads.now rest × Marks t.now cells.now × (each ready (map (noted t.now) cells.now) ≡ true) × (each sound (statements t.now) ≡ true) }
     ensures { Puts (first_bad_set t.now (line_of t.now head) (statements t.now) (map (noted t.now) cells.now) (name.now ∷ [])) (set_bytes (held (statements t.now) (map (noted t.now) cells.now) name.now)) out.old at out.new result }
 {
     let line = seek_head(t, heads, rest, SET, name);
     let count = put_held(&mut out[..0], 0, t, cells, name, line).count;
     if (count < 1) | (CODE_COUNT_LIMIT < count) {
-        return Put {
-            told: tell(53, line_of(t, found_at(t, line)), line_of(t, head)),
-            at,
-        };
+        return Err(Row::CodeCount.in_section(line_of(t, found_at(t, line)), line_of(t, head)));
     }
     let next = put_two(out, at, count);
-    Put {
-        told: nothing(),
-        at: put_held(out, next, t, cells, name, line).at,
-    }
+    Ok(put_held(out, next, t, cells, name, line).at)
 }
+
 // The sets with the names.
 pub(crate) fn put_sets(
     out: &mut [u8],
@@ -236,23 +224,16 @@ pub(crate) fn put_sets(
     head: usize,
     cells: &[Cell],
     names: Names,
-) -> Put
+) -> Result<usize, Fault>
     requires { Heads t.now heads.now rest × Marks t.now cells.now × (each ready (map (noted t.now) cells.now) ≡ true) × (names.count ≤ 64) × (length names.spans ≡ 64) × (each sound (statements t.now) ≡ true) }
     ensures { Puts (first_bad_set t.now (line_of t.now head) (statements t.now) (map (noted t.now) cells.now) (names_in t.now names)) (spell_all set_bytes (map (held (statements t.now) (map (noted t.now) cells.now)) (names_in t.now names))) out.old at out.new result }
 {
     let mut to = at;
     for i in 0..names.count {
         let name = name_at(t, names, i);
-        let one = put_set(out, to, t, heads, rest, head, cells, name);
-        if one.told.number != 0 {
-            return one;
-        }
-        to = one.at;
+        to = put_set(out, to, t, heads, rest, head, cells, name)?;
     }
-    Put {
-        told: nothing(),
-        at: put(out, to, b""),
-    }
+    Ok(put(out, to, b""))
 }
 
 // ---- row 52
@@ -268,14 +249,14 @@ fn is_stray(t: &[u8], cell: Cell, names: Names) -> bool
 }
 
 // The first of the statements in the cells that does, in a section with a head.
-pub(crate) fn first_stray(t: &[u8], head: usize, cells: &[Cell], names: Names) -> Told
+pub(crate) fn first_stray(t: &[u8], head: usize, cells: &[Cell], names: Names) -> Result<(), Fault>
     requires { (names.count ≤ 64) × (length names.spans ≡ 64) × Marks t.now cells.now }
-    ensures { result ≡ first_stray t.now (line_of t.now head) (names_in t.now names) (map (noted t.now) cells.now) }
+    ensures { told_in result ≡ first_stray t.now (line_of t.now head) (names_in t.now names) (map (noted t.now) cells.now) }
 {
     for &cell in cells {
         if is_stray(t, cell, names) {
-            return tell(52, line_of(t, cell.line), line_of(t, head));
+            return Err(Row::StraySet.in_section(line_of(t, cell.line), line_of(t, head)));
         }
     }
-    nothing()
+    Ok(())
 }

@@ -7,8 +7,7 @@ use native.Mathlib.Omega.{arith}
 use lib.ListN.{length}
 use Rattle.grade.specs.Book.{decoded, malformed, other_version}
 use Rattle.grade.proofs.Encoded.{Bytes}
-use Rattle.booktext.specs.Faults.{tell, nothing}
-use Rattle.booktext.specs.declared.told.Told.{Told}
+use Rattle.booktext.specs.Faults.{Told, tell, nothing}
 use Rattle.booktext.proofs.Bounds.{SmallRow, a_row, small-nothing, small-cond, Packs, packs}
 use Rattle.canonical.specs.Shown.{shown, show_of}
 use Rattle.canonical.proofs.ShownAgain.{again_short}

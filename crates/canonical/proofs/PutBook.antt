@@ -24,10 +24,9 @@ use Rattle.ack.specs.Output.{Adds}
 use Rattle.ack.specs.declared.output.Output.{Output}
 use Rattle.ack.proofs.Writing.{wrote_as}
 use Rattle.ack.proofs.Adding.{◌next◌, adds_as}
-use Rattle.booktext.specs.Faults.{tell, nothing}
+use Rattle.booktext.specs.Faults.{Told, tell, nothing}
 use Rattle.booktext.specs.Lines.{line_feed}
 use Rattle.booktext.specs.Refusals.{unless_refused, written}
-use Rattle.booktext.specs.declared.told.Told.{Told}
 use Rattle.booktext.proofs.Answering.{measured_short, measured_done}
 use Rattle.canonical.specs.Shown.{line_bytes, printed, set_lines, pin_lines, rule_lines, section_lines, book_lines, shown, show_of}
 use Rattle.canonical.specs.Showing.{pin_bytes}

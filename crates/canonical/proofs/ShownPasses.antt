@@ -18,10 +18,9 @@ use Rattle.grade.specs.declared.rule.Rule.{Rule}
 use Rattle.booktext.specs.Lines.{Statement, text_limit, number_from, verbs, verb_of, line_of, makes_rule, of_place, a_set, a_section, a_use}
 use Rattle.booktext.specs.Changes.{spot_of, settled}
 use Rattle.booktext.specs.Contents.{names_of, held}
-use Rattle.booktext.specs.Faults.{nothing, firstly, first_fault}
+use Rattle.booktext.specs.Faults.{Told, nothing, firstly, first_fault}
 use Rattle.booktext.specs.Refusals.{first_name_fault, used_twice, statement_limit, spots_of, stands, rule_fault, first_rule_fault, first_bad_set, over, sizes_told, section_told, sections_told, beginning, refusal}
 use Rattle.canonical.specs.Shown.{printed, set_names, pin_lines, rule_spot, rule_line, rule_lines, section_lines, book_lines, shown}
-use Rattle.booktext.specs.declared.told.Told.{Told}
 use Rattle.booktext.proofs.Each.{each_join}
 use Rattle.canonical.proofs.Printing.{placed, placed-append}
 use Rattle.canonical.proofs.ReadBack.{place_back, kind_back}

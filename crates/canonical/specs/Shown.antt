@@ -13,10 +13,9 @@ use Rattle.ack.specs.Decimal.{decimal}
 use Rattle.ack.specs.Layout.{joined}
 use Rattle.booktext.specs.Lines.{line_feed}
 use Rattle.booktext.specs.Words.{kind_names}
-use Rattle.booktext.specs.Faults.{tell, nothing}
+use Rattle.booktext.specs.Faults.{Told, tell, nothing}
 use Rattle.booktext.specs.Changes.{spot_number}
 use Rattle.booktext.specs.Refusals.{Outcome, unless_refused}
-use Rattle.booktext.specs.declared.told.Told.{Told}
 
 -- ---- lines
 

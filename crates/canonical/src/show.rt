@@ -12,6 +12,7 @@ ghost use Rattle.grade.specs.Standing.{text_at, TextFits, stands_at, contents_at
 ghost use Rattle.ack.specs.Splice.{Wrote};
 ghost use Rattle.ack.specs.Output.{Adds};
 ghost use Rattle.ack.specs.Layout.{marked};
+ghost use Rattle.booktext.specs.Faults.{told_of};
 ghost use Rattle.booktext.specs.Refusals.{written};
 ghost use Rattle.canonical.specs.Shown.{line_bytes, printed, set_name, code_line, set_lines, place_word, kind_word, bound_words, rule_spot, rule_line, rule_lines, section_lines, book_lines, shown, show_of};
 ghost use Rattle.canonical.specs.Showing.{names_from, pin_bytes, line_of_rule};
@@ -19,7 +20,7 @@ ghost use Rattle.canonical.specs.Showing.{names_from, pin_bytes, line_of_rule};
 use ack::layout::{put_component, put_name};
 use ack::output::Output;
 use booktext::cell::spot_number;
-use booktext::told::{Told, tell};
+use booktext::told::{Row, Told};
 use grade::book::{Unusable, index_book, site_at};
 use grade::limits::{RULE_LIMIT, SECTION_LIMIT};
 use grade::lookup::{rule_at, sets_of};
@@ -294,24 +295,24 @@ fn put_shown(out: &mut [u8], book: &[u8], starts: &[usize]) -> usize
 // The text into a lent output. It is written onto no byte first, which tells its length.
 fn write_shown(book: &[u8], starts: &[usize], output: &mut [u8]) -> Told
     requires { (all (stands_at book.now) starts.now ≡ true) × (decoded book.now ≡ map (contents_at book.now) starts.now) × (malformed book.now ≡ false) × (other_version book.now ≡ false) }
-    ensures { (result ≡ (written (shown (decoded book.now)) output.old).told) × (output.new ≡ (written (shown (decoded book.now)) output.old).output) }
+    ensures { (told_of result ≡ (written (shown (decoded book.now)) output.old).told) × (output.new ≡ (written (shown (decoded book.now)) output.old).output) }
 {
     let size = put_shown(&mut output[..0], book, starts);
     if output.len() < size {
-        return tell(55, size, 0);
+        return Err(Row::ShortOutput.with(size));
     }
     put_shown(output, book, starts);
-    tell(0, size, 0)
+    Ok(size)
 }
 
 // The canonical text of a book, into a lent output: all of it, or nothing.
 pub fn show(book: &[u8], output: &mut [u8]) -> Told
-    ensures { (result ≡ (show_of book.now output.old).told) × (output.new ≡ (show_of book.now output.old).output) }
+    ensures { (told_of result ≡ (show_of book.now output.old).told) × (output.new ≡ (show_of book.now output.old).output) }
 {
     let mut starts = [0usize; SECTION_LIMIT];
     match index_book(book, &mut starts) {
         Ok(count) => write_shown(book, &starts[..count], output),
-        Err(Unusable::Malformed) => tell(7, 0, 0),
-        Err(Unusable::OtherVersion) => tell(8, 0, 0),
+        Err(Unusable::Malformed) => Err(Row::Malformed.with(0)),
+        Err(Unusable::OtherVersion) => Err(Row::OtherVersion.with(0)),
     }
 }

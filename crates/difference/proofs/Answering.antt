@@ -13,9 +13,8 @@ use Rattle.grade.specs.Standing.{contents_at, Indexes}
 use Rattle.grade.proofs.Encoded.{Bytes}
 use Rattle.ack.specs.Splice.{Wrote, limit}
 use Rattle.ack.proofs.Writing.{wrote_as}
-use Rattle.booktext.specs.Faults.{tell, nothing, firstly}
+use Rattle.booktext.specs.Faults.{Told, tell, nothing, firstly}
 use Rattle.booktext.specs.Refusals.{Outcome, outcome, unless_refused, written}
-use Rattle.booktext.specs.declared.told.Told.{Told}
 use Rattle.booktext.proofs.Answering.{measured_short, measured_done}
 use Rattle.canonical.specs.Shown.{printed}
 use Rattle.canonical.proofs.PutBook.{book-listed}

@@ -24,8 +24,7 @@ use Rattle.grade.proofs.Encoded.{Bytes, encoded}
 use Rattle.ack.specs.Decimal.{decimal}
 use Rattle.ack.specs.Layout.{joined, marked}
 use Rattle.ack.proofs.Decimals.{decimal-short}
-use Rattle.booktext.specs.Faults.{tell, nothing, firstly}
-use Rattle.booktext.specs.declared.told.Told.{Told}
+use Rattle.booktext.specs.Faults.{Told, tell, nothing, firstly}
 use Rattle.booktext.proofs.Bounds.{SmallRow, a_row, small-nothing, small-cond, Packs, packs}
 use Rattle.canonical.specs.Shown.{printed, place_word, kind_word}
 use Rattle.canonical.proofs.Printing.{printed-line, printed-append}

@@ -16,9 +16,8 @@ use Rattle.grade.specs.Grading.{section_for, findings_by, grade_of}
 use Rattle.grade.specs.Header.{msh_of}
 use Rattle.grade.specs.declared.finding.Finding.{Finding}
 use Rattle.grade.proofs.Encoded.{Bytes}
-use Rattle.booktext.specs.Faults.{tell, firstly}
+use Rattle.booktext.specs.Faults.{Told, tell, firstly}
 use Rattle.booktext.specs.Refusals.{outcome, written}
-use Rattle.booktext.specs.declared.told.Told.{Told}
 use Rattle.canonical.specs.Shown.{printed}
 use Rattle.canonical.proofs.Printing.{printed-line}
 use Rattle.canonical.proofs.Showable.{Fits, AllFit}

@@ -13,9 +13,8 @@ use Rattle.grade.specs.Strict.{keep, count_from}
 use Rattle.grade.specs.declared.rule.Kind.{Kind}
 use Rattle.grade.specs.declared.rule.Rule.{Rule}
 use Rattle.ack.specs.Decimal.{decimal}
-use Rattle.booktext.specs.Faults.{tell, nothing, firstly}
+use Rattle.booktext.specs.Faults.{Told, tell, nothing, firstly}
 use Rattle.booktext.specs.Refusals.{Outcome, unless_refused}
-use Rattle.booktext.specs.declared.told.Told.{Told}
 use Rattle.canonical.specs.Shown.{printed, place_word, kind_word, rule_spot}
 
 -- a line is a list of words

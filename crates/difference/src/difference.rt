@@ -7,6 +7,7 @@ ghost use Rattle.hl7.specs.Bytes.{all};
 ghost use Rattle.grade.specs.Standing.{text_at, stands_at, contents_at};
 ghost use Rattle.ack.specs.Splice.{Wrote};
 ghost use Rattle.ack.specs.Output.{Adds};
+ghost use Rattle.booktext.specs.Faults.{told_of};
 ghost use Rattle.canonical.specs.Shown.{line_bytes, printed};
 ghost use Rattle.difference.specs.Difference.{old_section, new_section, differences, diff_of};
 ghost use Rattle.difference.specs.Ruled.{key_place, Opened};
@@ -14,7 +15,7 @@ ghost use Rattle.difference.specs.Ruled.{key_place, Opened};
 use crate::section::put_both;
 use crate::side::Side;
 use ack::output::Output;
-use booktext::told::{Told, tell};
+use booktext::told::{Row, Told};
 use grade::book::{Unusable, index_book};
 use grade::limits::SECTION_LIMIT;
 use grade::walk::text_part;
@@ -112,37 +113,37 @@ fn write_differences(
     output: &mut [u8],
 ) -> Told
     requires { Opened old.now olds.now × Opened new.now news.now }
-    ensures { (result ≡ (diff_of old.now new.now output.old).told) × (output.new ≡ (diff_of old.now new.now output.old).output) }
+    ensures { (told_of result ≡ (diff_of old.now new.now output.old).told) × (output.new ≡ (diff_of old.now new.now output.old).output) }
 {
     let size = put_differences(&mut output[..0], old, olds, new, news);
     if output.len() < size {
-        return tell(55, size, 0);
+        return Err(Row::ShortOutput.with(size));
     }
     put_differences(output, old, olds, new, news);
-    tell(0, size, 0)
+    Ok(size)
 }
 
 // The second book too has to be one that can be used.
 fn compare(old: &[u8], olds: &[usize], new: &[u8], output: &mut [u8]) -> Told
     requires { Opened old.now olds.now }
-    ensures { (result ≡ (diff_of old.now new.now output.old).told) × (output.new ≡ (diff_of old.now new.now output.old).output) }
+    ensures { (told_of result ≡ (diff_of old.now new.now output.old).told) × (output.new ≡ (diff_of old.now new.now output.old).output) }
 {
     let mut starts = [0usize; SECTION_LIMIT];
     match index_book(new, &mut starts) {
         Ok(count) => write_differences(old, olds, new, &starts[..count], output),
-        Err(Unusable::Malformed) => tell(7, 2, 0),
-        Err(Unusable::OtherVersion) => tell(8, 2, 0),
+        Err(Unusable::Malformed) => Err(Row::Malformed.with(2)),
+        Err(Unusable::OtherVersion) => Err(Row::OtherVersion.with(2)),
     }
 }
 
 // What differs between two books, into a lent output: all of it, or nothing.
 pub fn difference(old: &[u8], new: &[u8], output: &mut [u8]) -> Told
-    ensures { (result ≡ (diff_of old.now new.now output.old).told) × (output.new ≡ (diff_of old.now new.now output.old).output) }
+    ensures { (told_of result ≡ (diff_of old.now new.now output.old).told) × (output.new ≡ (diff_of old.now new.now output.old).output) }
 {
     let mut starts = [0usize; SECTION_LIMIT];
     match index_book(old, &mut starts) {
         Ok(count) => compare(old, &starts[..count], new, output),
-        Err(Unusable::Malformed) => tell(7, 1, 0),
-        Err(Unusable::OtherVersion) => tell(8, 1, 0),
+        Err(Unusable::Malformed) => Err(Row::Malformed.with(1)),
+        Err(Unusable::OtherVersion) => Err(Row::OtherVersion.with(1)),
     }
 }

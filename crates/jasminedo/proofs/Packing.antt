@@ -21,7 +21,7 @@ use Rattle.ack.proofs.YesOrNo.{lamp_bounded}
 use Rattle.batchfile.specs.Batch.{batch_of}
 use Rattle.batchfile.proofs.Bounds.{batch_bounded}
 use Rattle.booktext.specs.Refusals.{Outcome as BookOutcome, compile_of}
-use Rattle.booktext.specs.declared.told.Told.{Told as BookTold}
+use Rattle.booktext.specs.Faults.{Told as BookTold}
 use Rattle.booktext.proofs.Bounds.{Packs, is_length, compile_packs}
 use Rattle.canonical.specs.Shown.{show_of}
 use Rattle.canonical.proofs.Bounds.{show_packs}

@@ -3,7 +3,7 @@ use Rattle.std.specs.Prelude.{ℕ, ◌+◌, ◌-◌, ◌*◌, length}
 use Rattle.hl7.specs.Cut.{Piece}
 use Rattle.hl7.specs.Refusals.{Told}
 use Rattle.hl7.specs.declared.cut.Span.{Span}
-use Rattle.booktext.specs.declared.told.Told.{Told as BookTold}
+use Rattle.booktext.specs.Faults.{Told as BookTold}
 
 -- the number in the low byte, the detail above
 abbrev pub packed : Told → ℕ

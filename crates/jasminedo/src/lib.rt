@@ -9,6 +9,7 @@ ghost use Rattle.grade.specs.Table.{grade_into};
 ghost use Rattle.ack.specs.Records.{write_from};
 ghost use Rattle.ack.specs.Lamp.{lamp_of};
 ghost use Rattle.batchfile.specs.Batch.{batch_of};
+ghost use Rattle.booktext.specs.Faults.{told_of};
 ghost use Rattle.booktext.specs.Refusals.{compile_of};
 ghost use Rattle.canonical.specs.Shown.{show_of};
 ghost use Rattle.difference.specs.Difference.{diff_of};
@@ -44,10 +45,17 @@ fn pack(answer: Answer) -> u64
 
 // The number in the low byte, the detail above, and above four bytes of it the section's line, which a length never has.
 fn pack_told(told: Told) -> u64
-    requires { (told.number ≤ 56) × (told.detail ≤ 2 ^ 48) × (told.section ≤ 1048577) }
-    ensures { result ≡ packed_told told }
+    requires { ((told_of told).number ≤ 56) × ((told_of told).detail ≤ 2 ^ 48) × ((told_of told).section ≤ 1048577) }
+    ensures { result ≡ packed_told (told_of told) }
 {
-    (told.section as u64) * 1099511627776 + (told.detail as u64) * 256 + (told.number as u64)
+    match told {
+        Ok(size) => (size as u64) * 256,
+        Err(fault) => {
+            (fault.section as u64) * 1099511627776
+                + (fault.detail as u64) * 256
+                + (fault.row.number() as u64)
+        }
+    }
 }
 
 // The length in the low two bytes, the start above.

@@ -5,7 +5,7 @@ use Prim.Native.Nat.{ℕ}
 use native.Mathlib.Omega.{arith}
 use Rattle.booktext.specs.Refusals.{refusal, written}
 use Rattle.booktext.specs.Standing.{MakesBy}
-use Rattle.booktext.specs.declared.told.Told.{Told}
+use Rattle.booktext.specs.Faults.{Told}
 use Rattle.booktext.proofs.Bounds.{Packs, packs, refusal-row}
 use Rattle.booktext.proofs.Compiling.{refused_as, answered_as}
 use Rattle.legend.specs.Legend.{legend, legend_of}

@@ -6,6 +6,7 @@ ghost use Rattle.ack.specs.Layout.{marked};
 ghost use Rattle.booktext.specs.Lines.{statements, makes_rule, says, text_limit, a_section};
 ghost use Rattle.booktext.specs.Meaning.{expand};
 ghost use Rattle.booktext.specs.Changes.{amended};
+ghost use Rattle.booktext.specs.Faults.{told_of};
 ghost use Rattle.booktext.specs.Refusals.{statement_limit, refusal, written};
 ghost use Rattle.booktext.specs.Standing.{words_from, statement_at, next_line, left, body_from, noted, no_cell, Marked, Marks, Heads};
 ghost use Rattle.legend.specs.Legend.{remark, remark_of, later_remarks, rule_legend, stays, line_of_rule, rules_legend, section_legend, legend, legend_of};
@@ -21,7 +22,7 @@ use booktext::line::{next_word, part, word_of};
 use booktext::rules::letter_of;
 use booktext::section::{STATEMENT_LIMIT, note_section};
 use booktext::statement::{next_line, next_statement, verb_at};
-use booktext::told::{Told, tell};
+use booktext::told::{Row, Told};
 use booktext::word::{BOUND, SECTION, SEVERITY, is_rule};
 use grade::limits::BOOK_LIMIT;
 use hl7::bytes::pick;
@@ -225,27 +226,23 @@ fn put_legend(out: &mut [u8], t: &[u8], heads: &[usize], rest: usize) -> usize
 // It is written onto no byte first, which tells its length.
 fn write_legend(t: &[u8], heads: &[usize], rest: usize, output: &mut [u8]) -> Told
     requires { Heads t.now heads.now rest × ((refusal t.now).number ≡ 0) }
-    ensures { (result ≡ (written (legend t.now) output.old).told) × (output.new ≡ (written (legend t.now) output.old).output) }
+    ensures { (told_of result ≡ (written (legend t.now) output.old).told) × (output.new ≡ (written (legend t.now) output.old).output) }
 {
     let size = put_legend(&mut output[..0], t, heads, rest);
     if output.len() < size {
-        return tell(55, size, 0);
+        return Err(Row::ShortOutput.with(size));
     }
     put_legend(output, t, heads, rest);
-    tell(0, size, 0)
+    Ok(size)
 }
 
 // The legend of a text, into a lent output: all of it, or nothing.
 pub fn legend(text: &[u8], output: &mut [u8]) -> Told
-    ensures { (result ≡ (legend_of text.now output.old).told) × (output.new ≡ (legend_of text.now output.old).output) }
+    ensures { (told_of result ≡ (legend_of text.now output.old).told) × (output.new ≡ (legend_of text.now output.old).output) }
 {
     let mut place = [0u8; BOOK_LIMIT];
-    let made = make(text, &mut place);
-    if made.number != 0 {
-        return made;
-    }
+    make(text, &mut place)?;
     let mut heads = [0usize; HEAD_LIMIT];
     let noted = note_heads(text, &mut heads);
-    let count = noted.count;
-    write_legend(text, &heads[..count], noted.rest, output)
+    write_legend(text, &heads[..noted.count], noted.rest, output)
 }

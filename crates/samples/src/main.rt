@@ -184,11 +184,15 @@ fn print_made<F: FnOnce(&mut [u8]) -> Told>(
     if out.len() < length {
         return Err(Fault::BadPack);
     }
-    let told = make(&mut out[..length]);
-    println!(rt; "{} {} {}", told.number, told.detail, told.section)?;
-    if told.number == 0 {
-        rt.write_all(front(out, told.detail))?;
-        rt.write_all(b"\n")?;
+    match make(&mut out[..length]) {
+        Ok(size) => {
+            println!(rt; "0 {} 0", size)?;
+            rt.write_all(front(out, size))?;
+            rt.write_all(b"\n")?;
+        }
+        Err(fault) => {
+            println!(rt; "{} {} {}", fault.row.number(), fault.detail, fault.section)?;
+        }
     }
     Ok(())
 }

@@ -7,4 +7,4 @@ use Rattle.book.proofs.reply.put_refused.Goals as goal
 
 pub returns : goal.returns
 unfolding refused_text
-returns c = wrote_lent (c.put.ensures next c.put_number.ensures next c.put_line.ensures next c.put_line-2.ensures next c.put-2.ensures next c.put_words.ensures next c.put_byte.ensures) (omega arith) (omega arith) (search rules)
+returns c = wrote_lent (c.put.ensures next (rw c.number.ensures at c.put_number.ensures) next c.put_line.ensures next c.put_line-2.ensures next c.put-2.ensures next c.put_words.ensures next c.put_byte.ensures) (omega arith) (omega arith) (search rules)

@@ -3,10 +3,8 @@ use Rattle.ack.proofs.Writing.{wrote_as}
 use Rattle.book.proofs.Replying.{told-compiled, told-refused}
 use Rattle.book.proofs.reply.put_told.Goals as goal
 
-pub returns-then-told-eq0 : goal.returns-then-told-eq0
-returns-then-told-eq0 c =
-    wrote_as c.put_counts.ensures
-    (told-compiled _ _ c.if-told-eq0.true c.front.ensures c.counts_of-counts.ensures)
+pub returns-in-Ok : goal.returns-in-Ok
+returns-in-Ok c = rw c.in-Ok.is (wrote_as c.put_counts.ensures (told-compiled _ _ c.front.ensures c.counts_of-counts.ensures))
 
-pub returns : goal.returns
-returns c = wrote_as c.put_source_refused.ensures (told-refused _ _ c.if-told-eq0.false)
+pub returns-in-Err : goal.returns-in-Err
+returns-in-Err c = rw c.in-Err.is (wrote_as c.put_source_refused.ensures (told-refused _ _))

@@ -1,18 +1,20 @@
 -- `booktext::compile::make` meets its contract. Assumes nothing.
-use mathlib.Core.Path.{sym}
+use mathlib.Core.Path.{refl, sym}
 use lib.Seq.{length-take-le}
+use Rattle.booktext.proofs.Telling.{row-some, handed-as}
 use Rattle.booktext.proofs.Compiling.{bytes-refused, words-refused, text-short, text-sound, text-made}
 use Rattle.booktext.proofs.compile.make.Goals as goal
 
-pub returns-then-bytes-ne0 : goal.returns-then-bytes-ne0
-returns-then-bytes-ne0 c =
-    let a = c.args in
-    bytes-refused a.t.now c.bytes_told-bytes.ensures a.place.now c.if-bytes-ne0.true
+pub returns-in_err-bytes_told : goal.returns-in_err-bytes_told
+returns-in_err-bytes_told c =
+    let f = c.in_err-bytes_told.field-0.0 in
+    rw (handed-as f c.from_residual.result c.from_residual.ensures.1) (bytes-refused c.args.t.now c.in_err-bytes_told.ensures c.args.place.now (row-some f.row))
 
-pub returns-then-fault-ne0 : goal.returns-then-fault-ne0
-returns-then-fault-ne0 c =
-    let a = c.args in
-    words-refused a.t.now c.bytes_told-bytes.ensures c.if-bytes-ne0.false c.first_fault-fault.ensures a.place.now c.if-fault-ne0.true
+pub returns-in_err-first_fault : goal.returns-in_err-first_fault
+returns-in_err-first_fault c =
+    let f = c.in_err-first_fault.field-0.0 in
+    rw (handed-as f c.from_residual-in_err-first_fault.result c.from_residual-in_err-first_fault.ensures.1)
+    (words-refused c.args.t.now c.in_ok-bytes_told.ensures refl c.in_err-first_fault.ensures c.args.place.now (row-some f.row))
 
 pub slice_bounds-make_named-end : goal.slice_bounds-make_named-end
 slice_bounds-make_named-end c = sym (length-take-le _ _ c.note_heads-noted.ensures.0)
@@ -20,8 +22,7 @@ slice_bounds-make_named-end c = sym (length-take-le _ _ c.note_heads-noted.ensur
 pub make_named-requires : goal.make_named-requires
 make_named-requires c =
     let t = c.args.t.now in
-    let short = c.bytes_told-bytes.ensures in
-    (c.note_heads-noted.ensures.1, c.requires, text-short t short c.if-bytes-ne0.false, text-sound t short c.if-bytes-ne0.false c.first_fault-fault.ensures c.if-fault-ne0.false)
+    (c.note_heads-noted.ensures.1, c.requires, text-short t c.in_ok-bytes_told.ensures refl, text-sound t c.in_ok-bytes_told.ensures refl c.in_ok-first_fault.ensures refl)
 
 pub returns : goal.returns
-returns c = text-made c.args.t.now c.bytes_told-bytes.ensures c.if-bytes-ne0.false c.first_fault-fault.ensures c.if-fault-ne0.false c.make_named.ensures
+returns c = text-made c.args.t.now c.in_ok-bytes_told.ensures refl c.in_ok-first_fault.ensures refl c.make_named.ensures

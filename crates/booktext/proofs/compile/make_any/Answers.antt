@@ -11,4 +11,4 @@ pub returns-then-verb_at-eq-SECTION : goal.returns-then-verb_at-eq-SECTION
 returns-then-verb_at-eq-SECTION c = any_section (statement_at c.args.t.now c.args.line 0) c.verb_at.ensures.0 c.args.t.now (statements c.args.t.now) (left c.args.t.now (next_line c.args.t.now c.args.line)) c.if-verb_at-eq-SECTION.true c.make_section.ensures
 
 pub returns : goal.returns
-returns c = any_other (statement_at c.args.t.now c.args.line 0) c.verb_at.ensures.0 c.args.t.now (statements c.args.t.now) (left c.args.t.now (next_line c.args.t.now c.args.line)) c.if-verb_at-eq-SECTION.false c.nothing.ensures c.put.ensures c.refused.ensures
+returns c = any_other (statement_at c.args.t.now c.args.line 0) c.verb_at.ensures.0 c.args.t.now (statements c.args.t.now) (left c.args.t.now (next_line c.args.t.now c.args.line)) c.if-verb_at-eq-SECTION.false c.put.ensures

@@ -12,8 +12,8 @@ put_text-second-requires c = omega (arith, ap length c.word_of.ensures, c.requir
 pub put_two-third-requires : goal.put_two-third-requires
 put_two-third-requires c = c.requires.3
 
-pub overflow_cast-count : goal.overflow_cast-count
-overflow_cast-count c = omega (arith, c.requires.0)
+pub overflow_cast-names : goal.overflow_cast-names
+overflow_cast-names c = omega (arith, c.requires.0)
 
 pub put_rules-requires : goal.put_rules-requires
 put_rules-requires c =

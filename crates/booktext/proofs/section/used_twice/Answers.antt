@@ -15,7 +15,7 @@ loop-at-init c =
 pub returns-then-is_repeated : goal.returns-then-is_repeated
 returns-then-is_repeated c =
     let a = c.args in
-    twice_here a.t.now a.head a.start c.loop-at.at c.loop-at.invariant c.loop-at-test.true c.is_repeated.ensures c.if-is_repeated.true c.tell.ensures c.line_of.ensures c.line_of-then-is_repeated.ensures
+    twice_here a.t.now a.head a.start c.loop-at.at c.loop-at.invariant c.loop-at-test.true c.is_repeated.ensures c.if-is_repeated.true c.in_section.ensures c.line_of.ensures c.line_of-then-is_repeated.ensures
 
 pub loop-at-smaller : goal.loop-at-smaller
 loop-at-smaller c =
@@ -30,4 +30,4 @@ loop-at-preserved c =
 pub returns : goal.returns
 returns c =
     let a = c.args in
-    twice_over a.t.now a.head a.start c.loop-at.at c.loop-at.invariant c.loop-at-test.false c.nothing.ensures
+    twice_over a.t.now a.head a.start c.loop-at.at c.loop-at.invariant c.loop-at-test.false

@@ -11,7 +11,7 @@ put_held-count-requires c =
 pub returns-then-count : goal.returns-then-count
 returns-then-count c =
     let entry = c.args in
-    set_wrong entry.t.now entry.name.now (map (noted entry.t.now) entry.cells.now) entry.out.now c.put_held-count.ensures c.seek_head-line.ensures entry.head c.if-count.true entry.at c.found_at.ensures c.line_of.ensures c.line_of-then-count.ensures c.tell.ensures
+    set_wrong entry.t.now entry.name.now (map (noted entry.t.now) entry.cells.now) entry.out.now c.put_held-count.ensures c.seek_head-line.ensures entry.head c.if-count.true entry.at c.found_at.ensures c.line_of.ensures c.line_of-then-count.ensures c.in_section.ensures
 
 pub put_held-requires : goal.put_held-requires
 put_held-requires c =
@@ -20,7 +20,7 @@ put_held-requires c =
 pub returns : goal.returns
 returns c =
     let entry = c.args in
-    set_put entry.t.now entry.name.now (map (noted entry.t.now) entry.cells.now) entry.out.now c.put_held-count.ensures entry.head c.if-count.false c.nothing.ensures c.put_two-next.ensures c.put_held.ensures
+    set_put entry.t.now entry.name.now (map (noted entry.t.now) entry.cells.now) entry.out.now c.put_held-count.ensures entry.head c.if-count.false c.put_two-next.ensures c.put_held.ensures
 
 pub shape_of-out-then-count : goal.shape_of-out-then-count
 shape_of-out-then-count c = (returns-then-count c).length

@@ -19,7 +19,7 @@ pub returns-in-Ok : goal.returns-in-Ok
 returns-in-Ok c = show_written _ _ c.index_book.ensures c.in-Ok.is c.args.output.now c.write_shown.ensures
 
 pub returns-in-Err-Malformed : goal.returns-in-Err-Malformed
-returns-in-Err-Malformed c = show_refused _ _ c.index_book.ensures c.args.output.now (rw c.in-Err-Malformed.field-0-is at c.in-Err-Malformed.is) (λ e. omega (arith, e)) c.tell.ensures
+returns-in-Err-Malformed c = show_refused _ _ c.index_book.ensures c.args.output.now (rw c.in-Err-Malformed.field-0-is at c.in-Err-Malformed.is) (λ e. omega (arith, e)) c.with.ensures
 
 pub returns-in-Err-OtherVersion : goal.returns-in-Err-OtherVersion
-returns-in-Err-OtherVersion c = show_refused _ _ c.index_book.ensures c.args.output.now (rw c.in-Err-OtherVersion.field-0-is at c.in-Err-OtherVersion.is) (λ e. omega (arith, e)) c.tell-in-Err-OtherVersion.ensures
+returns-in-Err-OtherVersion c = show_refused _ _ c.index_book.ensures c.args.output.now (rw c.in-Err-OtherVersion.field-0-is at c.in-Err-OtherVersion.is) (λ e. omega (arith, e)) c.with-in-Err-OtherVersion.ensures

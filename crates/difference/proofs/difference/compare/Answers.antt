@@ -16,7 +16,7 @@ pub write_differences-requires : goal.write_differences-requires
 write_differences-requires c = (c.requires, opened _ _ c.index_book.ensures c.in-Ok.is)
 
 pub returns-in-Err-Malformed : goal.returns-in-Err-Malformed
-returns-in-Err-Malformed c = new_refused c.args.old.now c.args.olds.now c.requires c.args.new.now _ c.args.output.now c.index_book.ensures (rw c.in-Err-Malformed.field-0-is at c.in-Err-Malformed.is) (λ e. omega (arith, e)) c.tell.ensures
+returns-in-Err-Malformed c = new_refused c.args.old.now c.args.olds.now c.requires c.args.new.now _ c.args.output.now c.index_book.ensures (rw c.in-Err-Malformed.field-0-is at c.in-Err-Malformed.is) (λ e. omega (arith, e)) c.with.ensures
 
 pub returns-in-Err-OtherVersion : goal.returns-in-Err-OtherVersion
-returns-in-Err-OtherVersion c = new_refused c.args.old.now c.args.olds.now c.requires c.args.new.now _ c.args.output.now c.index_book.ensures (rw c.in-Err-OtherVersion.field-0-is at c.in-Err-OtherVersion.is) (λ e. omega (arith, e)) c.tell-in-Err-OtherVersion.ensures
+returns-in-Err-OtherVersion c = new_refused c.args.old.now c.args.olds.now c.requires c.args.new.now _ c.args.output.now c.index_book.ensures (rw c.in-Err-OtherVersion.field-0-is at c.in-Err-OtherVersion.is) (λ e. omega (arith, e)) c.with-in-Err-OtherVersion.ensures

@@ -16,7 +16,7 @@ pub compare-requires : goal.compare-requires
 compare-requires c = opened _ _ c.index_book.ensures c.in-Ok.is
 
 pub returns-in-Err-Malformed : goal.returns-in-Err-Malformed
-returns-in-Err-Malformed c = old_refused c.args.old.now _ c.args.new.now c.args.output.now c.index_book.ensures (rw c.in-Err-Malformed.field-0-is at c.in-Err-Malformed.is) (λ e. omega (arith, e)) c.tell.ensures
+returns-in-Err-Malformed c = old_refused c.args.old.now _ c.args.new.now c.args.output.now c.index_book.ensures (rw c.in-Err-Malformed.field-0-is at c.in-Err-Malformed.is) (λ e. omega (arith, e)) c.with.ensures
 
 pub returns-in-Err-OtherVersion : goal.returns-in-Err-OtherVersion
-returns-in-Err-OtherVersion c = old_refused c.args.old.now _ c.args.new.now c.args.output.now c.index_book.ensures (rw c.in-Err-OtherVersion.field-0-is at c.in-Err-OtherVersion.is) (λ e. omega (arith, e)) c.tell-in-Err-OtherVersion.ensures
+returns-in-Err-OtherVersion c = old_refused c.args.old.now _ c.args.new.now c.args.output.now c.index_book.ensures (rw c.in-Err-OtherVersion.field-0-is at c.in-Err-OtherVersion.is) (λ e. omega (arith, e)) c.with-in-Err-OtherVersion.ensures

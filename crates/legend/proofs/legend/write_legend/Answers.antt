@@ -1,4 +1,5 @@
 -- `legend::legend::write_legend` meets its contract. Assumes nothing.
+use mathlib.Core.Path.{refl}
 use native.Mathlib.Omega.{arith}
 use Rattle.booktext.proofs.Answering.{measured_short, measured_done}
 use Rattle.legend.specs.Legend.{legend}
@@ -12,7 +13,7 @@ pub returns-then-output-size : goal.returns-then-output-size
 returns-then-output-size c =
     let t = c.args.t.now in
     let short = legend-short t c.requires.1 in
-    measured_short (legend t) (omega (arith, short)) c.args.output.now c.put_legend-size.ensures c.if-output-size.true c.tell.ensures
+    measured_short (legend t) (omega (arith, short)) c.args.output.now c.put_legend-size.ensures c.if-output-size.true c.with.ensures
 
 pub put_legend-requires : goal.put_legend-requires
 put_legend-requires c = (c.requires.0, text_fits_lem c.args.t.now c.requires.1, text-roomy c.args.t.now c.requires.1)
@@ -21,4 +22,4 @@ pub returns : goal.returns
 returns c =
     let t = c.args.t.now in
     let short = legend-short t c.requires.1 in
-    measured_done (legend t) (omega (arith, short)) c.args.output.now c.put_legend-size.ensures c.if-output-size.false c.tell-2.ensures c.put_legend.ensures
+    measured_done (legend t) (omega (arith, short)) c.args.output.now c.put_legend-size.ensures c.if-output-size.false refl c.put_legend.ensures
