@@ -22,7 +22,7 @@ use Rattle.booktext.specs.Changes.{settled}
 use Rattle.booktext.specs.Contents.{rules_of, names_of, held, contents_of, section_of}
 use Rattle.booktext.specs.Faults.{Told, tell, nothing, firstly, key_right}
 use Rattle.booktext.specs.Refusals.{at_of, statement_limit, used_twice, first_rule_fault, first_stray, first_bad_set, over, sizes_told, section_told}
-use Rattle.booktext.specs.Standing.{words_from, span_bytes, statement_at, next_line, left, body_from, sound, ready, noted, Holds, CountsRules, names_in, Names64, told_in, end_in, Puts}
+use Rattle.booktext.specs.Standing.{words_from, span_bytes, statement_at, next_line, left, body_from, sound, ready, noted, Holds, CountsRules, names_in, told_in, end_in, Puts}
 use Rattle.booktext.specs.declared.cell.Cell.{Cell}
 use Rattle.booktext.specs.declared.names.Names.{Names}
 use Rattle.booktext.specs.declared.told.Fault.{Fault}
@@ -97,7 +97,7 @@ module _ (t : List ℕ) (head : ℕ) (ss : List Statement) (at : ℕ) where
     pub rules_many : {o : List ℕ} {r : Result ℕ Fault} → rule_limit < rules → told_in r ≡ tell 50 (line_of t head) (line_of t head) → Made o o r
     rules_many h e = puts_first (over-told 50 (line_of t head) rule_limit (length section.rules) (omega (arith, rules-held, h))) _ (λ z. absurd (omega (arith, z))) e refl
 
-    module _ (few : rules ≤ rule_limit) {names : Names} (n : Names64 t names (names_of (settled ss))) where
+    module _ (few : rules ≤ rule_limit) where
       few_rules_lem : nothing ≡ over 50 (line_of t head) (ltb rule_limit (length section.rules))
       few_rules_lem = over-not 50 (line_of t head) rule_limit (length section.rules) (omega (arith, rules-held, few))
 
@@ -105,23 +105,23 @@ module _ (t : List ℕ) (head : ℕ) (ss : List Statement) (at : ℕ) where
       unfolding contents_of
       sets-held = length-map (names_of (settled ss)) (held (statements t) ss)
 
-      pub sets_many : {o : List ℕ} {r : Result ℕ Fault} → set_limit < names.count → told_in r ≡ tell 51 (line_of t head) (line_of t head) → Made o o r
+      pub sets_many : {o : List ℕ} {r : Result ℕ Fault} → set_limit < length (names_of (settled ss)) → told_in r ≡ tell 51 (line_of t head) (line_of t head) → Made o o r
       sets_many h e =
           puts_next few_rules_lem refl
-          (puts_first (over-told 51 (line_of t head) set_limit (length section.sets) (omega (arith, sets-held, n.over h))) _ (λ z. absurd (omega (arith, z))) e refl)
+          (puts_first (over-told 51 (line_of t head) set_limit (length section.sets) (omega (arith, sets-held, h))) _ (λ z. absurd (omega (arith, z))) e refl)
 
-      module _ (short : names.count ≤ set_limit) where
+      module _ (names : Names) (n : names_in t names ≡ names_of (settled ss)) (room : length names.spans ≡ 64) where
         names-held : names.count ≡ length section.sets
         unfolding names_in
         names-held =
-            omega (arith, sets-held, ap length (n.exact short), length-map (take names.count names.spans) (span_bytes t), length-take names.count names.spans, n.room)
+            omega (arith, sets-held, ap length n, length-map (take names.count names.spans) (span_bytes t), length-take names.count names.spans, room, names.few)
 
         few_sets_lem : nothing ≡ over 51 (line_of t head) (ltb set_limit (length section.sets))
-        few_sets_lem = over-not 51 (line_of t head) set_limit (length section.sets) (omega (arith, names-held, short))
+        few_sets_lem = over-not 51 (line_of t head) set_limit (length section.sets) (omega (arith, names-held, names.few))
 
         module _ {stray : Told} (strayed : stray ≡ first_stray t (line_of t head) (names_in t names) ss) where
           told_stray : stray ≡ first_stray t (line_of t head) (names_of (settled ss)) ss
-          told_stray = strayed ∙ ap (λ (names : List (List ℕ)). first_stray t (line_of t head) names ss) (n.exact short)
+          told_stray = strayed ∙ ap (λ (names : List (List ℕ)). first_stray t (line_of t head) names ss) n
 
           -- a set is changed that it does not hold
           pub set_stray : {o : List ℕ} {r : Result ℕ Fault} → (stray.number ≡ 0 → ⊥) → told_in r ≡ stray → Made o o r
@@ -131,7 +131,7 @@ module _ (t : List ℕ) (head : ℕ) (ss : List Statement) (at : ℕ) where
               (front : Wrote o at (text_bytes key_of ++ (two_bytes_of rules ++ (names.count ∷ spell_all rule_bytes (rules_of (names_in t names) (settled ss))))) p next)
               (put : Puts (first_bad_set t (line_of t head) (statements t) ss (names_in t names)) (spell_all set_bytes (map (held (statements t) ss) (names_in t names))) p next q sets) where
             told_bad : told_in sets ≡ first_bad_set t (line_of t head) (statements t) ss (names_of (settled ss))
-            told_bad = put.tells ∙ ap (first_bad_set t (line_of t head) (statements t) ss) (n.exact short)
+            told_bad = put.tells ∙ ap (first_bad_set t (line_of t head) (statements t) ss) n
 
             same_size : length q ≡ length o
             same_size = put.length ∙ wrote-length front
@@ -150,7 +150,7 @@ module _ (t : List ℕ) (head : ℕ) (ss : List Statement) (at : ℕ) where
               unfolding contents_of
               spelt =
                   append_assoc (text_bytes key_of) (two_bytes_of rules ++ (names.count ∷ spell_all rule_bytes (rules_of (names_in t names) (settled ss)))) (spell_all set_bytes (map (held (statements t) ss) (names_in t names)))
-                  ∙ rw (n.exact short, names-held, rules-held)
+                  ∙ rw (n, names-held, rules-held)
 
               whole : Wrote o at (section_bytes section) q (end_in sets)
               whole = wrote_as (front then put.wrote right) spelt
@@ -197,8 +197,8 @@ module _ (t : List ℕ) (lasting cells : List Cell) (e : map (noted t) lasting �
   pub lasting_rules : (n : ℕ) → CountsRules (map (noted t) lasting) n → CountsRules (settled ss) n
   lasting_rules n c = subst (λ (l : List Statement). CountsRules l n) e c
 
-  pub lasting_names : (names : Names) → Names64 t names (names_of (map (noted t) lasting)) → Names64 t names (names_of (settled ss))
-  lasting_names names n = subst (λ (l : List Statement). Names64 t names (names_of l)) e n
+  pub lasting_names : names_of (map (noted t) lasting) ≡ names_of (settled ss)
+  lasting_names = ap names_of e
 
   pub lasting_ready : each ready ss ≡ true → each ready (map (noted t) lasting) ≡ true
   lasting_ready h = ap (each ready) e ∙ settled-ready ss h

@@ -4,10 +4,9 @@ use mathlib.Core.Bool.{Bool, true, false, cond, not, ◌||◌, true≢false}
 use mathlib.Core.List.{List, [], ◌∷◌, ◌++◌, map, map-append, append-nil}
 use Prim.Native.Nat.{ℕ, suc, ◌+◌, ◌≤◌, ◌<◌}
 use native.Mathlib.Omega.{arith}
-use native.Mathlib.Decide.{dec_lt}
 use native.Mathlib.Numerals.{add-one}
 use lib.Dec.{eqb}
-use lib.ListN.{length, get_or, take, drop, set, replicate, length-take, length-set, length-append, length-map, length-replicate, drop_of_length-le}
+use lib.ListN.{length, get_or, take, drop, set, length-take, length-append, length-map, drop_of_length-le}
 use lib.Seq.{drop-cons, get_or-take, get_or-drop, take-suc-set}
 use borrow.Author.Tests.{eq-eqb, ne_eqb, eqb-true}
 use Rattle.hl7.specs.Bytes.{same, among}
@@ -16,10 +15,10 @@ use Rattle.hl7.proofs.Comparing.{and_both}
 use Rattle.booktext.specs.Lines.{Statement, word, verb, says, of_rule, makes_rule, number_from, some_sets}
 use Rattle.booktext.specs.Words.{kind_number, a_code_kind}
 use Rattle.booktext.specs.Contents.{with_name, with_names, pinned, asks_code, named, names_of}
-use Rattle.booktext.specs.Standing.{no_span, span_bytes, words_from, statement_at, noted, no_cell, names_in, NextWord, Names64, NamesMore}
+use Rattle.booktext.specs.Standing.{no_span, span_bytes, words_from, statement_at, noted, no_cell, names_in, NextWord, NamesMore}
 use Rattle.booktext.specs.declared.names.Names.{Names}
 use Rattle.booktext.specs.declared.cell.Cell.{Cell}
-use Rattle.booktext.proofs.Marking.{noted_as, noted-verb, noted_other, cells_step, cells_done}
+use Rattle.booktext.proofs.Marking.{noted-verb, noted_other, cells_step, cells_done}
 
 -- ---- a name's number, in the words of a loop along the spans
 -- the names from number i on, of so many
@@ -87,99 +86,83 @@ with_append all [] ys = refl
 with_append all (x ∷ xs) ys = with_append (with_name all x) xs ys
 
 -- ---- one name more
-module _ (t : List ℕ) (names : Names) (name : Span) where
-  pub note_past : 64 < names.count → NamesMore t names names (span_bytes t name ∷ [])
-  note_past h all now =
-      record {
-        room = now.room;
-        exact = λ k. absurd (omega arith);
-        over = λ k. omega (arith, now.over k, with_longer all (span_bytes t name ∷ []));
-      }
+module _ (t : List ℕ) (names : Names) (name : Span) {n : ℕ} {w : List ℕ} (p : w ≡ span_bytes t name) (f : n ≡ number_from 1 w (names_in t names)) where
+  abbrev all : List (List ℕ)
+  all = names_in t names
 
-  module _ (few : names.count ≤ 64) {n : ℕ} {w : List ℕ} (p : w ≡ span_bytes t name) (f : n ≡ number_from 1 w (names_in t names)) where
-    with_is : (all : List (List ℕ)) → Names64 t names all → with_names all (span_bytes t name ∷ []) ≡ cond (not (eqb n 0)) all (all ++ (span_bytes t name ∷ []))
-    unfolding with_names
-    with_is all now =
-        ap (λ (b : Bool). cond b all (all ++ (span_bytes t name ∷ [])))
-        (ap₂ among (sym p) (sym (now.exact few)) ∙ number-among 0 w (names_in t names) ∙ ap (λ (k : ℕ). not (eqb k 0)) (sym f))
+  with_is : with_names all (span_bytes t name ∷ []) ≡ cond (not (eqb n 0)) all (all ++ (span_bytes t name ∷ []))
+  unfolding with_names
+  with_is =
+      ap (λ (b : Bool). cond b all (all ++ (span_bytes t name ∷ [])))
+      (ap (λ (x : List ℕ). among x all) (sym p) ∙ number-among 0 w all ∙ ap (λ (k : ℕ). not (eqb k 0)) (sym f))
 
-    pub note_old : (n ≡ 0 → ⊥) → NamesMore t names names (span_bytes t name ∷ [])
-    note_old k all now =
+  pub note_old : (n ≡ 0 → ⊥) → NamesMore t names true names (span_bytes t name ∷ [])
+  note_old k = record { noted = λ r. sym (with_is ∙ rw (ne_eqb n 0 k)); over = λ r. absurd (true≢false r) }
+
+  module _ (none : n ≡ 0) (room : length names.spans ≡ 64) where
+    with_new : with_names all (span_bytes t name ∷ []) ≡ all ++ (span_bytes t name ∷ [])
+    with_new = with_is ∙ rw (eq-eqb n 0 none)
+
+    pub note_full : 64 ≤ names.count → NamesMore t names false names (span_bytes t name ∷ [])
+    unfolding names_in
+    note_full h =
         record {
-          room = now.room;
-          exact = λ h. now.exact h ∙ sym (with_is all now ∙ rw (ne_eqb n 0 k));
-          over = λ h. absurd (omega arith);
+          noted = λ r. absurd (true≢false (sym r));
+          over = λ r.
+              omega (
+                arith,
+                ap length with_new,
+                length-append all (span_bytes t name ∷ []),
+                length-map (take names.count names.spans) (span_bytes t),
+                length-take names.count names.spans,
+                room,
+              );
         }
 
-    module _ (none : n ≡ 0) where
-      with_new : (all : List (List ℕ)) → Names64 t names all → with_names all (span_bytes t name ∷ []) ≡ all ++ (span_bytes t name ∷ [])
-      with_new all now = with_is all now ∙ rw (eq-eqb n 0 none)
-
-      pub note_full : 64 ≤ names.count → NamesMore t names (record { spans = names.spans; count = 65 }) (span_bytes t name ∷ [])
-      unfolding names_in
-      note_full h all now =
-          record {
-            room = now.room;
-            exact = λ k. absurd (omega arith);
-            over = λ k.
-                omega (
-                  arith,
-                  ap length (with_new all now),
-                  length-append all (span_bytes t name ∷ []),
-                  ap length (now.exact few),
-                  length-map (take names.count names.spans) (span_bytes t),
-                  length-take names.count names.spans,
-                  now.room,
-                );
-          }
-
-      pub note_new : names.count < 64 → NamesMore t names (record { spans = set names.spans names.count name; count = names.count + 1 }) (span_bytes t name ∷ [])
-      unfolding names_in
-      note_new h all now =
-          let full = now.room in
-          let one : take (names.count + 1) (set names.spans names.count name) ≡ take names.count names.spans ++ (name ∷ []) =
-          ap (λ (m : ℕ). take m (set names.spans names.count name)) (add-one names.count) ∙ take-suc-set names.spans names.count name (omega arith) in
-          record {
-            room = length-set names.spans names.count name ∙ full;
-            exact = λ k.
-                ap (map (span_bytes t)) one
-                ∙ map-append (span_bytes t) (take names.count names.spans) (name ∷ [])
-                ∙ ap (λ (l : List (List ℕ)). l ++ (span_bytes t name ∷ [])) (now.exact few)
-                ∙ sym (with_new all now);
-            over = λ k. absurd (omega arith);
-          }
+    pub note_new : names.count < 64 → (after : Names) → after.spans ≡ set names.spans names.count name → after.count ≡ names.count + 1 → NamesMore t names true after (span_bytes t name ∷ [])
+    unfolding names_in
+    note_new h after e k =
+        let one : take (names.count + 1) (set names.spans names.count name) ≡ take names.count names.spans ++ (name ∷ []) =
+        ap (λ (m : ℕ). take m (set names.spans names.count name)) (add-one names.count) ∙ take-suc-set names.spans names.count name (omega arith) in
+        record {
+          noted = λ r.
+              ap₂ (λ (m : ℕ) (spans : List Span). map (span_bytes t) (take m spans)) k e
+              ∙ ap (map (span_bytes t)) one
+              ∙ map-append (span_bytes t) (take names.count names.spans) (name ∷ [])
+              ∙ sym with_new;
+          over = λ r. absurd (true≢false r);
+        }
 
 -- ---- names noted one after the other
-more_as : (t : List ℕ) (names r : Names) {xs ys : List (List ℕ)} → xs ≡ ys → NamesMore t names r xs → NamesMore t names r ys
-more_as t names r e n = subst (λ (l : List (List ℕ)). NamesMore t names r l) e n
+more_as : (t : List ℕ) (names : Names) (r : Bool) (after : Names) {xs ys : List (List ℕ)} → xs ≡ ys → NamesMore t names r after xs → NamesMore t names r after ys
+more_as t names r after e n = subst (λ (l : List (List ℕ)). NamesMore t names r after l) e n
 
-more_none : (t : List ℕ) (names : Names) → NamesMore t names names []
+more_none : (t : List ℕ) (names : Names) {more : List (List ℕ)} → more ≡ [] → NamesMore t names true names more
 unfolding with_names
-more_none t names all now = now
+more_none t names e = record { noted = λ r. sym (ap (with_names (names_in t names)) e); over = λ r. absurd (true≢false r) }
 
--- whatever there are, there are some
-keeps_room : (t : List ℕ) (names r : Names) (more : List (List ℕ)) → length names.spans ≡ 64 → NamesMore t names r more → length r.spans ≡ 64
-keeps_room t names r more room n = by (dec_lt 64 names.count)
-  where
-    by : Dec (64 < names.count) → length r.spans ≡ 64
-    by (yes many) = (n (replicate 65 []) (record { room = room; exact = λ k. absurd (omega arith); over = λ k. omega (arith, length-replicate {A = List ℕ} 65 []) })).room
-    by (no few) = (n (names_in t names) (record { room = room; exact = λ k. refl; over = λ k. absurd (few k) })).room
+-- some of those that are left were noted, or there was no room for them
+module _ (t : List ℕ) {all more : List (List ℕ)} {names after : Names} {r : Bool} (passed : all ≡ with_names (names_in t names) more) (xs rest : List (List ℕ)) (e : more ≡ xs ++ rest) (n : NamesMore t names r after xs) where
+  names_are : all ≡ with_names (with_names (names_in t names) xs) rest
+  names_are = passed ∙ ap (with_names (names_in t names)) e ∙ with_append (names_in t names) xs rest
 
--- whoever notes the names left has come to the end
-pub record Leads (t : List ℕ) (names : Names) (more : List (List ℕ)) (End : Names → Type 0) : Type 0 where
-  pub room : length names.spans ≡ 64
-  pub ends : (r : Names) → NamesMore t names r more → End r
+  pub names_on : r ≡ true → all ≡ with_names (names_in t after) rest
+  names_on h = names_are ∙ ap (λ (l : List (List ℕ)). with_names l rest) (sym (n.noted h))
 
-module _ {t : List ℕ} {names : Names} {more : List (List ℕ)} {End : Names → Type 0} (l : Leads t names more End) where
-  pub leads_more : (xs : List (List ℕ)) {rest : List (List ℕ)} {next : Names} → more ≡ xs ++ rest → NamesMore t names next xs → Leads t next rest End
-  leads_more xs {rest} {next} e n =
-      record {
-        room = keeps_room t names next xs l.room n;
-        ends = λ r later. l.ends r (λ all now. subst (λ (m : List (List ℕ)). Names64 t r m) (sym (ap (with_names all) e ∙ with_append all xs rest)) (later (with_names all xs) (n all now)));
-      }
+  pub names_past : r ≡ false → 64 < length all
+  names_past h = omega (arith, ap length names_are, n.over h, with_longer (with_names (names_in t names) xs) rest)
 
-  pub leads_over : more ≡ [] → End names
-  leads_over e = l.ends names (more_as t names names (sym e) (more_none t names))
+pub names_done : (t : List ℕ) (names : Names) {all more : List (List ℕ)} → all ≡ with_names (names_in t names) more → more ≡ [] → names_in t names ≡ all
+unfolding with_names
+names_done t names passed e = sym (passed ∙ ap (with_names (names_in t names)) e)
+
+-- all were noted, or there was no room for them
+module _ (t : List ℕ) (before names : Names) {some more : List (List ℕ)} (passed : with_names (names_in t before) some ≡ with_names (names_in t names) more) where
+  pub words_noted : more ≡ [] → NamesMore t before true names some
+  words_noted e = record { noted = λ r. names_done t names passed e; over = λ r. absurd (true≢false r) }
+
+  pub words_past : (xs rest : List (List ℕ)) → more ≡ xs ++ rest → {r : Bool} {after : Names} → NamesMore t names r after xs → r ≡ false → NamesMore t before false after some
+  words_past xs rest e n h = record { noted = λ r. absurd (true≢false (sym r)); over = λ r. names_past t passed xs rest e n h }
 
 -- ---- the words of a statement
 module _ (t : List ℕ) (cell : Cell) (names : Names) where
@@ -202,29 +185,26 @@ module _ (t : List ℕ) (cell : Cell) (names : Names) where
       by false e = ap (λ (s : Statement). pinned (s ∷ [])) (noted_other t cell e)
 
   module _ {v : ℕ} (f : v ≡ verb (statement_at t cell.line 0)) where
-    pub sets-noted : (next : ℕ) (r : Names) → v ≡ some_sets → words_from t next ≡ drop 1 (words_from t cell.line) → NamesMore t names r (words_from t next) → NamesMore t names r (pinned (noted t cell ∷ []))
+    pub sets-noted : (next : ℕ) {r : Bool} {after : Names} → v ≡ some_sets → words_from t next ≡ drop 1 (words_from t cell.line) → NamesMore t names r after (words_from t next) → NamesMore t names r after (pinned (noted t cell ∷ []))
     unfolding pinned
-    sets-noted next r e s n =
-        more_as t names r (s ∙ sym (rw (eq-eqb (verb (statement_at t cell.line 0)) some_sets (sym f ∙ e)) (append-nil (drop 1 (words_from t cell.line)))) ∙ sym said-pinned) n
+    sets-noted next {r} {after} e s n =
+        more_as t names r after (s ∙ sym (rw (eq-eqb (verb (statement_at t cell.line 0)) some_sets (sym f ∙ e)) (append-nil (drop 1 (words_from t cell.line)))) ∙ sym said-pinned) n
 
-    pub no_sets : (v ≡ some_sets → ⊥) → NamesMore t names names (pinned (noted t cell ∷ []))
+    pub no_sets : (v ≡ some_sets → ⊥) → NamesMore t names true names (pinned (noted t cell ∷ []))
     unfolding pinned
-    no_sets k = more_as t names names (sym (rw (ne_eqb (verb (statement_at t cell.line 0)) some_sets (λ e. k (f ∙ e)))) ∙ sym said-pinned) (more_none t names)
+    no_sets k = more_none t names (said-pinned ∙ rw (ne_eqb (verb (statement_at t cell.line 0)) some_sets (λ e. k (f ∙ e))))
 
-  module _ {b : Bool} (f : b ≡ asks_code (statement_at t cell.line 0)) where
-    said_code : asks_code (noted t cell) ≡ b
-    said_code = noted_as t cell asks_code (λ bound. refl) ∙ sym f
-
-    pub code_noted : (next : ℕ) {w : Span} (r : Names) → b ≡ true → (makes_rule (noted t cell) ≡ true → words_from t next ≡ drop 4 (noted t cell).words) → NextWord t next w → NamesMore t names r (span_bytes t w ∷ []) → NamesMore t names r (named (noted t cell ∷ []))
+  module _ {b : Bool} (f : b ≡ asks_code (noted t cell)) where
+    pub code_noted : (next : ℕ) {w : Span} {r : Bool} {after : Names} → b ≡ true → (makes_rule (noted t cell) ≡ true → words_from t next ≡ drop 4 (noted t cell).words) → NextWord t next w → NamesMore t names r after (span_bytes t w ∷ []) → NamesMore t names r after (named (noted t cell ∷ []))
     unfolding named
-    code_noted next {w} r e s x n =
-        let rule = (and_both (makes_rule (noted t cell)) (eqb (kind_number (word (noted t cell) 2)) a_code_kind) (said_code ∙ e)).0 in
+    code_noted next {w} {r} {after} e s x n =
+        let rule = (and_both (makes_rule (noted t cell)) (eqb (kind_number (word (noted t cell) 2)) a_code_kind) (sym f ∙ e)).0 in
         let fourth : span_bytes t w ≡ word (noted t cell) 4 = x.here ∙ ap (λ (l : List (List ℕ)). get_or l 0 []) (s rule) ∙ get_or-drop 4 (noted t cell).words 0 [] in
-        more_as t names r (ap (λ (y : List ℕ). y ∷ []) fourth ∙ sym (rw (said_code ∙ e))) n
+        more_as t names r after (ap (λ (y : List ℕ). y ∷ []) fourth ∙ sym (rw (sym f ∙ e))) n
 
-    pub no_code : b ≡ false → NamesMore t names names (named (noted t cell ∷ []))
+    pub no_code : b ≡ false → NamesMore t names true names (named (noted t cell ∷ []))
     unfolding named
-    no_code e = more_as t names names (sym (rw (said_code ∙ e))) (more_none t names)
+    no_code e = more_none t names (rw (sym f ∙ e))
 
 -- ---- loops along the cells
 module _ (t : List ℕ) (cells : List Cell) (i : ℕ) where
@@ -254,18 +234,18 @@ module _ (t : List ℕ) (cells : List Cell) (i : ℕ) where
   unfolding named
   named-over h = ap named (cells_done (noted t) cells i h)
 
-pub pinned-start : (t : List ℕ) (names : Names) (ss : List Statement) → (names.count ≡ 0) × (length names.spans ≡ 64) → Leads t names (pinned ss) (λ (r : Names). Names64 t r (with_names [] (pinned ss)))
+pub pinned-start : (t : List ℕ) (names : Names) (ss : List Statement) → names.count ≡ 0 → with_names [] (pinned ss) ≡ with_names (names_in t names) (pinned ss)
 unfolding names_in
-pinned-start t names ss none =
-    record {
-      room = none.1;
-      ends = λ r n. n [] (record { room = none.1; exact = λ k. rw none.0; over = λ k. absurd (omega (arith, none.0)) });
-    }
+pinned-start t names ss none = rw none
 
-pub named_start : (t : List ℕ) (names : Names) (ss : List Statement) → Names64 t names (with_names [] (pinned ss)) → Leads t names (named ss) (λ (r : Names). Names64 t r (names_of ss))
-unfolding names_of
-named_start t names ss now =
-    record {
-      room = now.room;
-      ends = λ r n. subst (λ (m : List (List ℕ)). Names64 t r m) (sym (with_append [] (pinned ss) (named ss))) (n (with_names [] (pinned ss)) now);
-    }
+-- the rules of kind CODE go on with what the `sets` lines gave
+module _ (ss : List Statement) where
+  names_split : names_of ss ≡ with_names (with_names [] (pinned ss)) (named ss)
+  unfolding names_of
+  names_split = with_append [] (pinned ss) (named ss)
+
+  pub named_start : (t : List ℕ) (names : Names) → names_in t names ≡ with_names [] (pinned ss) → names_of ss ≡ with_names (names_in t names) (named ss)
+  named_start t names e = names_split ∙ ap (λ (l : List (List ℕ)). with_names l (named ss)) (sym e)
+
+  pub named-past : 64 < length (with_names [] (pinned ss)) → 64 < length (names_of ss)
+  named-past h = omega (arith, ap length names_split, with_longer (with_names [] (pinned ss)) (named ss))

@@ -104,8 +104,8 @@ abbrev pub names_from : List ℕ → Names → ℕ → List (List ℕ)
 names_from t names i = names_left t names.spans names.count i
 
 module _ (t : List ℕ) (names : Names) (i : ℕ) where
-  pub names_more : i < names.count → names.count ≤ 64 → length names.spans ≡ 64 → {name : List ℕ} → name ≡ span_bytes t (get_or names.spans i no_span) → names_from t names i ≡ name ∷ names_from t names (i + 1)
-  names_more h few room e = names_step t names.spans names.count i h (omega (arith, room)) ∙ ap (λ (w : List ℕ). w ∷ names_from t names (i + 1)) (sym e)
+  pub names_more : i < names.count → names.count ≤ length names.spans → {name : List ℕ} → name ≡ span_bytes t (get_or names.spans i no_span) → names_from t names i ≡ name ∷ names_from t names (i + 1)
+  names_more h few e = names_step t names.spans names.count i h few ∙ ap (λ (w : List ℕ). w ∷ names_from t names (i + 1)) (sym e)
 
   pub names-over : names.count ≤ i → names_from t names i ≡ []
   names-over h = names-past t names.spans names.count i h

@@ -1,6 +1,6 @@
 -- Inner: only contracts inside the crate use these names; nothing here has to be believed.
 -- A statement by the position of its line, what is still to come from a position on, and what is noted of a section. Assumes nothing.
-use Rattle.std.specs.Prelude.{ℕ, suc, ◌+◌, ◌≤◌, ◌<◌, min, ◌≡◌, Bool, true, cond, not, ◌&&◌, ◌||◌, List, [], ◌∷◌, ◌++◌, map, eqb, leb, length, get_or, take, drop, All, Option, Some, None, Result, Ok, Err}
+use Rattle.std.specs.Prelude.{ℕ, suc, ◌+◌, ◌≤◌, ◌<◌, min, ◌≡◌, Bool, true, false, cond, not, ◌&&◌, ◌||◌, List, [], ◌∷◌, ◌++◌, map, eqb, leb, length, get_or, take, drop, All, Option, Some, None, Result, Ok, Err}
 use Rattle.hl7.specs.Bytes.{within}
 use Rattle.hl7.specs.Cut.{part_at, end_from}
 use Rattle.hl7.specs.Spans.{between, parts_from}
@@ -182,15 +182,15 @@ CountsRules ss r = (names : List (List ℕ)) → r ≡ length (rules_of names ss
 unfoldable pub names_in : List ℕ → Names → List (List ℕ)
 names_in t names = map (span_bytes t) (take names.count names.spans)
 
--- the names are those, or there are over 64 of them
-pub record Names64 (t : List ℕ) (names : Names) (all : List (List ℕ)) : Type 0 where
-  pub room : length names.spans ≡ 64
-  pub exact : names.count ≤ 64 → names_in t names ≡ all
-  pub over : 64 < names.count → 64 < length all
+-- the names are those; or they are none, and there are over 64 of them
+abbrev pub NamesAre : List ℕ → List (List ℕ) → Option Names → Type 0
+NamesAre t all (Some names) = names_in t names ≡ all
+NamesAre t all None = 64 < length all
 
--- noting more of them, where they are new
-abbrev pub NamesMore : List ℕ → Names → Names → List (List ℕ) → Type 0
-NamesMore t names r more = (all : List (List ℕ)) → Names64 t names all → Names64 t r (with_names all more)
+-- noting more of them, where they are new; or there would be over 64
+pub record NamesMore (t : List ℕ) (names : Names) (r : Bool) (after : Names) (more : List (List ℕ)) : Type 0 where
+  pub noted : r ≡ true → names_in t after ≡ with_names (names_in t names) more
+  pub over : r ≡ false → 64 < length (with_names (names_in t names) more)
 
 -- stands for a span where there is none
 abbrev pub no_span : Span

@@ -2,11 +2,12 @@
 ghost use Rattle.std.specs.Prelude.{◌≡◌, true, ◌&&◌, ◌+◌, ◌*◌, ◌≤◌, eqb, drop};
 ghost use Rattle.booktext.specs.Lines.{makes_rule};
 ghost use Rattle.booktext.specs.Changes.{spot_of};
+ghost use Rattle.booktext.specs.Contents.{asks_code};
 ghost use Rattle.booktext.specs.Standing.{words_from, statement_at, noted, Marked};
 
 use crate::line::{skip_words, word_of};
 use crate::statement::verb_at;
-use crate::word::{is_placed, kind_number, place_in};
+use crate::word::{CODE_KIND, is_placed, is_rule, kind_number, place_in};
 
 // Where its line begins, the severity that it was given, else 0, and where another line begins that has its bound; its verb, and the place and kind that it speaks of.
 #[derive(Clone, Copy)]
@@ -43,6 +44,13 @@ impl Cell {
             Some(line) => skip_words(t, line, 3),
             None => skip_words(t, self.line, 4),
         }
+    }
+
+    // Whether it is a rule of kind CODE.
+    pub(crate) fn asks_code(self, t: &[u8]) -> bool
+        ensures { result ≡ asks_code (noted t.now self) }
+    {
+        is_rule(verb_at(t, self.line)) & (kind_number(word_of(t, self.line, 2)) == CODE_KIND)
     }
 }
 

@@ -16,7 +16,7 @@ use crate::change::settle;
 use crate::fault::{bytes_told, first_fault};
 use crate::heads::{HEAD_LIMIT, note_heads};
 use crate::line::{line_of, word_of};
-use crate::names::{Names, SET_LIMIT, names_of};
+use crate::names::Names;
 use crate::refer::first_name_fault;
 use crate::rules::{count_rules, put_rules};
 use crate::section::{STATEMENT_LIMIT, note_section, used_twice};
@@ -42,11 +42,11 @@ fn put_front(
     t: &[u8],
     head: usize,
     cells: &[Cell],
-    names: Names,
+    names: &Names,
     rules: usize,
 ) -> usize
-    requires { (names.count ≤ 64) × (length names.spans ≡ 64) × (each ready (map (noted t.now) cells.now) ≡ true) × (rules < 65536) × (length (get_or (words_from t.now head) 1 []) ≤ 255) }
-    ensures { Wrote out.old at (text_bytes (get_or (words_from t.now head) 1 []) ++ (two_bytes_of rules ++ (names.count ∷ spell_all rule_bytes (rules_of (names_in t.now names) (map (noted t.now) cells.now))))) out.new result }
+    requires { (each ready (map (noted t.now) cells.now) ≡ true) × (rules < 65536) × (length (get_or (words_from t.now head) 1 []) ≤ 255) }
+    ensures { Wrote out.old at (text_bytes (get_or (words_from t.now head) 1 []) ++ (two_bytes_of rules ++ (names.now.count ∷ spell_all rule_bytes (rules_of (names_in t.now names.now) (map (noted t.now) cells.now))))) out.new result }
 {
     let second = put_text(out, at, word_of(t, head, 1));
     let third = put_two(out, second, rules);
@@ -72,13 +72,12 @@ fn put_section(
     if RULE_LIMIT < rules {
         return Err(over(t, Row::RuleCount, head));
     }
-    let names = names_of(t, lasting);
-    if SET_LIMIT < names.count {
+    let Some(names) = Names::of(t, lasting) else {
         return Err(over(t, Row::SetCount, head));
-    }
-    first_stray(t, head, cells, names)?;
-    let next = put_front(out, at, t, head, lasting, names, rules);
-    let end = put_sets(out, next, t, heads, rest, head, cells, names)?;
+    };
+    first_stray(t, head, cells, &names)?;
+    let next = put_front(out, at, t, head, lasting, &names, rules);
+    let end = put_sets(out, next, t, heads, rest, head, cells, &names)?;
     if BOOK_LIMIT < end {
         return Err(over(t, Row::LongBook, head));
     }

@@ -9,7 +9,7 @@ ghost use Rattle.booktext.specs.Standing.{CountsRules, noted, names_in, ready, p
 
 use crate::cell::Cell;
 use crate::line::word_of;
-use crate::names::{Names, number_of};
+use crate::names::Names;
 use crate::statement::verb_at;
 use crate::word::{CODE_KIND, LENGTH_KIND, TIME_KIND, is_rule, kind_number, number_in, place_in};
 use ack::output::{put, put_byte};
@@ -48,11 +48,10 @@ fn put_bound(out: &mut [u8], at: usize, kind: u8, set: u8, low: u8, high: u8) ->
 }
 
 // The number of the set with a name, 0 for none.
-fn set_number(t: &[u8], name: &[u8], names: Names) -> u8
-    requires { (names.count ≤ 64) × (length names.spans ≡ 64) }
-    ensures { result ≡ number_from 1 name.now (names_in t.now names) }
+fn set_number(t: &[u8], name: &[u8], names: &Names) -> u8
+    ensures { result ≡ number_from 1 name.now (names_in t.now names.now) }
 {
-    number_of(t, names, name) as u8
+    names.number_of(t, name) as u8
 }
 
 // Segment name, field, component.
@@ -67,9 +66,9 @@ fn put_place(out: &mut [u8], at: usize, w: &[u8]) -> usize
 }
 
 // The ten bytes of a rule.
-fn put_rule(out: &mut [u8], at: usize, t: &[u8], cell: Cell, names: Names) -> usize
-    requires { (names.count ≤ 64) × (length names.spans ≡ 64) × (ready (noted t.now cell) ≡ true) × (makes_rule (noted t.now cell) ≡ true) }
-    ensures { Wrote out.old at (rule_bytes (made (names_in t.now names) (noted t.now cell))) out.new result }
+fn put_rule(out: &mut [u8], at: usize, t: &[u8], cell: Cell, names: &Names) -> usize
+    requires { (ready (noted t.now cell) ≡ true) × (makes_rule (noted t.now cell) ≡ true) }
+    ensures { Wrote out.old at (rule_bytes (made (names_in t.now names.now) (noted t.now cell))) out.new result }
 {
     let bound = cell.bound_at(t);
     let first = word_of(t, bound, 0);
@@ -84,9 +83,9 @@ fn put_rule(out: &mut [u8], at: usize, t: &[u8], cell: Cell, names: Names) -> us
 }
 
 // The rules of the statements in the cells.
-pub(crate) fn put_rules(out: &mut [u8], at: usize, t: &[u8], cells: &[Cell], names: Names) -> usize
-    requires { (names.count ≤ 64) × (length names.spans ≡ 64) × (each ready (map (noted t.now) cells.now) ≡ true) }
-    ensures { Wrote out.old at (spell_all rule_bytes (rules_of (names_in t.now names) (map (noted t.now) cells.now))) out.new result }
+pub(crate) fn put_rules(out: &mut [u8], at: usize, t: &[u8], cells: &[Cell], names: &Names) -> usize
+    requires { (each ready (map (noted t.now) cells.now) ≡ true) }
+    ensures { Wrote out.old at (spell_all rule_bytes (rules_of (names_in t.now names.now) (map (noted t.now) cells.now))) out.new result }
 {
     let mut to = at;
     for &cell in cells {
@@ -96,9 +95,9 @@ pub(crate) fn put_rules(out: &mut [u8], at: usize, t: &[u8], cells: &[Cell], nam
 }
 
 // The rule of a statement, where it makes one.
-fn put_made(out: &mut [u8], at: usize, t: &[u8], cell: Cell, names: Names) -> usize
-    requires { (names.count ≤ 64) × (length names.spans ≡ 64) × (ready (noted t.now cell) ≡ true) }
-    ensures { Wrote out.old at (spell_all rule_bytes (rules_of (names_in t.now names) (noted t.now cell ∷ []))) out.new result }
+fn put_made(out: &mut [u8], at: usize, t: &[u8], cell: Cell, names: &Names) -> usize
+    requires { (ready (noted t.now cell) ≡ true) }
+    ensures { Wrote out.old at (spell_all rule_bytes (rules_of (names_in t.now names.now) (noted t.now cell ∷ []))) out.new result }
 {
     if is_rule(verb_at(t, cell.line)) {
         return put_rule(out, at, t, cell, names);

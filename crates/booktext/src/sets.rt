@@ -14,7 +14,7 @@ use crate::before::names_code;
 use crate::cell::Cell;
 use crate::heads::seek_head;
 use crate::line::{line_of, next_word, part, skip_words, word_of};
-use crate::names::{Names, name_at, number_of};
+use crate::names::Names;
 use crate::refer::found_at;
 use crate::statement::{next_in_body, next_line, verb_at};
 use crate::told::{Fault, Row};
@@ -223,14 +223,14 @@ pub(crate) fn put_sets(
     rest: usize,
     head: usize,
     cells: &[Cell],
-    names: Names,
+    names: &Names,
 ) -> Result<usize, Fault>
-    requires { Heads t.now heads.now rest × Marks t.now cells.now × (each ready (map (noted t.now) cells.now) ≡ true) × (names.count ≤ 64) × (length names.spans ≡ 64) × (each sound (statements t.now) ≡ true) }
-    ensures { Puts (first_bad_set t.now (line_of t.now head) (statements t.now) (map (noted t.now) cells.now) (names_in t.now names)) (spell_all set_bytes (map (held (statements t.now) (map (noted t.now) cells.now)) (names_in t.now names))) out.old at out.new result }
+    requires { Heads t.now heads.now rest × Marks t.now cells.now × (each ready (map (noted t.now) cells.now) ≡ true) × (each sound (statements t.now) ≡ true) }
+    ensures { Puts (first_bad_set t.now (line_of t.now head) (statements t.now) (map (noted t.now) cells.now) (names_in t.now names.now)) (spell_all set_bytes (map (held (statements t.now) (map (noted t.now) cells.now)) (names_in t.now names.now))) out.old at out.new result }
 {
     let mut to = at;
     for i in 0..names.count {
-        let name = name_at(t, names, i);
+        let name = names.name_at(t, i);
         to = put_set(out, to, t, heads, rest, head, cells, name)?;
     }
     Ok(put(out, to, b""))
@@ -238,20 +238,20 @@ pub(crate) fn put_sets(
 
 // ---- row 52
 // Whether the statement of a cell changes a set that is none of these.
-fn is_stray(t: &[u8], cell: Cell, names: Names) -> bool
-    requires { (names.count ≤ 64) × (length names.spans ≡ 64) × Marked t.now cell }
-    ensures { result ≡ (of_codes (verb (noted t.now cell)) && not (among (word (noted t.now cell) 1) (names_in t.now names))) }
+fn is_stray(t: &[u8], cell: Cell, names: &Names) -> bool
+    requires { Marked t.now cell }
+    ensures { result ≡ (of_codes (verb (noted t.now cell)) && not (among (word (noted t.now cell) 1) (names_in t.now names.now))) }
 {
     if is_codes(cell.verb) {
-        return number_of(t, names, word_of(t, cell.line, 1)) == 0;
+        return names.number_of(t, word_of(t, cell.line, 1)) == 0;
     }
     false
 }
 
 // The first of the statements in the cells that does, in a section with a head.
-pub(crate) fn first_stray(t: &[u8], head: usize, cells: &[Cell], names: Names) -> Result<(), Fault>
-    requires { (names.count ≤ 64) × (length names.spans ≡ 64) × Marks t.now cells.now }
-    ensures { told_in result ≡ first_stray t.now (line_of t.now head) (names_in t.now names) (map (noted t.now) cells.now) }
+pub(crate) fn first_stray(t: &[u8], head: usize, cells: &[Cell], names: &Names) -> Result<(), Fault>
+    requires { Marks t.now cells.now }
+    ensures { told_in result ≡ first_stray t.now (line_of t.now head) (names_in t.now names.now) (map (noted t.now) cells.now) }
 {
     for &cell in cells {
         if is_stray(t, cell, names) {

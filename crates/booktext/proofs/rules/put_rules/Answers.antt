@@ -5,12 +5,11 @@ use Rattle.booktext.proofs.Ruling.{spelt_more, spelt-over, ready_more}
 use Rattle.booktext.proofs.rules.put_rules.Goals as goal
 
 pub loop-cell-init : goal.loop-cell-init
-loop-cell-init c = (c.requires.2, λ after r w. w)
+loop-cell-init c = (c.requires, λ after r w. w)
 
 pub put_made-to-requires : goal.put_made-to-requires
 put_made-to-requires c =
-    let pre = c.requires in
-    (pre.0, pre.1, (ready_more _ _ _ c.loop-cell-test.true c.loop-cell.invariant.0).0)
+    (ready_more _ _ _ c.loop-cell-test.true c.loop-cell.invariant.0).0
 
 pub loop-cell-preserved : goal.loop-cell-preserved
 loop-cell-preserved c =

@@ -7,16 +7,16 @@ use Rattle.booktext.proofs.Setting.{stray_here, stray_later, stray_over}
 use Rattle.booktext.proofs.sets.first_stray.Goals as goal
 
 pub is_stray-requires : goal.is_stray-requires
-is_stray-requires c = (c.requires.0, c.requires.1, mark_at c.args.t.now c.args.cells.now c.loop-cell.cell-index c.requires.2 c.loop-cell-test.true)
+is_stray-requires c = mark_at c.args.t.now c.args.cells.now c.loop-cell.cell-index c.requires c.loop-cell-test.true
 
 pub returns-then-is_stray : goal.returns-then-is_stray
-returns-then-is_stray c = stray_here c.args.t.now (names_in c.args.t.now c.args.names) (line_of c.args.t.now c.args.head) c.args.cells.now c.loop-cell.cell-index c.loop-cell.invariant c.loop-cell-test.true c.is_stray.ensures c.if-is_stray.true c.line_of.ensures c.line_of-then-is_stray.ensures c.in_section.ensures
+returns-then-is_stray c = stray_here c.args.t.now (names_in c.args.t.now c.args.names.now) (line_of c.args.t.now c.args.head) c.args.cells.now c.loop-cell.cell-index c.loop-cell.invariant c.loop-cell-test.true c.is_stray.ensures c.if-is_stray.true c.line_of.ensures c.line_of-then-is_stray.ensures c.in_section.ensures
 
 pub loop-cell-preserved : goal.loop-cell-preserved
-loop-cell-preserved c = stray_later c.args.t.now (names_in c.args.t.now c.args.names) (line_of c.args.t.now c.args.head) c.args.cells.now c.loop-cell.cell-index c.loop-cell.invariant c.loop-cell-test.true c.is_stray.ensures c.if-is_stray.false
+loop-cell-preserved c = stray_later c.args.t.now (names_in c.args.t.now c.args.names.now) (line_of c.args.t.now c.args.head) c.args.cells.now c.loop-cell.cell-index c.loop-cell.invariant c.loop-cell-test.true c.is_stray.ensures c.if-is_stray.false
 
 pub returns : goal.returns
-returns c = stray_over c.args.t.now (names_in c.args.t.now c.args.names) (line_of c.args.t.now c.args.head) c.args.cells.now c.loop-cell.cell-index c.loop-cell.invariant c.loop-cell-test.false
+returns c = stray_over c.args.t.now (names_in c.args.t.now c.args.names.now) (line_of c.args.t.now c.args.head) c.args.cells.now c.loop-cell.cell-index c.loop-cell.invariant c.loop-cell-test.false
 
 pub loop-cell-init : goal.loop-cell-init
 loop-cell-init c = refl
