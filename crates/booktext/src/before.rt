@@ -13,7 +13,7 @@ use crate::heads::seek_head;
 use crate::line::{line_of, next_word, part, skip_words, word_of};
 use crate::statement::{next_in_body, next_line, verb_at};
 use crate::told::{Fault, Row};
-use crate::word::{CODE, DROP, LESS, MORE, RULE, SET, either, is_codes, is_placed, is_rule};
+use crate::word::{CODE, DROP, LESS, MORE, RULE, SET, is_codes, is_placed, is_rule};
 use hl7::bytes::{pick, same_bytes};
 
 // ---- rules
@@ -156,7 +156,7 @@ fn codes_asked(
             return true;
         }
         let has = has_code(t, heads, rest, cells, name, part(t, w));
-        if !either(less, has, !has) {
+        if !pick(less, has, !has) {
             return false;
         }
         i = w.end;

@@ -12,7 +12,7 @@ use crate::statement::{is_head, next_line, next_statement, verb_at};
 use crate::told::{Fault, Row};
 use crate::word::{
     BOOK, BOUND, CODE, COMMON, DROP, SECTION, SET, SETS, SEVERITY, USE, before_bound, bound_fits,
-    either, is_codes, is_place, is_placed, is_rule, is_severity_word, is_text, kind_number, minus,
+    is_codes, is_place, is_placed, is_rule, is_severity_word, is_text, kind_number,
 };
 use hl7::bytes::{is_within, pick, same_bytes};
 
@@ -59,12 +59,12 @@ fn may_stand(here: u8, verb: u8) -> bool
     ensures { result ≡ may_stand here verb }
 {
     let placed = is_placed(verb) | is_codes(verb);
-    let others = either(placed, COMMON <= here, BOOK <= here);
-    let inner = either((verb == USE) | (verb == SETS), here == SECTION, others);
-    either(
+    let others = pick(placed, COMMON <= here, BOOK <= here);
+    let inner = pick((verb == USE) | (verb == SETS), here == SECTION, others);
+    pick(
         verb == BOOK,
         here == 0,
-        either(verb == CODE, here == SET, inner),
+        pick(verb == CODE, here == SET, inner),
     )
 }
 
@@ -72,19 +72,19 @@ fn may_stand(here: u8, verb: u8) -> bool
 fn change_right(verb: u8, n: usize) -> bool
     ensures { result ≡ cond (eqb verb a_severity) (eqb n 4) (cond (eqb verb a_bound) (within 4 5 n) (cond (eqb verb a_drop) (eqb n 3) (cond (of_codes verb) (leb 3 n) (leb 2 n)))) }
 {
-    let codes = either(is_codes(verb), 3 <= n, 2 <= n);
-    let dropped = either(verb == DROP, n == 3, codes);
-    let bounded = either(verb == BOUND, (4 <= n) & (n <= 5), dropped);
-    either(verb == SEVERITY, n == 4, bounded)
+    let codes = pick(is_codes(verb), 3 <= n, 2 <= n);
+    let dropped = pick(verb == DROP, n == 3, codes);
+    let bounded = pick(verb == BOUND, (4 <= n) & (n <= 5), dropped);
+    pick(verb == SEVERITY, n == 4, bounded)
 }
 
 fn count_right(verb: u8, n: usize) -> bool
     ensures { result ≡ count_right verb n }
 {
     let named = (verb == BOOK) | (verb == COMMON) | (verb == SECTION);
-    let others = either(named, n == 2, change_right(verb, n));
-    let used = either(verb == USE, (2 <= n) & (n <= 3), others);
-    either(is_rule(verb), (4 <= n) & (n <= 6), used)
+    let others = pick(named, n == 2, change_right(verb, n));
+    let used = pick(verb == USE, (2 <= n) & (n <= 3), others);
+    pick(is_rule(verb), (4 <= n) & (n <= 6), used)
 }
 
 fn version_right(verb: u8, w: &[u8]) -> bool
@@ -145,13 +145,13 @@ fn severity_right(verb: u8, n: usize, third: &[u8], fourth: &[u8]) -> bool
 {
     let of_use = (verb != USE) | (n <= 2) | is_severity_word(third);
     let fourth_word = is_rule(verb) | (verb == SEVERITY);
-    either(fourth_word, is_severity_word(fourth), of_use)
+    pick(fourth_word, is_severity_word(fourth), of_use)
 }
 
 fn bound_right(verb: u8, n: usize, kind: &[u8], low: &[u8], high: &[u8]) -> bool
     ensures { result ≡ bound_right verb n kind.now low.now high.now }
 {
-    let count = minus(n, before_bound(verb));
+    let count = n.saturating_sub(before_bound(verb));
     !(is_rule(verb) | (verb == BOUND)) | bound_fits(kind_number(kind), count, low, high)
 }
 

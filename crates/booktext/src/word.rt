@@ -239,24 +239,10 @@ pub(crate) fn bound_fits(kind: u8, count: usize, low: &[u8], high: &[u8]) -> boo
     let least = number_in(low);
     let long = (count == 2) & is_within(least, 1, number_in(high));
     let timed = (count == 1) & time_digits(least);
-    let others = either(kind == CODE_KIND, count == 1, count == 0);
-    either(
+    let others = pick(kind == CODE_KIND, count == 1, count == 0);
+    pick(
         kind == LENGTH_KIND,
         long,
-        either(kind == TIME_KIND, timed, others),
+        pick(kind == TIME_KIND, timed, others),
     )
-}
-
-// The difference of two numbers, 0 where it would be below.
-pub(crate) fn minus(a: usize, b: usize) -> usize
-    ensures { result ≡ a - b }
-{
-    if a < b { 0 } else { a - b }
-}
-
-// One or the other, without a branch.
-pub(crate) fn either(test: bool, yes: bool, otherwise: bool) -> bool
-    ensures { result ≡ cond test yes otherwise }
-{
-    if test { yes } else { otherwise }
 }

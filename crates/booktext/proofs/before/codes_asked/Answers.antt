@@ -23,15 +23,15 @@ returns-then-w c =
 pub has_code-has-requires : goal.has_code-has-requires
 has_code-has-requires c = (c.requires.0, c.requires.1)
 
-pub returns-then-not-either : goal.returns-then-not-either
-returns-then-not-either c =
+pub returns-then-not-pick : goal.returns-then-not-pick
+returns-then-not-pick c =
     let a = c.args in
     let all = statements a.t.now in
     let before = map (noted a.t.now) a.cells.now in
     let s = statement_at a.t.now a.at 0 in
     words-not (code_asked all before s) a.t.now c.loop-name.i c.loop-name.invariant c.next_word-w.ensures c.if-w.false
-    (asked_is all before s c.next_word-w.result a.t.now c.requires.2 c.word_of-name.ensures c.part.ensures c.has_code-has.ensures c.either.ensures)
-    (ap not c.if-not-either.true)
+    (asked_is all before s c.next_word-w.result a.t.now c.requires.2 c.word_of-name.ensures c.part.ensures c.has_code-has.ensures c.pick.ensures)
+    (ap not c.if-not-pick.true)
 
 pub loop-name-smaller : goal.loop-name-smaller
 loop-name-smaller c = words_fewer c.next_word-w.ensures c.if-w.false
@@ -43,5 +43,5 @@ loop-name-preserved c =
     let before = map (noted a.t.now) a.cells.now in
     let s = statement_at a.t.now a.at 0 in
     words-later (code_asked all before s) a.t.now c.loop-name.i c.loop-name.invariant c.next_word-w.ensures c.if-w.false
-    (asked_is all before s c.next_word-w.result a.t.now c.requires.2 c.word_of-name.ensures c.part.ensures c.has_code-has.ensures c.either.ensures)
-    (ap not c.if-not-either.false)
+    (asked_is all before s c.next_word-w.result a.t.now c.requires.2 c.word_of-name.ensures c.part.ensures c.has_code-has.ensures c.pick.ensures)
+    (ap not c.if-not-pick.false)

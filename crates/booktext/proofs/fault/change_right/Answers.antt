@@ -2,4 +2,4 @@
 use Rattle.booktext.proofs.fault.change_right.Goals as goal
 
 pub returns : goal.returns
-returns c = rw (c.either.ensures, c.either-bounded.ensures, c.either-dropped.ensures, c.either-codes.ensures, c.is_codes.ensures)
+returns c = rw (c.pick.ensures, c.pick-bounded.ensures, c.pick-dropped.ensures, c.pick-codes.ensures, c.is_codes.ensures)

@@ -2,4 +2,4 @@
 use Rattle.booktext.proofs.fault.count_right.Goals as goal
 
 pub returns : goal.returns
-returns c = rw (c.either.ensures, c.is_rule.ensures, c.either-used.ensures, c.either-others.ensures, c.change_right.ensures)
+returns c = rw (c.pick.ensures, c.is_rule.ensures, c.pick-used.ensures, c.pick-others.ensures, c.change_right.ensures)

@@ -2,4 +2,4 @@
 use Rattle.booktext.proofs.fault.may_stand.Goals as goal
 
 pub returns : goal.returns
-returns c = rw (c.either-2.ensures, c.either.ensures, c.either-inner.ensures, c.either-others.ensures, c.is_codes.ensures, c.is_placed.ensures)
+returns c = rw (c.pick-2.ensures, c.pick.ensures, c.pick-inner.ensures, c.pick-others.ensures, c.is_codes.ensures, c.is_placed.ensures)

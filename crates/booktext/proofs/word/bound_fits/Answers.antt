@@ -4,4 +4,4 @@ use Rattle.booktext.proofs.word.bound_fits.Goals as goal
 
 pub returns : goal.returns
 unfolding bound_fits
-returns c = rw (c.either-2.ensures, c.either.ensures, c.either-others.ensures, c.time_digits.ensures, c.is_within.ensures, c.number_in.ensures, c.number_in-least.ensures)
+returns c = rw (c.pick-2.ensures, c.pick.ensures, c.pick-others.ensures, c.time_digits.ensures, c.is_within.ensures, c.number_in.ensures, c.number_in-least.ensures)
