@@ -10,6 +10,9 @@ use native.Mathlib.Decide.{dec_lt}
 use lib.Dec.{eqb, leb}
 use lib.ListN.{length, get_or, take, drop, get_or-eq_default}
 use borrow.Author.Tests.{eq-eqb, ne_eqb, eqb-true, leb-true}
+use Rattle.std.specs.List.{count_by}
+use Rattle.std.proofs.lemmas.List.Elements.{All-head, All-tail}
+use Rattle.std.proofs.lemmas.List.Sums.{sum_by-cons}
 use Rattle.hl7.specs.Bytes.{within}
 use Rattle.hl7.proofs.Comparing.{and_both}
 use Rattle.grade.specs.Rule.{name_bytes, counted, place_fits, severity_of, severity_letter, kind_of, kind_fits, rule_fits, rule_with}
@@ -25,7 +28,7 @@ use Rattle.booktext.specs.Lines.{Statement, word, verb, of_rule, makes_rule, num
 use Rattle.booktext.specs.Words.{number_in, pointed, place_in, bound_fits, is_place, is_severity, is_severity_word, kind_number, a_length, a_time, a_code_kind}
 use Rattle.booktext.specs.Contents.{letter_of, rule_or, made, rules_of}
 use Rattle.booktext.specs.Faults.{place_right, kind_right, severity_right, before_bound, bound_right}
-use Rattle.booktext.specs.Standing.{statement_at, noted, no_cell, sound, ready, CountsRules, place_bytes, bound_bytes}
+use Rattle.booktext.specs.Standing.{statement_at, noted, no_cell, Marked, Marks, sound, ready, CountsRules, place_bytes, bound_bytes}
 use Rattle.booktext.specs.declared.cell.Cell.{Cell}
 use Rattle.booktext.proofs.Marking.{line_says, noted_as, noted-verb, cells_step, cells_done}
 use Rattle.booktext.proofs.Sounding.{Sounds, sounds}
@@ -46,43 +49,18 @@ module _ (t : List ℕ) (cell : Cell) {v : ℕ} {b : Bool} (f : v ≡ verb (stat
   asked_rule e = ap of_rule (noted-verb t cell ∙ sym f) ∙ sym g ∙ e
 
 -- ---- how many rules
-module _ (t : List ℕ) (cells : List Cell) where
-  -- so many were passed, and then what is left
-  pub record Counts (n i : ℕ) : Type 0 where
-    pub few : n ≤ i
-    pub inside : i ≤ length cells
-    pub rest : (names : List (List ℕ)) → n + length (rules_of names (map (noted t) (drop i cells))) ≡ length (rules_of names (map (noted t) cells))
-
-  pub counts-none : Counts 0 0
-  counts-none = record { few = omega arith; inside = omega arith; rest = λ names. omega arith }
-
-  module _ {n i : ℕ} (c : Counts n i) where
-    pub counts_more : {v m : ℕ} {b : Bool} → i < length cells → v ≡ verb (statement_at t (get_or cells i no_cell).line 0) → b ≡ of_rule v → m ≡ cond b (n + 1) n → Counts m (i + 1)
-    unfolding rules_of
-    counts_more {m = m} {b} h f g e =
-        record {
-          few = by-few b e;
-          inside = omega arith;
-          rest = λ names. by b (rules_of names (map (noted t) (drop (i + 1) cells))) (made names (noted t (get_or cells i no_cell))) e
-              ∙ ap (λ (x : Bool). n + length (cond x (made names (noted t (get_or cells i no_cell)) ∷ rules_of names (map (noted t) (drop (i + 1) cells))) (rules_of names (map (noted t) (drop (i + 1) cells))))) (sym (asked_rule t (get_or cells i no_cell) f g refl))
-              ∙ ap (λ (l : List Statement). n + length (rules_of names l)) (sym (cells_step (noted t) cells i h))
-              ∙ c.rest names;
-        }
-      where
-        by-few : (b : Bool) → m ≡ cond b (n + 1) n → m ≤ i + 1
-        by-few true e = omega (arith, c.few)
-        by-few false e = omega (arith, c.few)
-
-        by : (b : Bool) (later : List Rule) (one : Rule) → m ≡ cond b (n + 1) n → m + length later ≡ n + length (cond b (one ∷ later) later)
-        by true later one e = omega arith
-        by false later one e = omega arith
-
-    pub counts-over : length cells ≤ i → CountsRules (map (noted t) cells) n × (n ≤ length cells)
-    unfolding rules_of
-    counts-over h = (
-      λ names. let none : length (rules_of names (map (noted t) (drop i cells))) ≡ 0 = ap (λ (l : List Statement). length (rules_of names l)) (cells_done (noted t) cells i h) in omega (arith, c.rest names),
-      omega (arith, c.few, c.inside),
-    )
+pub rules_counted : (t : List ℕ) (cells : List Cell) → Marks t cells → CountsRules (map (noted t) cells) (count_by (λ (c : Cell). of_rule c.verb) cells)
+unfolding rules_of
+rules_counted t [] m names = refl
+rules_counted t (c ∷ cells) m names =
+    let same : of_rule c.verb ≡ makes_rule (noted t c) = ap of_rule (All-head (Marked t) c cells m).by_verb in
+    sum_by-cons (λ (c : Cell). cond (of_rule c.verb) 1 0) c cells
+    ∙ ap (λ (b : Bool). cond b 1 0 + count_by (λ (c : Cell). of_rule c.verb) cells) same
+    ∙ by (makes_rule (noted t c)) (made names (noted t c)) (rules_of names (map (noted t) cells)) (rules_counted t cells (All-tail (Marked t) c cells m) names)
+  where
+    by : (b : Bool) (one : Rule) (later : List Rule) {n : ℕ} → n ≡ length later → cond b 1 0 + n ≡ length (cond b (one ∷ later) later)
+    by true one later e = omega (arith, e)
+    by false one later e = omega (arith, e)
 
 -- ---- the severity's letter
 module _ (t : List ℕ) (cell : Cell) where

@@ -1,5 +1,5 @@
 -- To be believed. What one statement may be refused for by itself: rows 33 to 42. Assumes nothing.
-use Rattle.std.specs.Prelude.{ℕ, suc, ◌-◌, Bool, cond, not, ◌||◌, List, [], ◌∷◌, eqb, leb, length, drop, Option, Some, None, Result, Ok, Err}
+use Rattle.std.specs.Prelude.{ℕ, suc, ◌-◌, Bool, cond, not, ◌||◌, List, [], ◌∷◌, eqb, leb, length, drop, Result, Ok, Err}
 use Rattle.hl7.specs.Text.{bytes}
 use Rattle.hl7.specs.Bytes.{within, same}
 use Rattle.grade.specs.Encoding.{each, text_fits}

@@ -65,10 +65,10 @@ fn put_section(
     cells: &[Cell],
     lasting: &[Cell],
 ) -> Result<usize, Fault>
-    requires { Heads t.now heads.now rest × (each sound (statements t.now) ≡ true) × (each ready (map (noted t.now) cells.now) ≡ true) × Marks t.now cells.now × (map (noted t.now) lasting.now ≡ settled (map (noted t.now) cells.now)) × (length (get_or (words_from t.now head) 1 []) ≤ 255) }
+    requires { Heads t.now heads.now rest × (each sound (statements t.now) ≡ true) × (each ready (map (noted t.now) cells.now) ≡ true) × Marks t.now cells.now × Marks t.now lasting.now × (map (noted t.now) lasting.now ≡ settled (map (noted t.now) cells.now)) × (length (get_or (words_from t.now head) 1 []) ≤ 255) }
     ensures { Puts (sizes_told t.now (statements t.now) at (line_of t.now head) (contents_of (statements t.now) (get_or (words_from t.now head) 1 []) (map (noted t.now) cells.now)) (map (noted t.now) cells.now)) (section_bytes (contents_of (statements t.now) (get_or (words_from t.now head) 1 []) (map (noted t.now) cells.now))) out.old at out.new result }
 {
-    let rules = count_rules(t, lasting);
+    let rules = count_rules(lasting);
     if RULE_LIMIT < rules {
         return Err(over(t, Row::RuleCount, head));
     }

@@ -1,11 +1,11 @@
 // The rules of a section whose statements are noted in cells: how many there are, and their bytes.
-ghost use Rattle.std.specs.Prelude.{◌≡◌, true, [], ◌∷◌, map, ◌≤◌, length};
+ghost use Rattle.std.specs.Prelude.{◌≡◌, true, List, [], ◌∷◌, map, ℕ};
 ghost use Rattle.grade.specs.Encoding.{each, spell_all, rule_bytes};
 ghost use Rattle.ack.specs.Splice.{Wrote};
 ghost use Rattle.booktext.specs.Lines.{number_from, makes_rule};
 ghost use Rattle.booktext.specs.Words.{place_in, is_place};
 ghost use Rattle.booktext.specs.Contents.{letter_of, made, rules_of};
-ghost use Rattle.booktext.specs.Standing.{CountsRules, noted, names_in, ready, place_bytes, bound_bytes};
+ghost use Rattle.booktext.specs.Standing.{CountsRules, noted, Marks, names_in, ready, place_bytes, bound_bytes};
 
 use crate::cell::Cell;
 use crate::line::word_of;
@@ -16,14 +16,10 @@ use ack::output::{put, put_byte};
 use hl7::bytes::{byte_at, front, pick};
 
 // ---- how many
-pub(crate) fn count_rules(t: &[u8], cells: &[Cell]) -> usize
-    ensures { CountsRules (map (noted t.now) cells.now) result × (result ≤ length cells.now) }
+pub(crate) fn count_rules(cells: &[Cell]) -> usize
+    ensures { (t : List ℕ) → Marks t cells.now → CountsRules (map (noted t) cells.now) result }
 {
-    let mut n = 0;
-    for &cell in cells {
-        n = pick(is_rule(verb_at(t, cell.line)), n + 1, n);
-    }
-    n
+    cells.iter().filter(|cell| is_rule(cell.verb)).count()
 }
 
 // ---- bytes

@@ -24,7 +24,7 @@ pub slice_bounds-put_section-end-2 : goal.slice_bounds-put_section-end-2
 slice_bounds-put_section-end-2 c = sym (length-take-le c.settle-count.result _ (omega (arith, settled-fits _ c.args.cells.now c.settle-count.ensures c.requires.4, c.settle-count.auto.lasting, c.requires.5)))
 
 pub put_section-requires : goal.put_section-requires
-put_section-requires c = (c.requires.0, c.requires.1, c.requires.2, c.requires.3, settled-noted _ c.args.cells.now c.settle-count.ensures c.requires.4, c.requires.6)
+put_section-requires c = (c.requires.0, c.requires.1, c.requires.2, c.requires.3, c.settle-count.ensures.marks (settled-fits _ c.args.cells.now c.settle-count.ensures c.requires.4), settled-noted _ c.args.cells.now c.settle-count.ensures c.requires.4, c.requires.6)
 
 pub returns : goal.returns
 returns c = puts_next c.in_ok-first_rule_fault.ensures refl c.put_section.ensures
