@@ -20,9 +20,6 @@ returns-then-w c =
     let a = c.args in
     words-all (code_asked (statements a.t.now) (map (noted a.t.now) a.cells.now) (statement_at a.t.now a.at 0)) a.t.now c.loop-name.i c.loop-name.invariant c.next_word-w.ensures c.if-w.true
 
-pub has_code-has-requires : goal.has_code-has-requires
-has_code-has-requires c = (c.requires.0, c.requires.1)
-
 pub returns-then-not-pick : goal.returns-then-not-pick
 returns-then-not-pick c =
     let a = c.args in

@@ -22,6 +22,3 @@ pub returns : goal.returns
 returns c =
     let a = c.args in
     sym (c.loop-i.invariant ∙ fault-over a.t.now a.cells.now a.head c.loop-i.i c.loop-i-test.false)
-
-pub loop-i-init : goal.loop-i-init
-loop-i-init c = refl

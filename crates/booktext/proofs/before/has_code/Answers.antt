@@ -3,9 +3,6 @@ use Rattle.booktext.proofs.Marking.{mark_at}
 use Rattle.booktext.proofs.Preceding.{has-none, has_more, has-over}
 use Rattle.booktext.proofs.before.has_code.Goals as goal
 
-pub has_own-so-requires : goal.has_own-so-requires
-has_own-so-requires c = c.requires.0
-
 pub loop-cell-init : goal.loop-cell-init
 loop-cell-init c =
     let a = c.args in

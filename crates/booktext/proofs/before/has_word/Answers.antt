@@ -1,5 +1,4 @@
 -- `booktext::before::has_word` meets its contract, by the invariant that stands beside this. Assumes nothing.
-use mathlib.Core.Path.{refl}
 use Rattle.booktext.proofs.Words.{words_fewer}
 use Rattle.booktext.proofs.Preceding.{word_none, word-here, word-later}
 use Rattle.booktext.proofs.before.has_word.Goals as goal
@@ -21,6 +20,3 @@ pub loop-w-preserved : goal.loop-w-preserved
 loop-w-preserved c =
     let a = c.args in
     word-later a.t.now a.code.now c.loop-w.i c.loop-w.invariant c.next_word-w.ensures c.if-w.false c.part.ensures c.same_bytes.ensures c.if-same_bytes.false
-
-pub loop-w-init : goal.loop-w-init
-loop-w-init c = refl

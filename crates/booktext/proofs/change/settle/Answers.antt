@@ -11,9 +11,6 @@ settle_one-count-requires c = (c.requires.0, c.loop-i-test.true, c.loop-i.invari
 pub loop-i-preserved : goal.loop-i-preserved
 loop-i-preserved c = settle_on _ _ _ _ _ _ _ _ (cells_step (noted c.args.t.now) c.args.cells.now _ c.loop-i-test.true) c.loop-i.invariant _ _ c.settle_one-count.auto.lasting c.settle_one-count.ensures
 
-pub shape_of-lasting : goal.shape_of-lasting
-shape_of-lasting c = c.loop-i.invariant.same
-
 pub returns : goal.returns
 returns c = noted-all _ _ _ _ _ (settle_done _ _ _ _ _ _ (cells_done (noted c.args.t.now) c.args.cells.now _ c.loop-i-test.false) c.loop-i.invariant)
 

@@ -6,9 +6,6 @@ use Rattle.booktext.proofs.Marking.{mark_at, part_marks}
 use Rattle.booktext.proofs.Changing.{settle_other, settle_rule, settle_gone, settle_marked, settle_stays}
 use Rattle.booktext.proofs.change.settle_one.Goals as goal
 
-pub note_cell-requires : goal.note_cell-requires
-note_cell-requires c = c.requires.2
-
 pub returns-then-not-is_rule : goal.returns-then-not-is_rule
 returns-then-not-is_rule c = settle_other c.args.t.now c.args.cells.now c.args.i c.requires.0 c.requires.1 c.is_rule.ensures _ _ (ap not c.if-not-is_rule.true) _ _ (c.note_cell.ensures c.args.t.now (mark_at _ _ _ c.requires.0 c.requires.1))
 
@@ -24,9 +21,6 @@ amended-rule-requires c = (
   settle_rule c.args.t.now c.args.cells.now c.args.i c.requires.0 c.requires.1 c.is_rule.ensures [] 0 (ap not c.if-not-is_rule.false),
   part_marks c.args.t.now c.args.cells.now c.args.i c.requires.0,
 )
-
-pub note_cell-requires-2 : goal.note_cell-requires-2
-note_cell-requires-2 c = c.requires.2
 
 pub returns : goal.returns
 returns c =

@@ -1,11 +1,7 @@
 -- `booktext::rules::put_rules` meets its contract, by the invariant that stands beside this. Assumes nothing.
-use Rattle.ack.proofs.Writing.{wrote-length}
 use Rattle.booktext.proofs.Completing.{completes_more, completes_over}
 use Rattle.booktext.proofs.Ruling.{spelt_more, spelt-over, ready_more}
 use Rattle.booktext.proofs.rules.put_rules.Goals as goal
-
-pub loop-cell-init : goal.loop-cell-init
-loop-cell-init c = (c.requires, λ after r w. w)
 
 pub put_made-to-requires : goal.put_made-to-requires
 put_made-to-requires c =
@@ -18,6 +14,3 @@ loop-cell-preserved c =
 
 pub returns : goal.returns
 returns c = completes_over c.loop-cell.invariant.1 (spelt-over _ _ _ _ c.loop-cell-test.false) c.put.ensures
-
-pub shape_of-out : goal.shape_of-out
-shape_of-out c = wrote-length (returns c)

@@ -1,5 +1,5 @@
 -- `booktext::section::note_block` meets its contract, by the invariant that stands beside this. Assumes nothing.
-use mathlib.Core.Path.{ap, ◌∙◌}
+use mathlib.Core.Path.{ap}
 use mathlib.Core.List.{map}
 use Rattle.booktext.specs.Meaning.{give}
 use Rattle.booktext.specs.Standing.{body_from}
@@ -12,15 +12,8 @@ loop-at-init c =
     let a = c.args in
     noting_start a.t.now a.cells.now a.count _ _ (ap (map (give a.letter)) (found-onward a.t.now (body_from a.t.now) c.next_in_body-at.ensures))
 
-pub shape_of-cells-then-n-gt-STATEMENT_LIMIT : goal.shape_of-cells-then-n-gt-STATEMENT_LIMIT
-shape_of-cells-then-n-gt-STATEMENT_LIMIT c = c.loop-at.invariant.same
-
 pub returns-then-n-gt-STATEMENT_LIMIT : goal.returns-then-n-gt-STATEMENT_LIMIT
 returns-then-n-gt-STATEMENT_LIMIT c = noting_over _ _ _ _ _ _ _ c.loop-at.invariant c.if-n-gt-STATEMENT_LIMIT.true
-
-pub note-n-requires : goal.note-n-requires
-note-n-requires c =
-    c.loop-at.invariant.same ∙ c.requires
 
 pub loop-at-smaller : goal.loop-at-smaller
 loop-at-smaller c =
@@ -31,9 +24,6 @@ pub loop-at-preserved : goal.loop-at-preserved
 loop-at-preserved c =
     let a = c.args in
     block_on _ _ _ _ _ _ a.letter c.loop-at.at c.loop-at.invariant c.loop-at-test.true _ _ c.note-n.auto.cells c.note-n.ensures c.next_line.ensures c.next_in_body-at-in-loop-at.ensures
-
-pub shape_of-cells : goal.shape_of-cells
-shape_of-cells c = c.loop-at.invariant.same
 
 pub returns : goal.returns
 returns c =

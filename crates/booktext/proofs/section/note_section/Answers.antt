@@ -12,9 +12,6 @@ loop-at-init c =
     let a = c.args in
     noting_start a.t.now a.cells.now 0 _ _ (ap (expand (statements a.t.now)) (found-onward a.t.now (body_from a.t.now) c.next_in_body-at.ensures))
 
-pub shape_of-cells-then-n-gt-STATEMENT_LIMIT : goal.shape_of-cells-then-n-gt-STATEMENT_LIMIT
-shape_of-cells-then-n-gt-STATEMENT_LIMIT c = c.loop-at.invariant.same
-
 pub returns-then-n-gt-STATEMENT_LIMIT : goal.returns-then-n-gt-STATEMENT_LIMIT
 returns-then-n-gt-STATEMENT_LIMIT c = noted-all _ _ _ _ _ (noting_over _ _ _ _ _ _ _ c.loop-at.invariant c.if-n-gt-STATEMENT_LIMIT.true)
 
@@ -30,9 +27,6 @@ loop-at-smaller c =
 
 pub loop-at-preserved : goal.loop-at-preserved
 loop-at-preserved c = section_on _ _ _ _ _ _ c.loop-at.at c.loop-at.invariant c.loop-at-test.true _ _ c.note_both-n.auto.cells c.note_both-n.ensures c.next_line.ensures c.next_in_body-at-in-loop-at.ensures
-
-pub shape_of-cells : goal.shape_of-cells
-shape_of-cells c = c.loop-at.invariant.same
 
 pub returns : goal.returns
 returns c = noted-all _ _ _ _ _ (section_done _ _ _ _ _ _ c.loop-at.at c.loop-at.invariant c.loop-at-test.false)

@@ -1,5 +1,4 @@
 -- `booktext::sets::first_stray` meets its contract, by the invariant that stands beside this. Assumes nothing.
-use mathlib.Core.Path.{refl}
 use Rattle.booktext.specs.Lines.{line_of}
 use Rattle.booktext.specs.Standing.{names_in}
 use Rattle.booktext.proofs.Marking.{mark_at}
@@ -17,6 +16,3 @@ loop-cell-preserved c = stray_later c.args.t.now (names_in c.args.t.now c.args.n
 
 pub returns : goal.returns
 returns c = stray_over c.args.t.now (names_in c.args.t.now c.args.names.now) (line_of c.args.t.now c.args.head) c.args.cells.now c.loop-cell.cell-index c.loop-cell.invariant c.loop-cell-test.false
-
-pub loop-cell-init : goal.loop-cell-init
-loop-cell-init c = refl

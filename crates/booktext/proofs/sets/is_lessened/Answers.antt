@@ -1,5 +1,4 @@
 -- `booktext::sets::is_lessened` meets its contract, by the invariant that stands beside this. Assumes nothing.
-use mathlib.Core.Path.{refl}
 use Rattle.booktext.proofs.Marking.{mark_at}
 use Rattle.booktext.proofs.Spelling.{lessened-here, lessened-later, lessened-over}
 use Rattle.booktext.proofs.sets.is_lessened.Goals as goal
@@ -21,6 +20,3 @@ pub returns : goal.returns
 returns c =
     let entry = c.args in
     lessened-over entry.t.now entry.cells.now entry.name.now entry.code.now c.loop-cell.cell-index c.loop-cell.invariant c.loop-cell-test.false
-
-pub loop-cell-init : goal.loop-cell-init
-loop-cell-init c = refl

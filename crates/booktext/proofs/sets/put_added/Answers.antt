@@ -1,10 +1,7 @@
 -- `booktext::sets::put_added` meets its contract, by the invariant that stands beside this. Assumes nothing.
 use Rattle.booktext.proofs.Fitting.{added-short}
-use Rattle.booktext.proofs.Spelling.{spells_over, spelt-length, added_more, added-over}
+use Rattle.booktext.proofs.Spelling.{spells_over, added_more, added-over}
 use Rattle.booktext.proofs.sets.put_added.Goals as goal
-
-pub loop-i-init : goal.loop-i-init
-loop-i-init c = λ after r s. s
 
 pub put_more-to-requires : goal.put_more-to-requires
 put_more-to-requires c =
@@ -20,6 +17,3 @@ pub returns : goal.returns
 returns c =
     let entry = c.args in
     spells_over c.loop-i.invariant (added-over entry.t.now entry.name.now entry.cells.now c.loop-i.i c.loop-i-test.false) c.put_none.ensures
-
-pub shape_of-out : goal.shape_of-out
-shape_of-out c = spelt-length (returns c)

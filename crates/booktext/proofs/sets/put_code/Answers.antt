@@ -2,11 +2,8 @@
 use mathlib.Core.List.{map}
 use native.Mathlib.Omega.{arith}
 use Rattle.booktext.specs.Standing.{noted}
-use Rattle.booktext.proofs.Spelling.{spelt_as, spelt-length, code_taken, code_put}
+use Rattle.booktext.proofs.Spelling.{spelt_as, code_taken, code_put}
 use Rattle.booktext.proofs.sets.put_code.Goals as goal
-
-pub is_lessened-requires : goal.is_lessened-requires
-is_lessened-requires c = c.requires.0
 
 pub returns-then-is_lessened : goal.returns-then-is_lessened
 returns-then-is_lessened c =
@@ -17,9 +14,3 @@ pub returns : goal.returns
 returns c =
     let entry = c.args in
     code_put entry.name.now (map (noted entry.t.now) entry.cells.now) entry.code.now c.is_lessened.ensures c.if-is_lessened.false c.put_text.ensures (omega arith)
-
-pub shape_of-out-then-is_lessened : goal.shape_of-out-then-is_lessened
-shape_of-out-then-is_lessened c = spelt-length (returns-then-is_lessened c)
-
-pub shape_of-out : goal.shape_of-out
-shape_of-out c = spelt-length (returns c)

@@ -1,7 +1,7 @@
 -- `booktext::sets::put_line` meets its contract. Assumes nothing.
 use mathlib.Core.List.{map}
 use Rattle.booktext.specs.Standing.{noted}
-use Rattle.booktext.proofs.Spelling.{spelt_as, spelt-length, line-short, line_put, line_other}
+use Rattle.booktext.proofs.Spelling.{spelt_as, line-short, line_put, line_other}
 use Rattle.booktext.proofs.sets.put_line.Goals as goal
 
 pub put_words-requires : goal.put_words-requires
@@ -17,9 +17,3 @@ pub returns : goal.returns
 returns c =
     let entry = c.args in
     spelt_as c.put_none.ensures (line_other entry.t.now entry.line c.verb_at.ensures.0 c.if-verb_at-eq-CODE.false entry.name.now (map (noted entry.t.now) entry.cells.now))
-
-pub shape_of-out-then-verb_at-eq-CODE : goal.shape_of-out-then-verb_at-eq-CODE
-shape_of-out-then-verb_at-eq-CODE c = spelt-length (returns-then-verb_at-eq-CODE c)
-
-pub shape_of-out : goal.shape_of-out
-shape_of-out c = spelt-length (returns c)

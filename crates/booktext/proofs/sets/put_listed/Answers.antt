@@ -5,7 +5,7 @@ use Rattle.grade.specs.Encoding.{each}
 use Rattle.booktext.specs.Changes.{kept}
 use Rattle.booktext.specs.Standing.{body_from, is_short, noted}
 use Rattle.booktext.proofs.Stating.{onward_fewer}
-use Rattle.booktext.proofs.Spelling.{spells_over, spelt_as, spelt-length, listed_start, listed-short-here, listed-short, listed_more, listed-over}
+use Rattle.booktext.proofs.Spelling.{spells_over, spelt_as, listed_start, listed-short-here, listed-short, listed_more, listed-over}
 use Rattle.booktext.proofs.sets.put_listed.Goals as goal
 
 pub loop-at-init : goal.loop-at-init
@@ -35,6 +35,3 @@ pub returns : goal.returns
 returns c =
     let entry = c.args in
     spells_over c.loop-at.invariant.1 (listed-over entry.t.now c.loop-at-test.false entry.name.now (map (noted entry.t.now) entry.cells.now)) c.put_none.ensures
-
-pub shape_of-out : goal.shape_of-out
-shape_of-out c = spelt-length (returns c)

@@ -3,7 +3,7 @@ use mathlib.Core.Path.{ap}
 use mathlib.Core.Bool.{not}
 use Rattle.booktext.proofs.Marking.{part_marks}
 use Rattle.booktext.proofs.Marking.{part_marks}
-use Rattle.booktext.proofs.Spelling.{spelt_as, spelt-length, more_other, more_of_other, more_short, more_put}
+use Rattle.booktext.proofs.Spelling.{spelt_as, more_other, more_of_other, more_short, more_put}
 use Rattle.booktext.proofs.sets.put_more.Goals as goal
 
 pub returns-then-cell-ne-MORE : goal.returns-then-cell-ne-MORE
@@ -25,12 +25,3 @@ pub returns : goal.returns
 returns c =
     let skip = c.skip_words-from in
     more_put c.args.t.now c.args.cells.now c.args.i c.requires.0 c.requires.1 c.args.name.now c.if-cell-ne-MORE.false c.word_of.ensures c.same_bytes.ensures (ap not c.if-not-same_bytes.false) skip.result skip.ensures c.put_words.ensures
-
-pub shape_of-out-then-cell-ne-MORE : goal.shape_of-out-then-cell-ne-MORE
-shape_of-out-then-cell-ne-MORE c = spelt-length (returns-then-cell-ne-MORE c)
-
-pub shape_of-out-then-not-same_bytes : goal.shape_of-out-then-not-same_bytes
-shape_of-out-then-not-same_bytes c = spelt-length (returns-then-not-same_bytes c)
-
-pub shape_of-out : goal.shape_of-out
-shape_of-out c = spelt-length (returns c)

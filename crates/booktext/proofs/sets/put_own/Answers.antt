@@ -1,7 +1,7 @@
 -- `booktext::sets::put_own` meets its contract. Assumes nothing.
 use mathlib.Core.List.{map}
 use Rattle.booktext.specs.Standing.{noted}
-use Rattle.booktext.proofs.Spelling.{spelt_as, spelt-length, own-none, own-short-words, own-short-listed, own_put}
+use Rattle.booktext.proofs.Spelling.{spelt_as, own-none, own-short-words, own-short-listed, own_put}
 use Rattle.booktext.proofs.sets.put_own.Goals as goal
 
 pub returns-then-t-line : goal.returns-then-t-line
@@ -17,9 +17,3 @@ pub returns : goal.returns
 returns c =
     let skip = c.skip_words in
     own_put c.args.t.now c.args.name.now c.requires.1 c.if-t-line.false (map (noted c.args.t.now) c.args.cells.now) skip.result skip.ensures c.put_words-own.ensures c.next_line.ensures c.put_listed.ensures
-
-pub shape_of-out-then-t-line : goal.shape_of-out-then-t-line
-shape_of-out-then-t-line c = spelt-length (returns-then-t-line c)
-
-pub shape_of-out : goal.shape_of-out
-shape_of-out c = spelt-length (returns c)

@@ -22,11 +22,5 @@ returns c =
     let entry = c.args in
     set_put entry.t.now entry.name.now (map (noted entry.t.now) entry.cells.now) entry.out.now c.put_held-count.ensures entry.head c.if-count.false c.put_two-next.ensures c.put_held.ensures
 
-pub shape_of-out-then-count : goal.shape_of-out-then-count
-shape_of-out-then-count c = (returns-then-count c).length
-
 pub put_two-next-requires : goal.put_two-next-requires
 put_two-next-requires c = count_small c.if-count.false
-
-pub shape_of-out : goal.shape_of-out
-shape_of-out c = (returns c).length

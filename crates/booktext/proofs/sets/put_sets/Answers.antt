@@ -11,10 +11,6 @@ pub loop-i-init : goal.loop-i-init
 loop-i-init c =
     let entry = c.args in sets-start entry.t.now entry.head (map (noted entry.t.now) entry.cells.now) entry.names.now entry.out.now entry.at
 
-pub put_set-requires : goal.put_set-requires
-put_set-requires c =
-    let pre = c.requires in (pre.0, pre.1, pre.2, pre.3)
-
 pub returns-in_err-to : goal.returns-in_err-to
 returns-in_err-to c =
     let t = c.args.t.now in
@@ -44,9 +40,3 @@ returns c =
     sets_over t entry.head (map (noted t) entry.cells.now) (names_in t entry.names.now) (names_from t entry.names.now i) c.loop-i.invariant
     (names-over t entry.names.now i c.loop-i-test.false)
     c.put.ensures
-
-pub shape_of-out-in_err-to : goal.shape_of-out-in_err-to
-shape_of-out-in_err-to c = (returns-in_err-to c).length
-
-pub shape_of-out : goal.shape_of-out
-shape_of-out c = (returns c).length

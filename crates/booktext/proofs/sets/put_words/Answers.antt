@@ -2,11 +2,8 @@
 use mathlib.Core.List.{map}
 use Rattle.booktext.specs.Standing.{noted}
 use Rattle.booktext.proofs.Words.{words_fewer}
-use Rattle.booktext.proofs.Spelling.{spells_over, spelt-length, words-short, word-short, words_more, words-over}
+use Rattle.booktext.proofs.Spelling.{spells_over, words-short, word-short, words_more, words-over}
 use Rattle.booktext.proofs.sets.put_words.Goals as goal
-
-pub loop-w-init : goal.loop-w-init
-loop-w-init c = (c.requires.1, λ after r s. s)
 
 pub returns-then-w : goal.returns-then-w
 returns-then-w c =
@@ -26,6 +23,3 @@ loop-w-preserved c =
     let word = c.next_word-w.ensures in
     let some = c.if-w.false in
     ((words-short word some inv.0).1, words_more word entry.name.now (map (noted entry.t.now) entry.cells.now) some c.part.ensures inv.1 c.put_code-to.ensures)
-
-pub shape_of-out-then-w : goal.shape_of-out-then-w
-shape_of-out-then-w c = spelt-length (returns-then-w c)

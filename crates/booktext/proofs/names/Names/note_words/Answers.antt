@@ -1,13 +1,10 @@
 -- `booktext::names::Names::note_words` meets its contract, by the invariant that stands beside this. Assumes nothing.
-use mathlib.Core.Path.{refl, ap}
+use mathlib.Core.Path.{ap}
 use native.Mathlib.Omega.{arith}
 use mathlib.Core.List.{[], ◌∷◌}
 use lib.ListN.{length}
 use Rattle.booktext.proofs.names.Names.note_words.Goals as goal
 use Rattle.booktext.proofs.Naming.{words_noted, words_past, names_on}
-
-pub loop-w-init : goal.loop-w-init
-loop-w-init c = refl
 
 pub returns-then-w : goal.returns-then-w
 returns-then-w c = words_noted _ _ _ c.loop-w.invariant (c.next_word-w.ensures.none c.if-w.true)
