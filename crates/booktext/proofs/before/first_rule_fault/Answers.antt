@@ -4,9 +4,6 @@ use Rattle.booktext.proofs.Telling.{row-some}
 use Rattle.booktext.proofs.Preceding.{fault-told, fault_more, fault-over}
 use Rattle.booktext.proofs.before.first_rule_fault.Goals as goal
 
-pub rule_fault-requires : goal.rule_fault-requires
-rule_fault-requires c = (c.requires.0, c.requires.1, c.loop-i-test.true)
-
 pub returns-in-Some : goal.returns-in-Some
 returns-in-Some c =
     let a = c.args in

@@ -1,5 +1,4 @@
 -- `booktext::before::has_code` meets its contract, by the invariant that stands beside this. Assumes nothing.
-use Rattle.booktext.proofs.Marking.{mark_at}
 use Rattle.booktext.proofs.Preceding.{has-none, has_more, has-over}
 use Rattle.booktext.proofs.before.has_code.Goals as goal
 
@@ -7,9 +6,6 @@ pub loop-cell-init : goal.loop-cell-init
 loop-cell-init c =
     let a = c.args in
     has-none a.t.now a.name.now a.code.now a.cells.now c.has_own-so.ensures
-
-pub has_after-so-requires : goal.has_after-so-requires
-has_after-so-requires c = mark_at c.args.t.now c.args.cells.now c.loop-cell.cell-index c.requires.1 c.loop-cell-test.true
 
 pub loop-cell-preserved : goal.loop-cell-preserved
 loop-cell-preserved c =

@@ -1,5 +1,4 @@
 -- `booktext::before::has_word` meets its contract, by the invariant that stands beside this. Assumes nothing.
-use Rattle.booktext.proofs.Words.{words_fewer}
 use Rattle.booktext.proofs.Preceding.{word_none, word-here, word-later}
 use Rattle.booktext.proofs.before.has_word.Goals as goal
 
@@ -12,9 +11,6 @@ pub returns-then-same_bytes : goal.returns-then-same_bytes
 returns-then-same_bytes c =
     let a = c.args in
     word-here a.t.now a.code.now c.loop-w.i c.loop-w.invariant c.next_word-w.ensures c.if-w.false c.part.ensures c.same_bytes.ensures c.if-same_bytes.true
-
-pub loop-w-smaller : goal.loop-w-smaller
-loop-w-smaller c = words_fewer c.next_word-w.ensures c.if-w.false
 
 pub loop-w-preserved : goal.loop-w-preserved
 loop-w-preserved c =

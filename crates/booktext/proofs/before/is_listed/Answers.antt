@@ -14,15 +14,15 @@ loop-at-init c =
     let a = c.args in
     ap (λ (ss : List Statement). among a.code.now (listed ss)) (found-onward a.t.now (body_from a.t.now) c.next_in_body-at.ensures)
 
-pub returns-then-lists_code : goal.returns-then-lists_code
-returns-then-lists_code c =
-    let a = c.args in
-    list_here a.t.now a.code.now c.loop-at.at c.loop-at.invariant c.loop-at-test.true c.lists_code.ensures c.if-lists_code.true
-
 pub loop-at-smaller : goal.loop-at-smaller
 loop-at-smaller c =
     let a = c.args in
     onward_fewer a.t.now (body_from a.t.now) c.loop-at-test.true c.next_line.ensures c.next_in_body-at-in-loop-at.ensures
+
+pub returns-then-lists_code : goal.returns-then-lists_code
+returns-then-lists_code c =
+    let a = c.args in
+    list_here a.t.now a.code.now c.loop-at.at c.loop-at.invariant c.loop-at-test.true c.lists_code.ensures c.if-lists_code.true
 
 pub loop-at-preserved : goal.loop-at-preserved
 loop-at-preserved c =

@@ -5,11 +5,6 @@ use Rattle.booktext.specs.Standing.{Marked}
 use Rattle.booktext.proofs.Preceding.{fault-place, fault-codes, fault-none, less-here}
 use Rattle.booktext.proofs.before.rule_fault.Goals as goal
 
-pub returns-then-is_placed : goal.returns-then-is_placed
-returns-then-is_placed c =
-    let a = c.args in
-    fault-place a.t.now a.cells.now a.i c.requires.1 c.requires.2 c.is_placed.ensures c.if-is_placed.true c.is_standing.ensures c.place_fault.ensures
-
 pub codes_asked-requires : goal.codes_asked-requires
 codes_asked-requires c =
     let a = c.args in (
@@ -17,6 +12,11 @@ codes_asked-requires c =
       All-take (Marked a.t.now) a.i a.cells.now c.requires.1,
       less-here a.t.now a.cells.now a.i c.requires.1 c.requires.2,
     )
+
+pub returns-then-is_placed : goal.returns-then-is_placed
+returns-then-is_placed c =
+    let a = c.args in
+    fault-place a.t.now a.cells.now a.i c.requires.1 c.requires.2 c.is_placed.ensures c.if-is_placed.true c.is_standing.ensures c.place_fault.ensures
 
 pub returns-then-not-is_codes : goal.returns-then-not-is_codes
 returns-then-not-is_codes c =

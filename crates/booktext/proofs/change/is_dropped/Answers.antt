@@ -1,5 +1,4 @@
 -- `booktext::change::is_dropped` meets its contract, by the invariant that stands beside this. Assumes nothing.
-use mathlib.Core.Path.{refl}
 use Rattle.booktext.proofs.Changing.{drops_more, drops_over}
 use Rattle.booktext.proofs.change.is_dropped.Goals as goal
 
@@ -8,6 +7,3 @@ loop-cell-preserved c = drops_more _ _ c.loop-cell.any _ c.loop-cell.invariant c
 
 pub returns : goal.returns
 returns c = drops_over _ _ _ _ c.loop-cell.invariant c.loop-cell-test.false
-
-pub loop-cell-init : goal.loop-cell-init
-loop-cell-init c = λ t m. refl

@@ -1,9 +1,8 @@
 -- `booktext::change::settle_one` meets its contract. Assumes nothing.
 use mathlib.Core.Path.{ap}
 use mathlib.Core.Bool.{not}
-use mathlib.Core.List.{[]}
 use Rattle.booktext.proofs.Marking.{mark_at, part_marks}
-use Rattle.booktext.proofs.Changing.{settle_other, settle_rule, settle_gone, settle_marked, settle_stays}
+use Rattle.booktext.proofs.Changing.{settle_other, settle_gone, settle_marked, settle_stays}
 use Rattle.booktext.proofs.change.settle_one.Goals as goal
 
 pub returns-then-not-is_rule : goal.returns-then-not-is_rule
@@ -15,12 +14,6 @@ returns-then-is_dropped c =
     let cells = c.args.cells.now in
     let i = c.args.i in
     settle_gone t cells i c.requires.0 c.requires.1 c.is_rule.ensures _ _ (ap not c.if-not-is_rule.false) (c.is_dropped.ensures t (part_marks t cells i c.requires.0)) c.if-is_dropped.true
-
-pub amended-rule-requires : goal.amended-rule-requires
-amended-rule-requires c = (
-  settle_rule c.args.t.now c.args.cells.now c.args.i c.requires.0 c.requires.1 c.is_rule.ensures [] 0 (ap not c.if-not-is_rule.false),
-  part_marks c.args.t.now c.args.cells.now c.args.i c.requires.0,
-)
 
 pub returns : goal.returns
 returns c =

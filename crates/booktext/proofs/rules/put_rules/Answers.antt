@@ -3,10 +3,6 @@ use Rattle.booktext.proofs.Completing.{completes_more, completes_over}
 use Rattle.booktext.proofs.Ruling.{spelt_more, spelt-over, ready_more}
 use Rattle.booktext.proofs.rules.put_rules.Goals as goal
 
-pub put_made-to-requires : goal.put_made-to-requires
-put_made-to-requires c =
-    (ready_more _ _ _ c.loop-cell-test.true c.loop-cell.invariant.0).0
-
 pub loop-cell-preserved : goal.loop-cell-preserved
 loop-cell-preserved c =
     let inv = c.loop-cell.invariant in

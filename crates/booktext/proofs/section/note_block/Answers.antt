@@ -12,13 +12,13 @@ loop-at-init c =
     let a = c.args in
     noting_start a.t.now a.cells.now a.count _ _ (ap (map (give a.letter)) (found-onward a.t.now (body_from a.t.now) c.next_in_body-at.ensures))
 
-pub returns-then-n-gt-STATEMENT_LIMIT : goal.returns-then-n-gt-STATEMENT_LIMIT
-returns-then-n-gt-STATEMENT_LIMIT c = noting_over _ _ _ _ _ _ _ c.loop-at.invariant c.if-n-gt-STATEMENT_LIMIT.true
-
 pub loop-at-smaller : goal.loop-at-smaller
 loop-at-smaller c =
     let a = c.args in
     onward_fewer a.t.now (body_from a.t.now) c.loop-at-test.true c.next_line.ensures c.next_in_body-at-in-loop-at.ensures
+
+pub returns-then-n-gt-STATEMENT_LIMIT : goal.returns-then-n-gt-STATEMENT_LIMIT
+returns-then-n-gt-STATEMENT_LIMIT c = noting_over _ _ _ _ _ _ _ c.loop-at.invariant c.if-n-gt-STATEMENT_LIMIT.true
 
 pub loop-at-preserved : goal.loop-at-preserved
 loop-at-preserved c =

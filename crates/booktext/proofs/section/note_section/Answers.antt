@@ -1,5 +1,5 @@
 -- `booktext::section::note_section` meets its contract, by the invariant that stands beside this. Assumes nothing.
-use mathlib.Core.Path.{ap, ◌∙◌}
+use mathlib.Core.Path.{ap}
 use Rattle.booktext.specs.Lines.{statements}
 use Rattle.booktext.specs.Meaning.{expand}
 use Rattle.booktext.specs.Standing.{body_from}
@@ -12,18 +12,13 @@ loop-at-init c =
     let a = c.args in
     noting_start a.t.now a.cells.now 0 _ _ (ap (expand (statements a.t.now)) (found-onward a.t.now (body_from a.t.now) c.next_in_body-at.ensures))
 
-pub returns-then-n-gt-STATEMENT_LIMIT : goal.returns-then-n-gt-STATEMENT_LIMIT
-returns-then-n-gt-STATEMENT_LIMIT c = noted-all _ _ _ _ _ (noting_over _ _ _ _ _ _ _ c.loop-at.invariant c.if-n-gt-STATEMENT_LIMIT.true)
-
-pub note_both-n-requires : goal.note_both-n-requires
-note_both-n-requires c =
-    let pre = c.requires in
-    (pre.0, c.loop-at.invariant.same ∙ pre.1)
-
 pub loop-at-smaller : goal.loop-at-smaller
 loop-at-smaller c =
     let a = c.args in
     onward_fewer a.t.now (body_from a.t.now) c.loop-at-test.true c.next_line.ensures c.next_in_body-at-in-loop-at.ensures
+
+pub returns-then-n-gt-STATEMENT_LIMIT : goal.returns-then-n-gt-STATEMENT_LIMIT
+returns-then-n-gt-STATEMENT_LIMIT c = noted-all _ _ _ _ _ (noting_over _ _ _ _ _ _ _ c.loop-at.invariant c.if-n-gt-STATEMENT_LIMIT.true)
 
 pub loop-at-preserved : goal.loop-at-preserved
 loop-at-preserved c = section_on _ _ _ _ _ _ c.loop-at.at c.loop-at.invariant c.loop-at-test.true _ _ c.note_both-n.auto.cells c.note_both-n.ensures c.next_line.ensures c.next_in_body-at-in-loop-at.ensures

