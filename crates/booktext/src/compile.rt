@@ -78,7 +78,8 @@ fn put_section(
     first_stray(t, head, cells, &names)?;
     let next = put_front(out, at, t, head, lasting, &names, rules);
     let end = put_sets(out, next, t, heads, rest, head, cells, &names)?;
-    if BOOK_LIMIT < end {
+    let long = BOOK_LIMIT < end;
+    if long {
         return Err(over(t, Row::LongBook, head));
     }
     Ok(end)

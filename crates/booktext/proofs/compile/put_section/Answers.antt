@@ -28,8 +28,8 @@ put_sets-requires c = (c.requires.0, c.requires.3, c.requires.2, c.requires.1)
 pub returns-in_err-end : goal.returns-in_err-end
 returns-in_err-end c = rw (handed-as c.in_err-end.field-0.0 c.from_residual-in_err-end.result c.from_residual-in_err-end.ensures.1) (set_bad _ _ _ _ (lasting_rules c.args.t.now c.args.lasting.now c.args.cells.now c.requires.5 _ (c.count_rules-rules.ensures c.args.t.now c.requires.4)) c.if-rules-gt-RULE_LIMIT.false _ (c.in-Some.ensures ∙ lasting_names c.args.t.now c.args.lasting.now c.args.cells.now c.requires.5) (search rules) c.in_ok-first_stray.ensures refl (lasting_front c.args.t.now c.args.lasting.now c.args.cells.now c.requires.5 c.args.head c.count_rules-rules.result _ c.put_front-next.ensures) c.in_err-end.ensures (row-some c.in_err-end.field-0.0.row))
 
-pub returns-then-end-gt-BOOK_LIMIT : goal.returns-then-end-gt-BOOK_LIMIT
-returns-then-end-gt-BOOK_LIMIT c = book-long _ _ _ _ (lasting_rules c.args.t.now c.args.lasting.now c.args.cells.now c.requires.5 _ (c.count_rules-rules.ensures c.args.t.now c.requires.4)) c.if-rules-gt-RULE_LIMIT.false _ (c.in-Some.ensures ∙ lasting_names c.args.t.now c.args.lasting.now c.args.cells.now c.requires.5) (search rules) c.in_ok-first_stray.ensures refl (lasting_front c.args.t.now c.args.lasting.now c.args.cells.now c.requires.5 c.args.head c.count_rules-rules.result _ c.put_front-next.ensures) c.in_ok-end.ensures refl c.if-end-gt-BOOK_LIMIT.true c.over-then-end-gt-BOOK_LIMIT.ensures
+pub returns-then-long : goal.returns-then-long
+returns-then-long c = book-long _ _ _ _ (lasting_rules c.args.t.now c.args.lasting.now c.args.cells.now c.requires.5 _ (c.count_rules-rules.ensures c.args.t.now c.requires.4)) c.if-rules-gt-RULE_LIMIT.false _ (c.in-Some.ensures ∙ lasting_names c.args.t.now c.args.lasting.now c.args.cells.now c.requires.5) (search rules) c.in_ok-first_stray.ensures refl (lasting_front c.args.t.now c.args.lasting.now c.args.cells.now c.requires.5 c.args.head c.count_rules-rules.result _ c.put_front-next.ensures) c.in_ok-end.ensures refl c.if-long.true c.over-then-long.ensures
 
 pub returns : goal.returns
-returns c = section_put _ _ _ _ (lasting_rules c.args.t.now c.args.lasting.now c.args.cells.now c.requires.5 _ (c.count_rules-rules.ensures c.args.t.now c.requires.4)) c.if-rules-gt-RULE_LIMIT.false _ (c.in-Some.ensures ∙ lasting_names c.args.t.now c.args.lasting.now c.args.cells.now c.requires.5) (search rules) c.in_ok-first_stray.ensures refl (lasting_front c.args.t.now c.args.lasting.now c.args.cells.now c.requires.5 c.args.head c.count_rules-rules.result _ c.put_front-next.ensures) c.in_ok-end.ensures refl c.if-end-gt-BOOK_LIMIT.false
+returns c = section_put _ _ _ _ (lasting_rules c.args.t.now c.args.lasting.now c.args.cells.now c.requires.5 _ (c.count_rules-rules.ensures c.args.t.now c.requires.4)) c.if-rules-gt-RULE_LIMIT.false _ (c.in-Some.ensures ∙ lasting_names c.args.t.now c.args.lasting.now c.args.cells.now c.requires.5) (search rules) c.in_ok-first_stray.ensures refl (lasting_front c.args.t.now c.args.lasting.now c.args.cells.now c.requires.5 c.args.head c.count_rules-rules.result _ c.put_front-next.ensures) c.in_ok-end.ensures refl c.if-long.false
