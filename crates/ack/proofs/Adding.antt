@@ -1,13 +1,13 @@
 -- The laws of `Adds`: one write after the other. Assumes nothing.
 use mathlib.Core.Path.{◌≡◌, refl, sym, subst, ◌∙◌}
 use mathlib.Core.List.{List, [], ◌∷◌, ◌++◌}
-use Prim.Native.Nat.{ℕ, ◌+◌, ◌<◌, ◌≤◌, min}
+use Prim.Native.Nat.{ℕ, ◌<◌, ◌≤◌, min}
 use native.Mathlib.Omega.{arith}
 use lib.ListN.{length}
 use Rattle.ack.specs.Splice.{limit, Wrote}
 use Rattle.ack.specs.Output.{Adds}
 use Rattle.ack.specs.declared.output.Output.{Output}
-use Rattle.ack.proofs.Writing.{◌then◌, wrote_as, wrote_none, wrote-length, wrote_over}
+use Rattle.ack.proofs.Writing.{◌then◌, wrote_as, wrote_none, wrote-length}
 
 -- two writes, one after the other
 infixr 40 ◌next◌
@@ -36,9 +36,9 @@ adds_none o e = record {
       wrote_as (subst (Wrote o.bytes.now o.at [] o.bytes.now) kept (wrote_none o.bytes.now o.at room)) e;
 }
 
--- past the end it is counted alone
-pub adds_over : (o : Output) (xs : List ℕ) (n to : ℕ) → length o.bytes.now ≤ o.at → n ≡ length xs → to ≡ min (o.at + n) limit → Adds o xs (record o { at = to })
-adds_over o xs n to past long ends = record { same = refl; wrote = λ near room. wrote_over o.bytes.now xs o.at n to room past long ends }
+-- bytes past the end, counted alone
+pub adds_passed : (o p : Output) (xs : List ℕ) (n : ℕ) → ((bytes : List ℕ) → length bytes ≡ n → Adds o bytes p) → n ≡ length xs → Adds o xs p
+adds_passed o p xs n passed long = passed xs (sym long)
 
 -- what was lent, once it is given back
 pub wrote_lent : {o p : Output} {xs after : List ℕ} → Adds o xs p → o.at ≤ limit → length o.bytes.now < limit → after ≡ p.bytes.now → Wrote o.bytes.now o.at xs after p.at

@@ -7,19 +7,19 @@ ghost use Rattle.ack.specs.Pieces.{errs, Puts};
 
 use crate::layout::put_err;
 use crate::measure::err_length;
-use crate::output::{Output, advanced};
+use crate::output::Output;
 use grade::finding::Finding;
 use grade::sheet::{Sheet, next_sheet};
 use hl7::place::Delims;
 
 // The ERR of a finding; where nothing of it would fit, its length is all that is asked.
 // A goal is named after its test: found by a lemma, and not by a file that cites the name, it can be proved of another test of the same meaning too.
-#[tactic(auto, using(crate::proofs::Adding::adds_over))]
+#[tactic(auto, using(crate::proofs::Adding::adds_passed))]
 pub(crate) fn put_finding(out: &mut Output<'_>, d: Delims, finding: Finding)
     ensures { Adds out.old (ended (err_line d finding)) out.new }
 {
     if out.bytes.len() <= out.at {
-        out.at = advanced(out.at, err_length(finding));
+        out.pass(err_length(finding));
     } else {
         // copied only here, so that a finding which is only measured does not go through memory
         let marks = d;

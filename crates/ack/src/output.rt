@@ -2,7 +2,6 @@
 // `requires`, so that a caller has nothing to show.
 ghost use Rattle.std.specs.Prelude.{◌≡◌, ◌∷◌, [], ◌+◌, ◌-◌, ◌<◌, ◌≤◌, min, length};
 ghost use Rattle.ack.specs.Splice.{Wrote, limit};
-ghost use Rattle.ack.specs.Output.{Adds};
 ghost use Rattle.ack.specs.Decimal.{decimal, digit};
 
 // No index of an output reaches this one.
@@ -46,14 +45,20 @@ pub fn put(out: &mut [u8], at: usize, bytes: &[u8]) -> usize
     next
 }
 
-// An output that the caller lends, and where in it the next byte goes.
+// An output that the caller lends, and where in it the next byte goes, counted up to LIMIT.
 #[derive(Drop)]
 pub struct Output<'a> {
     pub bytes: &'a mut [u8],
     pub at: usize,
+    ghost counted: { at ≤ limit },
 }
 
 impl Output<'_> {
+    ghost use Rattle.std.specs.Prelude.{◌≡◌, List, ◌∷◌, [], ℕ, ◌<◌, ◌≤◌, length};
+    ghost use Rattle.ack.specs.Splice.{limit};
+    ghost use Rattle.ack.specs.Output.{Adds};
+    ghost use Rattle.ack.specs.Decimal.{decimal};
+
     // One byte.
     pub fn put_byte(&mut self, byte: u8)
         ensures { Adds self.old (byte ∷ []) self.new }
@@ -66,6 +71,14 @@ impl Output<'_> {
         ensures { Adds self.old bytes.now self.new }
     {
         self.at = put(self.bytes, self.at, bytes);
+    }
+
+    // So many bytes past the end, which are counted alone.
+    pub(crate) fn pass(&mut self, count: usize)
+        requires { (length self.old.bytes.now ≤ self.old.at) × (count < limit) }
+        ensures { (bytes : List ℕ) → length bytes ≡ count → Adds self.old bytes self.new }
+    {
+        self.at = advanced(self.at, count);
     }
 
     // n in decimal notation.

@@ -84,6 +84,7 @@ fn put_new_section(out: &mut Output<'_>, old: &[u8], olds: &[usize], new: &[u8],
     }
 }
 
+// A loop beside that over the old ones: one over a closure would be as long, and its contract longer.
 fn put_new_sections(out: &mut Output<'_>, old: &[u8], olds: &[usize], new: &[u8], news: &[usize])
     requires { (all (stands_at old.now) olds.now ≡ true) × (all (stands_at new.now) news.now ≡ true) }
     ensures { Adds out.old (printed (flat_map (new_section (map (contents_at old.now) olds.now)) (map (contents_at new.now) news.now))) out.new }

@@ -139,6 +139,7 @@ fn severity_of(letter: u8) -> Option<Severity>
     }
 }
 
+// Its letter. A function, as `error_code` is: `From` would have to say the same by another word.
 pub fn severity_letter(severity: Severity) -> u8
     ensures { result ≡ severity_letter severity }
 {

@@ -38,7 +38,7 @@ fn all_plain(letters: &[u8]) -> bool
     every
 }
 
-// The text whose length byte stands at a position.
+// The text whose length byte stands at a position. That it fits is asked for: a type that holds it would be book and position again, made by every caller.
 pub fn text_part(book: &[u8], at: usize) -> &[u8]
     requires { TextFits book.now at }
     ensures { result.now ≡ text_at book.now at }

@@ -96,7 +96,7 @@ pub fn segment(m: &[u8], n: usize) -> &[u8]
     &m[at.start..at.end]
 }
 
-// Which part of a segment a field is: none, the bar after the name MSH, or a part by its number.
+// Which part of a segment a field is: none, the bar after the name MSH, or a part by its number. Three ways, and not the two of an Option.
 #[derive(Clone, Copy)]
 enum FieldAt {
     Missing,
