@@ -30,14 +30,12 @@ fn is_allowed(x: u8) -> bool
 fn wrong_at(t: &[u8]) -> usize
     ensures { result ≡ wrong_at t.now }
 {
-    let mut i = 0;
-    while i < t.len() {
+    for i in 0..t.len() {
         if !is_allowed(t[i]) {
             return i;
         }
-        i += 1;
     }
-    i
+    t.len()
 }
 
 // Rows 31 and 32.

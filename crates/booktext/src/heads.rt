@@ -52,13 +52,10 @@ pub(crate) fn seek_head(t: &[u8], heads: &[usize], rest: usize, verb: u8, name: 
     requires { Heads t.now heads.now rest × (within 2 4 verb ≡ true) }
     ensures { Finds t.now (from verb name.now (statements t.now)) (left t.now (next_line t.now result)) result }
 {
-    let mut i = 0;
-    while i < heads.len() {
-        let at = heads[i];
+    for &at in heads {
         if is_of(t, at, verb, name) {
             return at;
         }
-        i += 1;
     }
     seek(t, rest, verb, name)
 }

@@ -24,28 +24,24 @@ fn is_dark(x: u8) -> bool
 pub fn past_blanks(t: &[u8], from: usize) -> usize
     ensures { result ≡ from + length (run blank (drop from t.now)) }
 {
-    let mut i = from;
-    while i < t.len() {
+    for i in from..t.len() {
         if !is_blank(t[i]) {
             return i;
         }
-        i += 1;
     }
-    i
+    from.max(t.len())
 }
 
 // Where the word that begins at from ends.
 fn word_end(t: &[u8], from: usize) -> usize
     ensures { result ≡ from + length (run dark (drop from t.now)) }
 {
-    let mut i = from;
-    while i < t.len() {
+    for i in from..t.len() {
         if !is_dark(t[i]) {
             return i;
         }
-        i += 1;
     }
-    i
+    from.max(t.len())
 }
 
 // The first word at a position or later.
@@ -72,10 +68,8 @@ pub fn skip_words(t: &[u8], at: usize, count: usize) -> usize
     ensures { words_from t.now result ≡ drop count (words_from t.now at) }
 {
     let mut i = at;
-    let mut left = count;
-    while 0 < left {
+    for _ in 0..count {
         i = next_word(t, i).end;
-        left -= 1;
     }
     i
 }
@@ -109,10 +103,8 @@ pub(crate) fn line_of(t: &[u8], at: usize) -> usize
 {
     let before = front(t, at);
     let mut line = 1;
-    let mut i = 0;
-    while i < before.len() {
-        line = pick(before[i] == 10, line + 1, line);
-        i += 1;
+    for x in before {
+        line = pick(*x == 10, line + 1, line);
     }
     line
 }

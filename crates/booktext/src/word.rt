@@ -156,10 +156,8 @@ fn all_plain(w: &[u8]) -> bool
     ensures { result ≡ all plain w.now }
 {
     let mut plain = true;
-    let mut i = 0;
-    while i < w.len() {
-        plain = plain & is_plain(w[i]);
-        i += 1;
+    for x in w {
+        plain &= is_plain(*x);
     }
     plain
 }

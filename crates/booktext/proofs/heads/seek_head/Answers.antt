@@ -2,20 +2,20 @@
 use Rattle.booktext.proofs.Heading.{head-here, head_on, head-over}
 use Rattle.booktext.proofs.heads.seek_head.Goals as goal
 
-pub loop-i-init : goal.loop-i-init
-loop-i-init c = c.requires.0.whole c.args.verb c.args.name.now c.requires.1
+pub loop-at-init : goal.loop-at-init
+loop-at-init c = c.requires.0.whole c.args.verb c.args.name.now c.requires.1
 
 pub returns-then-is_of : goal.returns-then-is_of
 returns-then-is_of c =
     let a = c.args in
-    head-here a.t.now a.heads.now a.rest a.verb a.name.now c.loop-i.i c.loop-i.invariant c.loop-i-test.true c.is_of.ensures c.requires.0 c.if-is_of.true
+    head-here a.t.now a.heads.now a.rest a.verb a.name.now c.loop-at.at-index c.loop-at.invariant c.loop-at-test.true c.is_of.ensures c.requires.0 c.if-is_of.true
 
-pub loop-i-preserved : goal.loop-i-preserved
-loop-i-preserved c =
+pub loop-at-preserved : goal.loop-at-preserved
+loop-at-preserved c =
     let a = c.args in
-    head_on a.t.now a.heads.now a.rest a.verb a.name.now c.loop-i.i c.loop-i.invariant c.loop-i-test.true c.is_of.ensures c.if-is_of.false
+    head_on a.t.now a.heads.now a.rest a.verb a.name.now c.loop-at.at-index c.loop-at.invariant c.loop-at-test.true c.is_of.ensures c.if-is_of.false
 
 pub returns : goal.returns
 returns c =
     let a = c.args in
-    head-over a.t.now a.heads.now a.rest a.verb a.name.now c.loop-i.i c.loop-i.invariant c.loop-i-test.false c.seek.ensures
+    head-over a.t.now a.heads.now a.rest a.verb a.name.now c.loop-at.at-index c.loop-at.invariant c.loop-at-test.false c.seek.ensures

@@ -4,11 +4,11 @@ use Rattle.hl7.proofs.Comparing.{all-gathered, all-over}
 use Rattle.grade.specs.Book.{plain}
 use Rattle.booktext.proofs.word.all_plain.Goals as goal
 
-pub loop-i-init : goal.loop-i-init
-loop-i-init c = refl
+pub loop-x-init : goal.loop-x-init
+loop-x-init c = refl
 
-pub loop-i-preserved : goal.loop-i-preserved
-loop-i-preserved c = rw c.is_plain-plain.ensures (c.loop-i.invariant ∙ all-gathered plain c.args.w.now c.loop-i.i c.loop-i.plain c.loop-i-test.true)
+pub loop-x-preserved : goal.loop-x-preserved
+loop-x-preserved c = rw c.is_plain-plain.ensures (c.loop-x.invariant ∙ all-gathered plain c.args.w.now c.loop-x.x-index c.loop-x.plain c.loop-x-test.true)
 
 pub returns : goal.returns
-returns c = sym (c.loop-i.invariant ∙ all-over plain _ _ _ c.loop-i-test.false)
+returns c = sym (c.loop-x.invariant ∙ all-over plain _ _ _ c.loop-x-test.false)
