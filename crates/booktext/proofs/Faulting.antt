@@ -5,31 +5,39 @@ use mathlib.Core.List.{List, [], ◌∷◌}
 use Prim.Native.Nat.{ℕ, suc, ◌+◌, ◌≤◌, ◌<◌}
 use native.Mathlib.Omega.{arith}
 use lib.Dec.{eqb}
-use lib.ListN.{length, get_or, drop, drop_of_length-le}
-use borrow.Author.Tests.{eqb-true, eqb-false, not-true, not-false, eq-eqb, ne_eqb, lt-ltb, le-ltb}
-use Rattle.hl7.specs.Cut.{ahead}
-use Rattle.hl7.proofs.Comparing.{rest_at}
+use lib.ListN.{length, drop}
+use borrow.Author.Tests.{eqb-true, eqb-false, eq-eqb, ne_eqb, lt-ltb, le-ltb}
+use Rattle.std.specs.Option.{unwrap_or}
+use Rattle.std.specs.List.{position_from}
+use Rattle.std.specs.Prelude.{Some}
+use Rattle.hl7.specs.Cut.{ahead, part_at}
 use Rattle.grade.specs.Encoding.{each, text_fits}
 use Rattle.booktext.specs.Lines.{Statement, word, verb, cut_at, statements, line_of, text_limit, of_codes, a_set, a_code}
 use Rattle.booktext.specs.Faults.{tell, nothing, may_stand, inside, count_right, version_right, key_right, codes_right, place_right, kind_right, severity_right, before_bound, bound_right, fault_of, first_fault}
-use Rattle.booktext.specs.Refusals.{allowed, wrong_at, bytes_told}
+use Rattle.booktext.specs.Refusals.{allowed, forbidden, wrong_at, bytes_told}
 use Rattle.booktext.specs.Standing.{statement_at, next_line, left, Finds, sound}
 use Rattle.booktext.proofs.Stating.{left-start, onward, onward-none, onward-some, onward_step, found-onward}
 
 -- ---- rows 31 and 32
-module _ (t : List ℕ) (i : ℕ) where
-  module _ {right : Bool} (h : i < length t) (is : right ≡ allowed (get_or t i 0)) where
-    pub wrong_here : not right ≡ true → i + wrong_at (drop i t) ≡ i
-    unfolding cut_at ahead
-    wrong_here e = rw (rest_at t i h, ← is, not-true right e) (omega arith)
+-- in the library's words, from position `at` on
+wrong_on : (at : ℕ) (t : List ℕ) → unwrap_or (position_from (λ x. not (allowed x)) at t) (at + length t) ≡ at + wrong_at t
+unfolding cut_at ahead
+wrong_on at [] = refl
+wrong_on at (x ∷ t) = by (not (allowed x)) (wrong_on (at + 1) t)
+  where
+    by : (b : Bool) → unwrap_or (position_from (λ y. not (allowed y)) (at + 1) t) (at + 1 + length t) ≡ at + 1 + wrong_at t
+        → unwrap_or (cond b (Some at) (position_from (λ y. not (allowed y)) (at + 1) t)) (at + length (x ∷ t)) ≡ at + length (part_at (ahead b x (cut_at forbidden t)) 0)
+    by true ih = omega arith
+    by false ih =
+        let longer : at + length (x ∷ t) ≡ at + 1 + length t = omega arith in
+        let later : at + 1 + wrong_at t ≡ at + suc (wrong_at t) = omega arith in
+        ap (unwrap_or (position_from (λ y. not (allowed y)) (at + 1) t)) longer ∙ ih ∙ later
 
-    pub wrong_later : not right ≡ false → i + wrong_at (drop i t) ≡ i + 1 + wrong_at (drop (i + 1) t)
-    unfolding cut_at ahead
-    wrong_later e = rw (rest_at t i h, ← is, not-false right e) (omega arith)
-
-  pub wrong_past : length t ≤ i → i + wrong_at (drop i t) ≡ i
-  unfolding cut_at
-  wrong_past h = rw (drop_of_length-le t h) (omega arith)
+pub wrong_found : (t : List ℕ) → unwrap_or (position_from (λ x. not (allowed x)) 0 t) (length t) ≡ wrong_at t
+wrong_found t =
+    let whole : length t ≡ 0 + length t = omega arith in
+    let here : 0 + wrong_at t ≡ wrong_at t = omega arith in
+    ap (unwrap_or (position_from (λ x. not (allowed x)) 0 t)) whole ∙ wrong_on 0 t ∙ here
 
 module _ (t : List ℕ) where
   pub told-long : text_limit < length t → tell 31 0 0 ≡ bytes_told t

@@ -10,12 +10,14 @@ use lib.Dec.{eqb}
 use lib.ListN.{length, get_or, take, drop, length-drop, length-append, drop_of_length-le}
 use lib.Seq.{take-append_seam, drop-drop, get_or-drop}
 use borrow.Author.Tests.{eqb-true, not-true, not-false}
+use Rattle.std.proofs.Common.{count_by}
+use Rattle.std.proofs.lemmas.List.Recursion.{is_count_by}
 use Rattle.hl7.specs.Bytes.{all}
 use Rattle.hl7.specs.Cut.{ahead, cut, part_at}
 use Rattle.hl7.specs.Spans.{between, occurrences}
 use Rattle.hl7.specs.declared.cut.Span.{Span}
 use Rattle.grade.specs.Encoding.{each}
-use Rattle.hl7.proofs.Comparing.{and_both, or_neither, all_as, rest_at, occurs_more}
+use Rattle.hl7.proofs.Comparing.{and_both, or_neither, all_as, rest_at}
 use Rattle.booktext.specs.Lines.{line_feed, bar, said, line_of, blank, cut_at, filled, words_in}
 use Rattle.booktext.specs.Standing.{ends, dark, run, words_from, span_bytes, NextWord}
 
@@ -334,17 +336,19 @@ pub words-few : (t : List ℕ) (at : ℕ) → length (words_from t at) ≤ lengt
 unfolding words_from
 words-few t at = omega (arith, words-within (first ends (drop at t)), first-within ends (drop at t), length-drop at t)
 
--- ---- the line of a position, LF by LF
+-- ---- the line of a position
 pub line-start : (t : List ℕ) (at : ℕ) {before : List ℕ} → before ≡ take at t → line_of t at ≡ 1 + occurrences line_feed before
 unfolding line_of
 line-start t at e = omega (arith, ap (occurrences line_feed) e)
 
-pub line_more : (v : List ℕ) (i line : ℕ) {r : ℕ} → i < length v → r ≡ cond (eqb (get_or v i 0) line_feed) (line + 1) line → (r ≤ line + 1) × (line + occurrences line_feed (drop i v) ≡ r + occurrences line_feed (drop (i + 1) v))
-line_more v i line {r} h e = by (eqb (get_or v i 0) line_feed) e (occurs_more line_feed v i h)
+-- in the library's words
+pub feeds_counted : (s : List ℕ) → occurrences line_feed s ≡ count_by (λ x. eqb x line_feed) s
+unfolding occurrences
+feeds_counted s = is_count_by (occurrences line_feed) (λ x. eqb x line_feed) refl (λ x xs. by (eqb x line_feed) (occurrences line_feed xs)) s
   where
-    by : (b : Bool) → r ≡ cond b (line + 1) line → occurrences line_feed (drop i v) ≡ cond b 1 0 + occurrences line_feed (drop (i + 1) v) → (r ≤ line + 1) × (line + occurrences line_feed (drop i v) ≡ r + occurrences line_feed (drop (i + 1) v))
-    by true f g = (omega arith, omega arith)
-    by false f g = (omega arith, omega arith)
+    by : (b : Bool) (n : ℕ) → cond b 1 0 + n ≡ cond b (1 + n) n
+    by true n = refl
+    by false n = omega arith
 
 -- the measure of a loop over words
 pub words_fewer : {t : List ℕ} {at : ℕ} {r : Span} → NextWord t at r → r.start < r.end → length (words_from t r.end) < length (words_from t at)

@@ -30,12 +30,7 @@ fn is_allowed(x: u8) -> bool
 fn wrong_at(t: &[u8]) -> usize
     ensures { result ≡ wrong_at t.now }
 {
-    for i in 0..t.len() {
-        if !is_allowed(t[i]) {
-            return i;
-        }
-    }
-    t.len()
+    t.iter().position(|x| !is_allowed(*x)).unwrap_or(t.len())
 }
 
 // Rows 31 and 32.

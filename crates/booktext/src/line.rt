@@ -3,7 +3,7 @@ ghost use Rattle.std.specs.Prelude.{◌≡◌, [], ◌+◌, ◌≤◌, length, g
 ghost use Rattle.booktext.specs.Lines.{blank, line_of};
 ghost use Rattle.booktext.specs.Standing.{dark, run, words_from, span_bytes, NextWord};
 
-use hl7::bytes::{after, front, pick};
+use hl7::bytes::{after, front};
 use hl7::cut::Span;
 
 // Blank, tab or CR.
@@ -101,10 +101,5 @@ pub(crate) fn count_words(t: &[u8], at: usize) -> usize
 pub(crate) fn line_of(t: &[u8], at: usize) -> usize
     ensures { result ≡ line_of t.now at }
 {
-    let before = front(t, at);
-    let mut line = 1;
-    for x in before {
-        line = pick(*x == 10, line + 1, line);
-    }
-    line
+    1 + front(t, at).iter().filter(|x| **x == 10).count()
 }
