@@ -26,7 +26,7 @@ use Rattle.ack.specs.Layout.{letter, verdict, err_line, ended, ack_bytes}
 use Rattle.ack.specs.Answers.{Outcome, outcome, by_rows, short_row, ack_of, Gives}
 use Rattle.ack.specs.Records.{range_row, write_records, write_from}
 use Rattle.ack.specs.Pieces.{errs, short_or}
-use Rattle.ack.specs.Drafts.{weightless, weighed_by, weigh_all}
+use Rattle.ack.specs.Weights.{weightless, weighed_by, weigh_all}
 use Rattle.ack.specs.declared.write.Weight.{Weight}
 use Rattle.ack.proofs.Sizes.{err_alike, errs-short}
 use Rattle.ack.proofs.Answering.{table-append}

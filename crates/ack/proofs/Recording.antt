@@ -7,7 +7,7 @@ use lib.ListN.{length, get_or, drop, drop_of_length-le}
 use lib.Seq.{drop-cons}
 use Rattle.grade.specs.declared.finding.Finding.{Finding}
 use Rattle.ack.specs.Records.{blank}
-use Rattle.ack.specs.Drafts.{weighed_by, weigh_all}
+use Rattle.ack.specs.Weights.{weighed_by, weigh_all}
 use Rattle.ack.specs.declared.write.Weight.{Weight}
 
 next_at : (xs : List Finding) (i : ℕ) → i < length xs → drop i xs ≡ get_or xs i blank ∷ drop (i + 1) xs

@@ -5,5 +5,5 @@ pub mod Answers
 pub mod Lamp
 pub mod Records
 pub mod Pieces
-pub mod Drafts
+pub mod Weights
 pub mod Output

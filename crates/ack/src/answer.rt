@@ -21,7 +21,8 @@ use grade::sheet::first_sheet;
 use grade::step::Terms;
 use hl7::place::{MSH_PLACES, note_fields, segment};
 
-// The ACK of a message that is graded, where it fits: its findings are gone through once to measure, and once more to write.
+// The ACK of a message that is graded, where it fits: its findings are gone through once to measure, and once more to write. They come by sheets, and in
+// `write::put_ack` as a slice that was weighed.
 fn answer_listed(
     out: &mut [u8],
     by: Terms,

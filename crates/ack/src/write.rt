@@ -8,7 +8,7 @@ ghost use Rattle.ack.specs.Answers.{ack_of, Gives};
 ghost use Rattle.ack.specs.Pieces.{errs, short_or};
 ghost use Rattle.ack.specs.Splice.{limit, Wrote};
 ghost use Rattle.ack.specs.Records.{write_from};
-ghost use Rattle.ack.specs.Drafts.{weightless, weighed_by, weigh_all};
+ghost use Rattle.ack.specs.Weights.{weightless, weighed_by, weigh_all};
 
 use crate::errs::put_each;
 use crate::layout::{letter_of, put_heading};

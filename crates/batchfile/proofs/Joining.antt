@@ -120,9 +120,6 @@ module _ (f : List ℕ) (at count : ℕ) (book stamp : List ℕ) (control : ℕ)
     writes_ok (Err refusal) out' counted is = absurd (writes_some refusal out' counted is)
 
     module _ {number n : ℕ} {out' : List ℕ} (counted : number ≡ control + k) (is : AnsweredAt (between f from r) book stamp number out to n out') where
-      pub put_small : to + n < limit
-      put_small = omega (arith, is.room, is.wrote.room)
-
       w : Wrote out to (ack_for (between f from r) book stamp (control + k)) out' (to + n)
       w = subst (λ (c : ℕ). Wrote out to (ack_for (between f from r) book stamp c) out' (to + n)) counted is.wrote
 
@@ -152,11 +149,6 @@ module _ (f : List ℕ) (at count : ℕ) (book stamp : List ℕ) (control : ℕ)
     pub refused : refused_from book stamp 1 (messages_at f at) ≡ refused_from book stamp (k + 1) (messages_at f from)
     pub acks : acks_from book stamp control (messages_at f at) ≡ take to room ++ acks_from book stamp (control + k) (messages_at f from)
 
-  pub keeping_none : (room : List ℕ) → Starts f at count → Keeping at 0 0 room
-  keeping_none room s =
-      let same : control ≡ control + 0 = omega arith in
-      record { walked = walked_none f at count s; within = omega arith; refused = refl; acks = ap (λ (c : ℕ). acks_from book stamp c (messages_at f at)) same }
-
   pub keeping_ends : (from k to : ℕ) (room : List ℕ) → Keeping from k to room → Keeps f at count book stamp control room (record { from = from; count = k; to = to })
   keeping_ends from k to room p =
       let w = p.walked in
@@ -167,10 +159,6 @@ module _ (f : List ℕ) (at count : ℕ) (book stamp : List ℕ) (control : ℕ)
         refused = p.refused;
         acks = p.acks;
       }
-
-  -- an answer that is none leaves the room as it was
-  pub keeping_stop : (from k to : ℕ) (room room' : List ℕ) → Keeping from k to room → room' ≡ room → Keeps f at count book stamp control room' (record { from = from; count = k; to = to })
-  keeping_stop from k to room room' p same = subst (λ (l : List ℕ). Keeps f at count book stamp control l (record { from = from; count = k; to = to })) (sym same) (keeping_ends from k to room p)
 
   module _ (from k to : ℕ) (room : List ℕ) (r : ℕ) {number n : ℕ} {room' : List ℕ} (p : Keeping from k to room) (more : k < count) (e : MessageEnds f from r) (counted : number ≡ control + k)
       (is : AnsweredAt (between f from r) book stamp number room to n room') where

@@ -143,17 +143,6 @@ module _ (f : List ℕ) (at count : ℕ) (book stamp : List ℕ) (control : ℕ)
     pub fits : total ≤ from * 2 ^ 32
     pub all : length (messages_at f at) ≡ count
 
-  pub measuring_none : Starts f at count → Measuring at 0 0
-  measuring_none s =
-      let same : control ≡ control + 0 = omega arith in
-      record {
-        walked = walked_none f at count s;
-        refused = refl;
-        lengths = omega (arith, ap (λ (c : ℕ). length (acks_from book stamp c (messages_at f at))) same);
-        fits = omega arith;
-        all = s.messages;
-      }
-
   pub measuring_done : (from k total : ℕ) → Measuring from k total → count ≤ k → Totals (messages_at f at) book stamp control total
   measuring_done from k total p h =
       let over = walked_all f count from k p.walked h in

@@ -10,8 +10,6 @@ use lib.Dec.{eqb}
 use lib.ListN.{length, get_or, take, drop, length-drop, length-append, drop_of_length-le}
 use lib.Seq.{take-append_seam, drop-drop, get_or-drop}
 use borrow.Author.Tests.{eqb-true, not-true, not-false}
-use Rattle.std.proofs.Common.{count_by}
-use Rattle.std.proofs.lemmas.List.Recursion.{is_count_by}
 use Rattle.hl7.specs.Bytes.{all}
 use Rattle.hl7.specs.Cut.{ahead, cut, part_at}
 use Rattle.hl7.specs.Spans.{between, occurrences}
@@ -340,15 +338,6 @@ words-few t at = omega (arith, words-within (first ends (drop at t)), first-with
 pub line-start : (t : List ℕ) (at : ℕ) {before : List ℕ} → before ≡ take at t → line_of t at ≡ 1 + occurrences line_feed before
 unfolding line_of
 line-start t at e = omega (arith, ap (occurrences line_feed) e)
-
--- in the library's words
-pub feeds_counted : (s : List ℕ) → occurrences line_feed s ≡ count_by (λ x. eqb x line_feed) s
-unfolding occurrences
-feeds_counted s = is_count_by (occurrences line_feed) (λ x. eqb x line_feed) refl (λ x xs. by (eqb x line_feed) (occurrences line_feed xs)) s
-  where
-    by : (b : Bool) (n : ℕ) → cond b 1 0 + n ≡ cond b (1 + n) n
-    by true n = refl
-    by false n = omega arith
 
 -- the measure of a loop over words
 pub words_fewer : {t : List ℕ} {at : ℕ} {r : Span} → NextWord t at r → r.start < r.end → length (words_from t r.end) < length (words_from t at)

@@ -9,7 +9,8 @@ use crate::line::{skip_words, word_of};
 use crate::statement::verb_at;
 use crate::word::{CODE_KIND, is_placed, is_rule, kind_number, place_in};
 
-// Where its line begins, the severity that it was given, else 0, and where another line begins that has its bound; its verb, and the place and kind that it speaks of.
+// Where its line begins, the severity that it was given, else 0, and where another line begins that has its bound; its verb, and the place and kind that it
+// speaks of.
 #[derive(Clone, Copy)]
 pub struct Cell {
     pub line: usize,

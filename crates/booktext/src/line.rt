@@ -1,5 +1,5 @@
 // Words of what a line says, from a position on. These functions are total, so that whoever calls them has nothing to show.
-ghost use Rattle.std.specs.Prelude.{◌≡◌, [], ◌+◌, ◌≤◌, length, get_or, drop};
+ghost use Rattle.std.specs.Prelude.{◌≡◌, ℕ, Bool, [], ◌+◌, ◌≤◌, ◌<◌, length, get_or, drop};
 ghost use Rattle.booktext.specs.Lines.{blank, line_of};
 ghost use Rattle.booktext.specs.Standing.{dark, run, words_from, span_bytes, NextWord};
 
@@ -20,28 +20,31 @@ fn is_dark(x: u8) -> bool
     !(is_blank(x) | ((x == 10) | (x == 124)))
 }
 
-// Where the blanks that begin at from end.
-pub fn past_blanks(t: &[u8], from: usize) -> usize
-    ensures { result ≡ from + length (run blank (drop from t.now)) }
+// Where the bytes that pass a test and begin at from end.
+fn run_end<F: Fn(u8) -> bool>(t: &[u8], from: usize, test: F) -> usize
+    requires { F.IsAlwaysCallable test }
+    ensures { (p : ℕ → Bool) → ((x : ℕ) (b : Bool) → x < 256 → F.post test x b → b ≡ p x) → result ≡ from + length (run p (drop from t.now)) }
 {
     for i in from..t.len() {
-        if !is_blank(t[i]) {
+        if !test(t[i]) {
             return i;
         }
     }
     from.max(t.len())
 }
 
+// Where the blanks that begin at from end.
+pub fn past_blanks(t: &[u8], from: usize) -> usize
+    ensures { result ≡ from + length (run blank (drop from t.now)) }
+{
+    run_end(t, from, is_blank)
+}
+
 // Where the word that begins at from ends.
 fn word_end(t: &[u8], from: usize) -> usize
     ensures { result ≡ from + length (run dark (drop from t.now)) }
 {
-    for i in from..t.len() {
-        if !is_dark(t[i]) {
-            return i;
-        }
-    }
-    from.max(t.len())
+    run_end(t, from, is_dark)
 }
 
 // The first word at a position or later.

@@ -187,7 +187,7 @@ fn put_rule(out: &mut Output<'_>, key: &[u8], again: bool, rule: Rule)
     out.put_byte(LINE_FEED);
 }
 
-// A kind's number in a book.
+// A kind's number in a book: its cases carry values, so that none has a number of its own.
 fn kind_byte(kind: Kind) -> u8
     ensures { (result ≡ kind_byte kind) × (result ≤ 6) }
 {

@@ -35,21 +35,6 @@ module _ (rules : List Rule) (i : ℕ) (noted : List ℕ) where
   noted-all {count} many at e =
       ap (λ (n : ℕ). take n noted) (sym at) ∙ e ∙ take_all i (spots rules) (omega (arith, length-map rules rule_spot))
 
--- ---- counted
--- in the library's words
-pub counted : (spot : ℕ) (noted : List ℕ) → occurrences spot noted ≡ count_by (λ x. eqb x spot) noted
-unfolding occurrences
-counted spot noted = is_count_by (occurrences spot) (λ x. eqb x spot) refl (λ x xs. by (eqb x spot) (occurrences spot xs)) noted
-  where
-    by : (b : Bool) (n : ℕ) → cond b 1 0 + n ≡ cond b (1 + n) n
-    by true n = refl
-    by false n = omega arith
-
--- one, where one was passed
-pub one_if : (b : Bool) → bool_byte b ≡ cond b 1 0
-one_if true = refl
-one_if false = refl
-
 -- ---- found
 module _ (noted : List ℕ) (spot i : ℕ) where
   -- what is left of the search at i

@@ -11,6 +11,8 @@ use lib.Dec.{eqb}
 use lib.ListN.{length, get_or, take, drop, length-drop, drop_of_length-le}
 use lib.Seq.{drop-cons, get_or-drop, take_all, take-nil, slice}
 use borrow.Author.Tests.{eq-eqb, ne_eqb, eqb-true, eqb-false, not-true}
+use Rattle.std.proofs.Common.{count_by}
+use Rattle.std.proofs.lemmas.List.Recursion.{is_count_by}
 use Rattle.std.specs.Cmp.Lexicographic.{pointwise}
 use Rattle.std.specs.Int.{from_bool}
 use Rattle.std.specs.List.{starts_with}
@@ -40,6 +42,15 @@ and_both false u e = absurd (true≢false (sym e))
 pub picked_most : (test : Bool) (one other r : ℕ) → r ≡ cond test one other → r ≤ max one other
 picked_most true one other r e = omega (arith, e)
 picked_most false one other r e = omega (arith, e)
+
+-- how often a number stands in a list, in the library's words
+pub occurs_counted : (d : ℕ) (s : List ℕ) → occurrences d s ≡ count_by (λ x. eqb x d) s
+unfolding occurrences
+occurs_counted d s = is_count_by (occurrences d) (λ x. eqb x d) refl (λ x xs. by (eqb x d) (occurrences d xs)) s
+  where
+    by : (b : Bool) (n : ℕ) → cond b 1 0 + n ≡ cond b (1 + n) n
+    by true n = refl
+    by false n = omega arith
 
 -- a test, as a number to count with
 pub counted_test : (test : Bool) (r : ℕ) → r ≡ from_bool test → r ≡ cond test 1 0

@@ -19,7 +19,7 @@ pub fn is_within(b: u8, low: u8, high: u8) -> bool
     (low <= b) & (b <= high)
 }
 
-// The byte at a position, 0 past the end.
+// The byte at a position, 0 past the end: the library's word, with the contract that callers need.
 pub fn byte_at(v: &[u8], at: usize) -> u8
     ensures { result ≡ get_or v.now at 0 }
 {

@@ -7,7 +7,8 @@ use crate::cut::Span;
 use crate::place::{delims_of, in_message};
 use crate::refusal::is_sound;
 
-// Where a place stands in a message: nowhere, at its start, where refusals 1 to 5 apply. Its four numbers stand alone: so the call for other languages has them.
+// Where a place stands in a message: nowhere, at its start, where refusals 1 to 5 apply. Its four numbers stand alone, as the call for other languages has
+// them.
 pub fn locate_span(
     m: &[u8],
     segment: usize,

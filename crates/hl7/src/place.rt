@@ -88,7 +88,7 @@ fn segment_span(m: &[u8], n: usize) -> Span
     nth(m, b'\r', false, n)
 }
 
-// Segment n of a message, without its CR.
+// Segment n of a message, without its CR. `noted_field`, `repetition` and `component` are as short: what the four share is the cut, in `nth` and `part`.
 pub fn segment(m: &[u8], n: usize) -> &[u8]
     ensures { Lies m.entry result (segment_of m.now n) }
 {
@@ -139,7 +139,8 @@ pub fn field_span(d: Delims, seg: &[u8], f: usize) -> Span
     }
 }
 
-// Notes where the parts of a segment cut at the bar begin, each part's start after the one before and one more for its end, as many as there is room for; answers how many parts.
+// Notes where the parts of a segment cut at the bar begin, each part's start after the one before and one more for its end, as many as there is room for;
+// answers how many parts.
 pub fn note_fields(d: Delims, seg: &[u8], starts: &mut [usize]) -> usize
     ensures { Notes d.bar seg.now starts.old starts.new result }
 {

@@ -12,7 +12,7 @@ use Rattle.grade.specs.Sheet.{finding_limit}
 use Rattle.grade.specs.declared.finding.Finding.{Finding}
 use Rattle.ack.specs.Layout.{letter}
 use Rattle.ack.specs.Pieces.{errs}
-use Rattle.ack.specs.Drafts.{weightless, weigh_all}
+use Rattle.ack.specs.Weights.{weightless, weigh_all}
 use Rattle.ack.specs.declared.write.Weight.{Weight}
 use Rattle.ack.proofs.Answering.{need_fits, too_short, fits}
 use Rattle.ack.proofs.Recorded.{weighs_letter, weighs_length, own_ack}

@@ -1,6 +1,6 @@
 -- `write::weigh` meets its contract: the weight with the records from i on is the weight of all. Assumes nothing.
 use Rattle.std.proofs.Common.{◌≡◌, drop}
-use Rattle.ack.specs.Drafts.{weightless, weigh_all}
+use Rattle.ack.specs.Weights.{weightless, weigh_all}
 use Rattle.ack.proofs.write.weigh.Given as goal
 
 abbrev pub invariant-loop-finding : goal.invariant-loop-finding

@@ -3,7 +3,8 @@ use mathlib.Core.Path.{refl, sym, ap, ◌∙◌}
 use Prim.Native.Nat.{ℕ, ◌-◌}
 use native.Mathlib.Numerals.{add-one}
 use native.Mathlib.Omega.{arith}
-use Rattle.difference.proofs.Counting.{one_if, number_stop, number_more, number-over}
+use Rattle.hl7.proofs.Comparing.{counted_test}
+use Rattle.difference.proofs.Counting.{number_stop, number_more, number-over}
 use Rattle.difference.proofs.counterpart.number_of.Goals as goal
 
 pub loop-i-init : goal.loop-i-init
@@ -16,7 +17,7 @@ returns-then-here-left c =
 
 pub loop-i-preserved : goal.loop-i-preserved
 loop-i-preserved c =
-    let later = c.saturating_sub-left.ensures ∙ ap (λ (n : ℕ). c.loop-i.left - n) (c.from.ensures ∙ one_if _) in
+    let later = c.saturating_sub-left.ensures ∙ ap (λ (n : ℕ). c.loop-i.left - n) (counted_test _ _ c.from.ensures) in
     let more = number_more c.args.noted.now c.args.spot c.loop-i.i c.loop-i.left (omega arith) c.if-here-left.false later in
     c.loop-i.invariant ∙ more
 
