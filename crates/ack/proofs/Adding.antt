@@ -7,7 +7,7 @@ use lib.ListN.{length}
 use Rattle.ack.specs.Splice.{limit, Wrote}
 use Rattle.ack.specs.Output.{Adds}
 use Rattle.ack.specs.declared.output.Output.{Output}
-use Rattle.ack.proofs.Writing.{◌then◌, wrote_as, wrote_none, wrote-length}
+use Rattle.ack.proofs.Writing.{◌then◌, wrote_as, wrote_none, wrote_once, wrote-length}
 
 -- two writes, one after the other
 infixr 40 ◌next◌
@@ -39,6 +39,10 @@ adds_none o e = record {
 -- bytes past the end, counted alone
 pub adds_passed : (o p : Output) (xs : List ℕ) (n : ℕ) → ((bytes : List ℕ) → length bytes ≡ n → Adds o bytes p) → n ≡ length xs → Adds o xs p
 adds_passed o p xs n passed long = passed xs (sym long)
+
+-- two outputs that are left by the same write hold the same
+pub adds_once : {o p q : Output} {xs : List ℕ} → Adds o xs p → Adds o xs q → length o.bytes.now < limit → (p.bytes.now ≡ q.bytes.now) × (p.at ≡ q.at)
+adds_once {o} f g room = wrote_once (f.wrote o.counted room) (g.wrote o.counted room)
 
 -- what was lent, once it is given back
 pub wrote_lent : {o p : Output} {xs after : List ℕ} → Adds o xs p → o.at ≤ limit → length o.bytes.now < limit → after ≡ p.bytes.now → Wrote o.bytes.now o.at xs after p.at
