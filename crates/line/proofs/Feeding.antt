@@ -1,15 +1,15 @@
 -- Laws of `specs/Fed.antt`: what is kept of the input is kept right by each byte, and tells what the line says. Assumes nothing.
 use mathlib.Core.Path.{◌≡◌, refl, sym, ap, ap₂, ◌∙◌}
-use mathlib.Core.Bool.{Bool, true, false, cond, not, ◌&&◌, and-true, and-false}
+use mathlib.Core.Bool.{Bool, true, false, cond, ◌&&◌}
 use mathlib.Core.List.{List, [], ◌∷◌, ◌++◌, append-nil, append_assoc}
 use Prim.Native.Nat.{ℕ, ◌+◌, ◌≤◌, ◌<◌, min}
 use native.Mathlib.Numerals.{add-one}
 use native.Mathlib.Omega.{arith}
-use lib.Dec.{eqb, leb, ltb}
+use lib.Dec.{leb, ltb}
 use lib.ListN.{length, get_or, take, set, length-append, length-set}
 use lib.Seq.{take_all, take-take, take-suc, take-append-le, take-suc-set}
 use borrow.Author.Tests.{ltb-true, ltb-false, lt-ltb, le-ltb, le-leb, lt-leb, ne_eqb}
-use Rattle.std.proofs.Common.{Option, Some, None}
+use Rattle.std.proofs.Common.{Some, None}
 use Rattle.hl7.specs.Bytes.{is_digit, all}
 use Rattle.hl7.specs.Number.{value_after, value_of}
 use Rattle.hl7.specs.Counted.{too_large, with_digit}
@@ -18,7 +18,7 @@ use Rattle.hl7.proofs.Comparing.{and_both, all_last}
 use Rattle.hl7.proofs.Numbering.{value_more}
 use Rattle.hl7.proofs.Cutting.{cut_delimiter, cut_other, cut_last}
 use Rattle.line.specs.Line.{line_feed, space, line_of, occurs, before_last, after_last, stamp_of, last_item, largest_control, is_control, bad_line, good_line, said}
-use Rattle.line.specs.Fed.{head_length, number_in, Heads, Items, Fed, shortened}
+use Rattle.line.specs.Fed.{head_length, Heads, Items, Fed, shortened}
 use Rattle.line.specs.declared.kept.Head.{Head}
 use Rattle.line.specs.declared.kept.Item.{Item}
 use Rattle.line.specs.declared.kept.State.{State}
@@ -57,50 +57,37 @@ is-missing : (b : Bool) (x : ℕ) → None ≡ cond b (Some x) None → b ≡ fa
 is-missing true x e = let z : ◌≡◌ {A = ℕ} 0 1 = cc in absurd (omega arith)
 is-missing false x e = refl
 
--- ---- a number, with one byte more
-module _ (item : List ℕ) (x : ℕ) where
-  pub number_digit : {value : ℕ} → Some value ≡ number_in item → is_digit x ≡ true → Some (with_digit value x) ≡ number_in (item ++ (x ∷ []))
-  number_digit {value} e d = rw (all_last is_digit item x) (by (all is_digit item) e)
-    where
-      by : (b : Bool) → Some value ≡ cond b (Some (min (value_of item) too_large)) None → Some (with_digit value x) ≡ cond (b && is_digit x) (Some (min (value_of (item ++ (x ∷ []))) too_large)) None
-      by true e = let same : value ≡ min (value_of item) too_large = cc in rw d (ap Some (value_more 0 item x same))
-      by false e = let z : ◌≡◌ {A = ℕ} 0 1 = cc in absurd (omega arith)
-
-  pub number_other : is_digit x ≡ false → None ≡ number_in (item ++ (x ∷ []))
-  number_other d = rw (all_last is_digit item x, d, and-false)
-
-  pub number-over : None ≡ number_in item → None ≡ number_in (item ++ (x ∷ []))
-  number-over e = rw (all_last is_digit item x, is-missing (all is_digit item) _ e)
-
 -- ---- the last space
 module _ {line : List ℕ} {i : Item} (a : Items line i) where
-  pub items_space : {x count value : ℕ} → x ≡ space → count ≡ min (length line) head_length → value ≡ 0 → Items (line ++ (x ∷ [])) (record { stamp = Some count; filled = false; number = Some value })
+  pub items_space : {x count value : ℕ} → x ≡ space → count ≡ min (length line) head_length → value ≡ 0 → Items (line ++ (x ∷ [])) (record { stamp = Some count; filled = false; number = record { all = true; value = value } })
   unfolding all value_after
   items_space {x} {count} e k v =
       let none = after_delimiter space x e line in
       record {
         stamp = rw (has_delimiter space x e line, before_delimiter space x e line) (ap Some k);
         filled = rw none;
-        number = rw none (ap Some v);
+        digits = rw none;
+        value = rw none v;
       }
 
-  pub items_other : {x : ℕ} {number : Option ℕ} → (x ≡ space → ⊥) → ((item : List ℕ) → i.number ≡ number_in item → number ≡ number_in (item ++ (x ∷ []))) → Items (line ++ (x ∷ [])) (record { stamp = i.stamp; filled = true; number = number })
-  items_other {x} {number} n d =
+  pub items_other : {x value : ℕ} {digit : Bool} → (x ≡ space → ⊥) → digit ≡ is_digit x → value ≡ with_digit i.number.value x → Items (line ++ (x ∷ [])) (record { stamp = i.stamp; filled = true; number = record { all = i.number.all && digit; value = value } })
+  items_other {x} {value} {digit} n d v =
       let more = after_other space x n line in
       record {
         stamp = rw (has_other space x n line, before_other space x n line) a.stamp;
         filled = rw (more, length-append (last_item line) (x ∷ []), ne_eqb (length (last_item line) + 1) 0 (λ e. omega arith));
-        number = rw more (d (last_item line) a.number);
+        digits = rw (more, all_last is_digit (last_item line) x, ← a.digits, d);
+        value = rw more (v ∙ value_more 0 (last_item line) x a.value);
       }
 
 -- ---- the input
-pub fed_start : (bytes : List ℕ) → length bytes ≡ head_length → Fed [] (record { ended = false; head = record { bytes = bytes; count = 0 }; item = record { stamp = None; filled = false; number = Some 0 } })
+pub fed_start : (bytes : List ℕ) → length bytes ≡ head_length → Fed [] (record { ended = false; head = record { bytes = bytes; count = 0 }; item = record { stamp = None; filled = false; number = record { all = true; value = 0 } } })
 unfolding cut occurs before_last after_last all value_after
 fed_start bytes h =
     record {
       ended = refl;
       head = record { room = h; count = refl; holds = refl };
-      item = record { stamp = refl; filled = refl; number = refl };
+      item = record { stamp = refl; filled = refl; digits = refl; value = refl };
     }
 
 module _ {input : List ℕ} {s : State} (f : Fed input s) (x : ℕ) where
@@ -161,32 +148,25 @@ module _ {input : List ℕ} {s : State} (f : Fed input s) where
   unfolding said
   said_unspaced e = rw (is-missing (occurs space (line_of input)) _ (sym e ∙ f.item.stamp))
 
-  pub said_worded : s.item.number ≡ None → bad_line ≡ shortened (said (line_of input))
-  unfolding said is_control
-  said_worded e = rw (is-missing (all is_digit item) _ (sym e ∙ f.item.number), and-false, and-false)
-
-  module _ {stamp number : ℕ} (k : s.item.stamp ≡ Some stamp) (n : s.item.number ≡ Some number) {t : Bool} (e : (s.item.filled && ltb number too_large) ≡ t) where
+  module _ {stamp : ℕ} (k : s.item.stamp ≡ Some stamp) {t : Bool} (e : (s.item.filled && s.item.number.all && ltb s.item.number.value too_large) ≡ t) where
     spaced : (occurs space (line_of input) ≡ true) × (stamp ≡ min (length (stamp_of (line_of input))) head_length)
     spaced = is_there (occurs space (line_of input)) _ (sym k ∙ f.item.stamp)
 
-    digits : (all is_digit item ≡ true) × (number ≡ min (value_of item) too_large)
-    digits = is_there (all is_digit item) _ (sym n ∙ f.item.number)
-
-    small : (b : Bool) → ltb number too_large ≡ b → leb (value_of item) largest_control ≡ b
-    small true h = le-leb (value_of item) largest_control (omega (arith, digits.1, ltb-true number too_large h))
-    small false h = lt-leb (value_of item) largest_control (omega (arith, digits.1, ltb-false number too_large h))
+    small : (b : Bool) → ltb s.item.number.value too_large ≡ b → leb (value_of item) largest_control ≡ b
+    small true h = le-leb (value_of item) largest_control (omega (arith, f.item.value, ltb-true s.item.number.value too_large h))
+    small false h = lt-leb (value_of item) largest_control (omega (arith, f.item.value, ltb-false s.item.number.value too_large h))
 
     said-by : said (line_of input) ≡ cond t (good_line (stamp_of (line_of input)) (value_of item)) bad_line
     unfolding said is_control
-    said-by = rw (spaced.0, digits.0, small _ refl, and-true, ← f.item.filled, e)
+    said-by = rw (spaced.0, small _ refl, ← f.item.filled, ← f.item.digits, e)
 
     pub said_bad : t ≡ false → bad_line ≡ shortened (said (line_of input))
     said_bad h = sym (ap shortened (rw h at said-by))
 
-    pub said_good : t ≡ true → good_line (take stamp s.head.bytes) number ≡ shortened (said (line_of input))
+    pub said_good : t ≡ true → good_line (take stamp s.head.bytes) s.item.number.value ≡ shortened (said (line_of input))
     said_good h =
-        let fits : number < too_large = ltb-true number too_large (and_both s.item.filled (ltb number too_large) (e ∙ h)).1 in
-        ap₂ good_line (stamp-kept f.head spaced.1) (omega (arith, digits.1)) ∙ sym (ap shortened (rw h at said-by))
+        let fits : s.item.number.value < too_large = ltb-true s.item.number.value too_large (and_both (s.item.filled && s.item.number.all) (ltb s.item.number.value too_large) (e ∙ h)).1 in
+        ap₂ good_line (stamp-kept f.head spaced.1) (omega (arith, f.item.value)) ∙ sym (ap shortened (rw h at said-by))
 
 -- ---- a chunk of the input, byte by byte
 pub feeds_none : {s : State} (input : List ℕ) → Fed input s → Fed (input ++ []) s

@@ -15,6 +15,33 @@ use Rattle.hl7.proofs.Cutting.{first}
 use Rattle.line.specs.Line.{occurs, before_last, after_last}
 
 -- ---- the last d of some bytes parts them
+pub last_parts : (d : ℕ) (s : List ℕ) → occurs d s ≡ true → s ≡ before_last d s ++ (d ∷ after_last d s)
+unfolding occurs before_last after_last
+last_parts d [] h = absurd (true≢false (sym h))
+last_parts d (x ∷ s) h = by-rest (occurs d s) refl (last_parts d s)
+  where
+    here : (b : Bool) → eqb x d ≡ b → (b || false) ≡ true → x ∷ s ≡ d ∷ cond b s (x ∷ s)
+    here true e h = ap (λ (y : ℕ). y ∷ s) (eqb-true x d e)
+    here false e h = absurd (true≢false (sym h))
+
+    by-rest : (b : Bool) → occurs d s ≡ b → (occurs d s ≡ true → s ≡ before_last d s ++ (d ∷ after_last d s)) → x ∷ s ≡ before_last d (x ∷ s) ++ (d ∷ after_last d (x ∷ s))
+    by-rest true e ih = rw e (ap (λ (l : List ℕ). x ∷ l) (ih e))
+    by-rest false e ih = rw e (here (eqb x d) refl (rw e at h))
+
+-- and none stands after it
+pub last_is_last : (d : ℕ) (s : List ℕ) → occurs d s ≡ true → occurs d (after_last d s) ≡ false
+unfolding occurs after_last
+last_is_last d [] h = absurd (true≢false (sym h))
+last_is_last d (x ∷ s) h = by-rest (occurs d s) refl (last_is_last d s)
+  where
+    here : (b : Bool) → occurs d s ≡ false → (b || false) ≡ true → occurs d (cond b s (x ∷ s)) ≡ false
+    here true e h = e
+    here false e h = absurd (true≢false (sym h))
+
+    by-rest : (b : Bool) → occurs d s ≡ b → (occurs d s ≡ true → occurs d (after_last d s) ≡ false) → occurs d (after_last d (x ∷ s)) ≡ false
+    by-rest true e ih = rw e (ih e)
+    by-rest false e ih = rw e (here (eqb x d) e (rw e at h))
+
 -- what stands before the last d is a front
 pub before-front : (d : ℕ) (s : List ℕ) → before_last d s ≡ take (length (before_last d s)) s
 unfolding before_last

@@ -24,15 +24,12 @@ pub record Heads (line : List ℕ) (h : Head) : Type 0 where
 abbrev pub stamp_in : List ℕ → Option ℕ
 stamp_in line = cond (occurs space line) (Some (min (length (stamp_of line)) head_length)) None
 
--- the value of digits, as far as values are told apart
-abbrev pub number_in : List ℕ → Option ℕ
-number_in item = cond (all is_digit item) (Some (min (value_of item) too_large)) None
-
 -- i tells what stands before and after the line's last space
 pub record Items (line : List ℕ) (i : Item) : Type 0 where
   pub stamp : i.stamp ≡ stamp_in line
   pub filled : i.filled ≡ not (eqb (length (last_item line)) 0)
-  pub number : i.number ≡ number_in (last_item line)
+  pub digits : i.number.all ≡ all is_digit (last_item line)
+  pub value : i.number.value ≡ min (value_of (last_item line)) too_large
 
 -- s is what was kept of this input
 pub record Fed (input : List ℕ) (s : State) : Type 0 where

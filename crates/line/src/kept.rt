@@ -1,9 +1,9 @@
 // The line of standard input, read byte by byte. What is kept of it has one size for lines of any length.
 ghost use Rattle.std.specs.Prelude.{◌≡◌, List, ◌++◌, ◌∷◌, [], ℕ, min, length};
-ghost use Rattle.line.specs.Fed.{head_length, number_in, Heads, Items, Fed, Says};
+ghost use Rattle.line.specs.Fed.{head_length, Heads, Items, Fed, Says};
 
 use hl7::bytes::is_within;
-use hl7::number::{TOO_LARGE, with_digit};
+use hl7::number::{Digits, TOO_LARGE, with_digit};
 
 // One byte more than a stamp has.
 const HEAD_LENGTH: usize = 20;
@@ -16,12 +16,12 @@ pub struct Head {
 }
 
 // How many of the head's bytes stand before the last space, if there is one. What stands after it: whether
-// there is a byte, and the value, if all are digits, counted up to one past the largest control number.
+// there is a byte, whether all are digits, and the value of any bytes, counted up to one past the largest control number.
 #[derive(Clone, Copy)]
 pub struct Item {
     pub stamp: Option<usize>,
     pub filled: bool,
-    pub number: Option<usize>,
+    pub number: Digits,
 }
 
 // What is kept of the input: whether its line has ended, and the line.
@@ -53,17 +53,6 @@ impl Head {
     }
 }
 
-// The value with one byte more, if that is a digit too.
-fn number_with(number: Option<usize>, byte: u8) -> Option<usize>
-    ensures { (item : List ℕ) → number ≡ number_in item → result ≡ number_in (item ++ (byte ∷ [])) }
-{
-    let value = number?;
-    if is_within(byte, b'0', b'9') {
-        return Some(with_digit(value, byte));
-    }
-    None
-}
-
 impl Item {
     // One byte more on a line that has so many bytes in its head.
     fn push(self, byte: u8, count: usize) -> Item
@@ -73,13 +62,19 @@ impl Item {
             return Item {
                 stamp: Some(count),
                 filled: false,
-                number: Some(0),
+                number: Digits {
+                    all: true,
+                    value: 0,
+                },
             };
         }
         Item {
             stamp: self.stamp,
             filled: true,
-            number: number_with(self.number, byte),
+            number: Digits {
+                all: self.number.all & is_within(byte, b'0', b'9'),
+                value: with_digit(self.number.value, byte),
+            },
         }
     }
 }
@@ -97,7 +92,10 @@ pub fn start() -> State
         item: Item {
             stamp: None,
             filled: false,
-            number: Some(0),
+            number: Digits {
+                all: true,
+                value: 0,
+            },
         },
     }
 }
@@ -143,10 +141,10 @@ pub fn line_says(state: State) -> Option<Line>
     ensures { Says state result }
 {
     let stamp = state.item.stamp?;
-    let number = state.item.number?;
-    if state.item.filled & (number < TOO_LARGE) {
+    let number = state.item.number;
+    if state.item.filled & number.all & (number.value < TOO_LARGE) {
         return Some(Line {
-            control: number as u32,
+            control: number.value as u32,
             stamp,
         });
     }

@@ -7,4 +7,4 @@ pub returns-then-byte-eq32 : goal.returns-then-byte-eq32
 returns-then-byte-eq32 c line i k = items_space i c.if-byte-eq32.true k refl
 
 pub returns : goal.returns
-returns c line i k = items_other i c.if-byte-eq32.false c.number_with.ensures
+returns c line i k = items_other i c.if-byte-eq32.false c.is_within.ensures c.with_digit.ensures
