@@ -5,20 +5,14 @@ use mathlib.Core.Bool.{true, false}
 use mathlib.Core.List.{List}
 use native.Mathlib.Omega.{arith}
 use denote.Param.Members.{Mut}
-use Rattle.std.specs.Prelude.{Option, Some, None, is_some}
+use Rattle.std.specs.Prelude.{Some}
 use Rattle.std.specs.Fn.{Called}
-use Rattle.std.specs.Option.{MatchOption}
-use Rattle.std.specs.List.{FoldsTo}
-use Rattle.std.specs.Iterator.{YieldsThen, FoldTurn, FoldsItems}
-use Rattle.std.specs.ControlFlow.{break_value}
-use Rattle.std.specs.declared.ops.ControlFlow.{ControlFlow}
-use Rattle.std.specs.declared.ops.ControlFlow.TheVariants.{Continue, Break}
-use Rattle.std.specs.declared.ops.Range.{Range}
+use Rattle.std.specs.Iterator.{FoldTurn, FoldsItems}
 use Rattle.hl7.specs.Bytes.{same, among}
 use Rattle.grade.specs.Limits.{code_limit}
 use Rattle.grade.specs.Reader.{is_found, items_of, times}
 use Rattle.grade.specs.Book.{text}
-use Rattle.grade.specs.Standing.{end_of, text_end, text_at, Looks}
+use Rattle.grade.specs.Standing.{end_of, text_end, text_at}
 use Rattle.grade.proofs.Readings.{times_none, times_empty}
 use Rattle.grade.proofs.Parts.{codes-next}
 use Rattle.grade.proofs.Walking.{Steps, left, kept}
@@ -57,45 +51,14 @@ module _ (b value : List ℕ) (count at : ℕ) where
   pub look_begun : is_found (times count (text code_limit) b at) ≡ true → CodesToLookAt (count - 0) at
   look_begun h = subst (λ (n : ℕ). CodesToLookAt n at) {x = count} {y = count - 0} (omega arith) (record { reads = h; alike = refl })
 
-  unlike : (n from next : ℕ) → 0 < n → CodesToLookAt n from → same value (text_at b from) ≡ false → next ≡ text_end b from → CodesToLookAt (n - 1) next
+  pub code_unlike : (n from next : ℕ) → 0 < n → CodesToLookAt n from → same value (text_at b from) ≡ false → next ≡ text_end b from → CodesToLookAt (n - 1) next
   unfolding among
-  unlike n from next h l e is = let w = codes-next b n from h l.reads next is in record { reads = w.0; alike = rw (w.2, e) at l.alike }
+  code_unlike n from next h l e is = let w = codes-next b n from h l.reads next is in record { reads = w.0; alike = rw (w.2, e) at l.alike }
 
-  like : (n from : ℕ) → 0 < n → CodesToLookAt n from → same value (text_at b from) ≡ true → among value (items_of (times count (text code_limit) b at)) ≡ true
+  pub code_alike : (n from : ℕ) → 0 < n → CodesToLookAt n from → same value (text_at b from) ≡ true → among value (items_of (times count (text code_limit) b at)) ≡ true
   unfolding among
-  like n from h l e = sym l.alike ∙ rw ((codes-next b n from h l.reads _ refl).2, e)
+  code_alike n from h l e = sym l.alike ∙ rw ((codes-next b n from h l.reads _ refl).2, e)
 
-  none : (n from : ℕ) → n ≤ 0 → CodesToLookAt n from → among value (items_of (times count (text code_limit) b at)) ≡ false
+  pub code_none : (n from : ℕ) → n ≤ 0 → CodesToLookAt n from → among value (items_of (times count (text code_limit) b at)) ≡ false
   unfolding among
-  none n from h l = sym l.alike ∙ ap (among value) (times_empty (text code_limit) b n from h)
-
-  module _ {F : Type 0} {g : Mut F (ℕ × (ℕ × Unit {0})) (ControlFlow (Unit {0}) ℕ)} (f : F)
-      (step : (from x : ℕ) (v : ControlFlow (Unit {0}) ℕ) (f' : F) → Called g f (from, (x, tt)) v f' → (f' ≡ f) × Looks b from value v) where
-    -- a look that goes on
-    abbrev pub Goes : F × ℕ → ℕ → F × ℕ → Type 0
-    Goes p x q = (v : ControlFlow (Unit {0}) ℕ) × Called g p.0 (p.1, (x, tt)) v q.0 × (v ≡ Continue q.1)
-
-    pub code_unlike : (n from x : ℕ) (q : F × ℕ) → 0 < n → CodesToLookAt n from → Goes (f, from) x q → (q.0 ≡ f) × CodesToLookAt (n - 1) q.1
-    code_unlike n from x q h l c =
-        let now = step from x c.0 q.0 c.1 in
-        let looks : Looks b from value (Continue q.1) = rw c.2 at now.1 in
-        (now.0, unlike n from q.1 h l looks.0 looks.1)
-
-    -- after the whole range, or at the look that breaks off
-    last : (E : Type 0) (o : Option ℕ) (t u : Range ℕ) (h : F) (a : ℕ) (r : ControlFlow (Unit {0}) ℕ) → h ≡ f → CodesToLookAt (left t) a → Steps t o u →
-        MatchOption o (r ≡ Continue a) (λ x. (v : ControlFlow (Unit {0}) ℕ) × (k : F) × (e : E) × Called g h (a, (x, tt)) v k × (v ≡ Break tt) × (r ≡ Break tt)) →
-        is_some (break_value r) ≡ among value (items_of (times count (text code_limit) b at))
-    last E None t u h a r s w e d = rw d (sym (none (left t) a (omega (arith, e.1.0)) w))
-    last E (Some x) t u h a r s w e d =
-        let now = step a x d.0 d.1 (subst (λ (v : F). Called g v (a, (x, tt)) d.0 d.1) s d.3) in
-        let looks : Looks b a value (Break tt) = rw d.4 at now.1 in
-        rw d.5 (sym (like (left t) a (omega (arith, e.1.0)) w looks))
-
-    -- what `try_fold` says that it ran, over a range from 0 on
-    pub codes_looked_at : (E : Type 0) (r : ControlFlow (Unit {0}) ℕ) → is_found (times count (text code_limit) b at) ≡ true →
-        (u : Range ℕ) → (xs : List ℕ) × (o : Option ℕ) × (h : F) × (a : ℕ) × YieldsThen Steps (record { start = 0; end = count }) xs o u × FoldsTo Goes (f, at) xs (h, a)
-        × MatchOption o (r ≡ Continue a) (λ x. (v : ControlFlow (Unit {0}) ℕ) × (k : F) × (e : E) × Called g h (a, (x, tt)) v k × (v ≡ Break tt) × (r ≡ Break tt)) →
-        is_some (break_value r) ≡ among value (items_of (times count (text code_limit) b at))
-    codes_looked_at E r h u d =
-        let w = kept Goes f CodesToLookAt code_unlike d.0 at (d.2, d.3) _ d.4.0 (look_begun h) d.4.1 d.5 in
-        last E d.1 d.4.0 u d.2 d.3 r w.0 w.1 d.4.2 d.6
+  code_none n from h l = sym l.alike ∙ ap (among value) (times_empty (text code_limit) b n from h)

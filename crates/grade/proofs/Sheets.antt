@@ -26,6 +26,12 @@ pub held-length : {m b : List ℕ} (s : Sheet) → Sheeted m b s → length (hel
 unfolding held
 held-length s h = length-take-le s.used s.lines (omega (arith, h.fits, h.ready.lined))
 
+-- ---- what the findings have
+pub has-append : (test : Finding → Bool) (l k : List Finding) → has test (l ++ k) ≡ (has test l || has test k)
+unfolding has
+has-append test [] k = refl
+has-append test (f ∷ l) k = ap (λ (b : Bool). test f || b) (has-append test l k) ∙ sym (or_assoc (test f) (has test l) (has test k))
+
 -- ---- one finding more
 -- of the whole, those held and those left
 pub whole_more : {whole held' left : List Finding} {f : Finding} (held rest : List Finding) → whole ≡ held ++ left → left ≡ f ∷ rest → held' ≡ held ++ (f ∷ []) → whole ≡ held' ++ rest

@@ -128,9 +128,14 @@ pub fn among_codes(book: &[u8], at: usize, count: usize, value: &[u8]) -> bool
     requires { is_found (times count (text code_limit) book.now at) ≡ true }
     ensures { result ≡ among value.now (items_of (times count (text code_limit) book.now at)) }
 {
-    (0..count)
-        .try_fold(at, |from, _| look(book, from, value))
-        .is_break()
+    let mut from = at;
+    for _ in 0..count {
+        match look(book, from, value) {
+            ControlFlow::Break(()) => return true,
+            ControlFlow::Continue(next) => from = next,
+        }
+    }
+    false
 }
 
 // The value is a code of the set that stands at a position.
