@@ -1,21 +1,22 @@
 -- Laws of what later statements change: a rule that is dropped or amended, and a section's statements settled. Assumes nothing.
 use mathlib.Core.Path.{◌≡◌, refl, sym, ap, ap₂, ◌∙◌}
 use mathlib.Core.Bool.{Bool, true, false, cond, not, ◌&&◌, ◌||◌, or_assoc, or-false}
-use mathlib.Core.List.{List, [], ◌∷◌, map}
+use mathlib.Core.List.{List, [], ◌∷◌, ◌++◌, map, append-nil, append_assoc, map-append}
 use Prim.Native.Nat.{ℕ, ◌+◌, ◌≤◌, ◌<◌}
 use native.Mathlib.Omega.{arith}
 use lib.Dec.{eqb}
-use lib.ListN.{length, get_or, drop, length-append}
+use lib.ListN.{length, get_or, take, drop, set, length-append}
 use borrow.Author.Tests.{eqb-true, not-true, not-false}
 use Rattle.std.proofs.Common.{Some}
+use Rattle.std.proofs.lemmas.List.{take_more_set, drop-set-lt}
+use Rattle.std.proofs.lemmas.List.Elements.{All-set}
 use Rattle.hl7.proofs.Comparing.{and_both}
 use Rattle.booktext.specs.Lines.{Statement, word, verb, says, of_rule, makes_rule, a_severity, a_bound, a_drop}
 use Rattle.booktext.specs.Meaning.{give}
 use Rattle.booktext.specs.Changes.{spot_of, says_of, bind, amend, amended, dropped, settled_as, settled}
-use Rattle.booktext.specs.Standing.{words_from, noted, no_cell, Marked, Marks, NotesMore}
+use Rattle.booktext.specs.Standing.{words_from, noted, no_cell, Marked, Marks}
 use Rattle.booktext.specs.declared.cell.Cell.{Cell}
 use Rattle.booktext.proofs.Marking.{noted_third, noted_other, noted-give, noted-bind, cells_step, cells_done, mark_says, mark_at, part_cells, part_noted}
-use Rattle.booktext.proofs.Noting.{notes_none, notes_as}
 
 -- ---- a rule that is dropped
 module _ (spot : ℕ) (cells : List Cell) where
@@ -140,7 +141,7 @@ module _ (t : List ℕ) (rule : Cell) (spot : ℕ) (cells : List Cell) where
     amends_over h = (sym (inv.rest ∙ ap (amended spot (noted t last)) (cells_done (noted t) cells i h)), inv.stays.0, inv.stays.1)
 
 -- ---- statements settled
-module _ (t : List ℕ) (cells : List Cell) (i : ℕ) (m : Marks t cells) (h : i < length cells) where
+module _ (t : List ℕ) (cells : List Cell) (i : ℕ) (m : Marks t cells) (h : i < length cells) (count : ℕ) (k : count ≤ i) where
   abbrev it : Cell
   it = get_or cells i no_cell
 
@@ -151,40 +152,91 @@ module _ (t : List ℕ) (cells : List Cell) (i : ℕ) (m : Marks t cells) (h : i
   abbrev part_after : List Statement
   part_after = map (noted t) (part_cells t cells i)
 
-  module _ {b : Bool} (g : b ≡ of_rule it.verb) (before : List Cell) (count : ℕ) where
+  -- in place: what is left of it comes behind the cells that are kept, and those that follow stay as they are
+  abbrev Settles : List Cell → ℕ → Type 0
+  Settles after r =
+      Marks t after
+      × (r ≤ i + 1)
+      × (drop (i + 1) after ≡ drop (i + 1) cells)
+      × (map (noted t) (take r after) ≡ map (noted t) (take count cells) ++ settled_as (noted t it) after_it)
+
+  settle_in : (cell : Cell) → Marked t cell → noted t cell ∷ [] ≡ settled_as (noted t it) after_it → Settles (set cells count cell) (count + 1)
+  settle_in cell mark e = (
+    All-set (Marked t) cells count cell mark m,
+    omega (arith, k),
+    drop-set-lt (i + 1) cells count cell (omega (arith, k)),
+    ap (map (noted t)) (take_more_set cells count cell (omega (arith, h, k)))
+        ∙ map-append (noted t) (take count cells) (cell ∷ [])
+        ∙ ap (λ (ss : List Statement). map (noted t) (take count cells) ++ ss) e,
+  )
+
+  module _ {b : Bool} (g : b ≡ of_rule it.verb) where
     ruled : {c : Bool} → b ≡ c → makes_rule (noted t it) ≡ c
     ruled e = ap of_rule (sym (mark_at t cells i m h).by_verb) ∙ sym g ∙ e
 
-    pub settle_other : not b ≡ true → (after : List Cell) (r : ℕ) → NotesMore t before count after r (noted t it ∷ []) → NotesMore t before count after r (settled_as (noted t it) after_it)
+    pub settle_other : not b ≡ true → Settles (set cells count it) (count + 1)
     unfolding settled_as
-    settle_other e after r n =
-        notes_as t before count after r (noted t it ∷ []) n _ (sym (rw (ruled (not-true b e))))
+    settle_other e = settle_in it (mark_at t cells i m h) (sym (rw (ruled (not-true b e))))
 
     module _ (e : not b ≡ false) where
-      pub settle_rule : makes_rule (noted t it) ≡ true
+      settle_rule : makes_rule (noted t it) ≡ true
       settle_rule = ruled (not-false b e)
 
       module _ {gone : Bool} (d : gone ≡ dropped it.spot part_after) where
         gone-is : dropped (spot_of (noted t it)) after_it ≡ gone
         gone-is = ap₂ dropped (sym (mark_at t cells i m h).by_spot) (sym (part_noted t cells i)) ∙ sym d
 
-        pub settle_gone : gone ≡ true → NotesMore t before count before count (settled_as (noted t it) after_it)
+        pub settle_gone : gone ≡ true → Settles cells count
         unfolding settled_as
-        settle_gone q = notes_none t before count (rw (settle_rule, gone-is, q))
+        settle_gone q =
+            let none : settled_as (noted t it) after_it ≡ [] = rw (settle_rule, gone-is, q) in
+            (m, omega (arith, k), refl, sym (append-nil (map (noted t) (take count cells))) ∙ ap (λ (ss : List Statement). map (noted t) (take count cells) ++ ss) (sym none))
 
         module _ (q : gone ≡ false) (rule : Cell) (a : (noted t rule ≡ amended it.spot (noted t it) part_after) × (rule.verb ≡ it.verb) × (rule.spot ≡ it.spot)) where
-          pub settle_marked : Marked t rule
+          settle_marked : Marked t rule
           settle_marked =
               record {
                 by_verb = a.1 ∙ (mark_at t cells i m h).by_verb ∙ sym (ap verb a.0 ∙ amended-verb it.spot (noted t it) part_after);
                 by_spot = a.2 ∙ (mark_at t cells i m h).by_spot ∙ sym (ap spot_of a.0 ∙ amended-spot it.spot (noted t it) part_after);
               }
 
-          pub settle_stays : (after : List Cell) (r : ℕ) → NotesMore t before count after r (noted t rule ∷ []) → NotesMore t before count after r (settled_as (noted t it) after_it)
+          pub settle_stays : Settles (set cells count rule) (count + 1)
           unfolding settled_as
-          settle_stays after r n =
-              notes_as t before count after r (noted t rule ∷ []) n _
-              (ap (λ (s : Statement). s ∷ []) (a.0 ∙ ap₂ (λ (n : ℕ) (l : List Statement). amended n (noted t it) l) (mark_at t cells i m h).by_spot (part_noted t cells i)) ∙ sym (rw (settle_rule, gone-is, q)))
+          settle_stays =
+              settle_in rule settle_marked
+              (ap (λ (s : Statement). s ∷ []) (a.0 ∙ ap₂ (λ (n : ℕ) (l : List Statement). amended n (noted t it) l) (mark_at t cells i m h).by_spot (part_noted t cells i))
+              ∙ sym (rw (settle_rule, gone-is, q)))
+
+-- so many of some cells were passed: what is left of these, and those to come settled, are all settled
+pub record Settling (t : List ℕ) (old cells : List Cell) (count i : ℕ) : Type 0 where
+  pub marks : Marks t cells
+  pub few : count ≤ i
+  pub whole : map (noted t) (take count cells) ++ settled (map (noted t) (drop i cells)) ≡ settled (map (noted t) old)
+
+pub settling_start : (t : List ℕ) (old : List Cell) → Marks t old → Settling t old old 0 0
+settling_start t old m = record { marks = m; few = omega arith; whole = refl }
+
+module _ (t : List ℕ) (old cells : List Cell) (count i : ℕ) (w : Settling t old cells count i) where
+  pub settling_on : (h : i < length cells) (after : List Cell) (r : ℕ) → Settles t cells i w.marks h count w.few after r → Settling t old after r (i + 1)
+  unfolding settled
+  settling_on h after r f =
+      let now = settled_as (noted t (get_or cells i no_cell)) (map (noted t) (drop (i + 1) cells)) in
+      record {
+        marks = f.0;
+        few = f.1;
+        whole =
+            ap₂ (λ (ss : List Statement) (later : List Cell). ss ++ settled (map (noted t) later)) f.3 f.2
+            ∙ append_assoc (map (noted t) (take count cells)) now (settled (map (noted t) (drop (i + 1) cells)))
+            ∙ ap (λ (ss : List Statement). map (noted t) (take count cells) ++ settled ss) (sym (cells_step (noted t) cells i h))
+            ∙ w.whole;
+      }
+
+  pub settling_done : length cells ≤ i → map (noted t) (take count cells) ≡ settled (map (noted t) old)
+  unfolding settled
+  settling_done h =
+      sym (append-nil (map (noted t) (take count cells)))
+      ∙ ap (λ (ss : List Statement). map (noted t) (take count cells) ++ settled ss) (sym (cells_done (noted t) cells i h))
+      ∙ w.whole
 
 -- there are no more of them than before
 settled_as-few : (s : Statement) (ss : List Statement) → length (settled_as s ss) ≤ 1

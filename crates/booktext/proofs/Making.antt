@@ -4,7 +4,6 @@ use mathlib.Core.Bool.{Bool, true, false, cond}
 use mathlib.Core.List.{List, [], ◌∷◌, ◌++◌, map, append_assoc}
 use Prim.Native.Nat.{ℕ, ◌+◌, ◌≤◌, ◌<◌}
 use native.Mathlib.Omega.{arith}
-use native.Mathlib.Decide.{dec_lt}
 use lib.Dec.{ltb}
 use lib.ListN.{length, get_or, take, length-map, length-take}
 use borrow.Author.Tests.{eqb-true, lt-ltb, le-ltb, eq-eqb, ne_eqb}
@@ -28,8 +27,7 @@ use Rattle.booktext.specs.declared.names.Names.{Names}
 use Rattle.booktext.specs.declared.told.Fault.{Fault}
 use Rattle.booktext.proofs.Each.{each-body}
 use Rattle.booktext.proofs.Sounding.{sounds}
-use Rattle.booktext.proofs.Changing.{settled-few}
-use Rattle.booktext.proofs.Settling.{settled-ready}
+use Rattle.booktext.proofs.Settling.{settled_stray, settled_bad, settled_sets}
 use Rattle.booktext.proofs.Fitting.{fits-short}
 use Rattle.booktext.proofs.Setting.{puts_refused}
 use Rattle.booktext.proofs.Including.{plainly, statements-plain, expand-ready}
@@ -177,37 +175,32 @@ module _ (t : List ℕ) (head : ℕ) (ss : List Statement) (at : ℕ) where
                     length = same_size;
                   })
 
--- the statements that were settled
-module _ (t : List ℕ) (cells : List Cell) {lasting : List Cell} {count : ℕ} (holds : Holds t lasting count (settled (map (noted t) cells))) (few : length cells ≤ statement_limit) where
-  pub settled-fits : count ≤ statement_limit
-  settled-fits = by (dec_lt statement_limit count)
-    where
-      by : Dec (statement_limit < count) → count ≤ statement_limit
-      by (yes many) = absurd (omega (arith, few, holds.over many, settled-few (map (noted t) cells), length-map cells (noted t)))
-      by (no k) = omega (arith, k)
-
-  pub settled-noted : map (noted t) (take count lasting) ≡ settled (map (noted t) cells)
-  settled-noted = holds.exact settled-fits
-
--- what was made of their cells was made of them
-module _ (t : List ℕ) (lasting cells : List Cell) (e : map (noted t) lasting ≡ settled (map (noted t) cells)) where
-  abbrev ss : List Statement
-  ss = map (noted t) cells
-
-  pub lasting_rules : (n : ℕ) → CountsRules (map (noted t) lasting) n → CountsRules (settled ss) n
+-- what was made of the cells that settling left was made of the statements that were settled
+module _ (t : List ℕ) (cells : List Cell) (ss : List Statement) (e : map (noted t) cells ≡ settled ss) where
+  pub lasting_rules : (n : ℕ) → CountsRules (map (noted t) cells) n → CountsRules (settled ss) n
   lasting_rules n c = subst (λ (l : List Statement). CountsRules l n) e c
 
-  pub lasting_names : names_of (map (noted t) lasting) ≡ names_of (settled ss)
+  pub lasting_names : names_of (map (noted t) cells) ≡ names_of (settled ss)
   lasting_names = ap names_of e
 
-  pub lasting_ready : each ready ss ≡ true → each ready (map (noted t) lasting) ≡ true
-  lasting_ready h = ap (each ready) e ∙ settled-ready ss h
+  pub lasting_stray : (line : ℕ) (names : List (List ℕ)) → first_stray t line names (map (noted t) cells) ≡ first_stray t line names ss
+  lasting_stray line names = ap (first_stray t line names) e ∙ settled_stray t line names ss
 
   pub lasting_front : (head rules : ℕ) (names : Names) {o p : List ℕ} {at r : ℕ}
-      → Wrote o at (text_bytes (get_or (words_from t head) 1 []) ++ (two_bytes_of rules ++ (names.count ∷ spell_all rule_bytes (rules_of (names_in t names) (map (noted t) lasting))))) p r
+      → Wrote o at (text_bytes (get_or (words_from t head) 1 []) ++ (two_bytes_of rules ++ (names.count ∷ spell_all rule_bytes (rules_of (names_in t names) (map (noted t) cells))))) p r
       → Wrote o at (text_bytes (get_or (words_from t head) 1 []) ++ (two_bytes_of rules ++ (names.count ∷ spell_all rule_bytes (rules_of (names_in t names) (settled ss))))) p r
   lasting_front head rules names w =
       wrote_as w (ap (λ (l : List Statement). text_bytes (get_or (words_from t head) 1 []) ++ (two_bytes_of rules ++ (names.count ∷ spell_all rule_bytes (rules_of (names_in t names) l)))) e)
+
+  pub lasting_sets : (line : ℕ) (every : List Statement) (names : List (List ℕ)) {o p : List ℕ} {at : ℕ} {r : Result ℕ Fault}
+      → Puts (first_bad_set t line every (map (noted t) cells) names) (spell_all set_bytes (map (held every (map (noted t) cells)) names)) o at p r
+      → Puts (first_bad_set t line every ss names) (spell_all set_bytes (map (held every ss) names)) o at p r
+  lasting_sets line every names put =
+      record {
+        tells = put.tells ∙ ap (λ (l : List Statement). first_bad_set t line every l names) e ∙ settled_bad every ss t line names;
+        wrote = λ z. wrote_as (put.wrote z) (ap (spell_all set_bytes) (ap (λ (l : List Statement). map (held every l) names) e ∙ settled_sets every ss names));
+        length = put.length;
+      }
 
 -- ---- a section, by where its statements begin
 module _ (t : List ℕ) (head : ℕ) {start : ℕ} (e : start ≡ next_line t head) where

@@ -12,7 +12,6 @@ use lib.Seq.{take-suc-set, length-take-le}
 use borrow.Author.Tests.{eq-eqb, ne_eqb}
 use Rattle.booktext.specs.Lines.{Statement, verb, says, line_of, a_use, a_common, statements}
 use Rattle.booktext.specs.Meaning.{body, from, under, give, taken, expand}
-use Rattle.booktext.specs.Changes.{settled_as, settled}
 use Rattle.booktext.specs.Faults.{Told, tell, nothing}
 use Rattle.booktext.specs.Refusals.{is_first, used_twice, statement_limit}
 use Rattle.booktext.specs.Standing.{words_from, statement_at, next_line, left, body_from, Finds, noted, Marked, Holds, NotesMore}
@@ -147,16 +146,6 @@ module _ (t : List ℕ) (before : List Cell) (count : ℕ) (all : List Statement
     pub section_done : length t < at → NotesMore t before count cells n all
     unfolding expand
     section_done h = noting_done _ w (ap (expand (statements t)) (onward-none t (body_from t) h))
-
-  -- one statement of some that are settled
-  module _ (now : Statement) (later : List Statement) where
-    pub settle_on : {ss : List Statement} → ss ≡ now ∷ later → Noting t before count all cells n (settled ss) → (after : List Cell) (k : ℕ) → length after ≡ length cells → NotesMore t cells n after k (settled_as now later) → Noting t before count all after k (settled later)
-    unfolding settled
-    settle_on e w after k s f = noting_on _ w (settled_as now later) (settled later) after k (ap settled e) s f
-
-  pub settle_done : {ss : List Statement} → ss ≡ [] → Noting t before count all cells n (settled ss) → NotesMore t before count cells n all
-  unfolding settled
-  settle_done e w = noting_done _ w (ap settled e)
 
 -- from none noted
 pub noted-all : (t : List ℕ) (before : List Cell) (all : List Statement) (cells : List Cell) (n : ℕ) → NotesMore t before 0 cells n all → Holds t cells n all

@@ -1,27 +1,31 @@
--- Laws of settled statements: what is right of a section's statements is right of them as they are settled. Assumes nothing.
+-- Laws of settled statements: what is right of a section's statements is right of them as they are settled, and what they change in sets is the same. Assumes
+-- nothing.
 use mathlib.Core.Path.{◌≡◌, refl, sym, ap, ap₂, ◌∙◌}
-use mathlib.Core.Bool.{Bool, true, false, cond, ◌&&◌, ◌||◌}
-use mathlib.Core.List.{List, [], ◌∷◌}
+use mathlib.Core.Bool.{Bool, true, false, cond, not, ◌&&◌, ◌||◌}
+use mathlib.Core.List.{List, [], ◌∷◌, ◌++◌, map}
 use Prim.Native.Nat.{ℕ, suc, ◌+◌, ◌-◌, ◌≤◌}
 use native.Mathlib.Omega.{arith}
 use lib.Dec.{eqb, leb}
 use lib.ListN.{length, get_or, drop, length-drop}
 use lib.Seq.{get_or-drop}
 use borrow.Author.Tests.{eqb-true, leb-true, le-leb}
-use Rattle.hl7.specs.Bytes.{within}
+use Rattle.hl7.specs.Bytes.{within, same, among}
 use Rattle.hl7.proofs.Comparing.{and_both}
 use Rattle.grade.specs.Encoding.{each}
+use Rattle.grade.specs.Limits.{code_count_limit}
 use Rattle.grade.specs.Rule.{severity_of}
-use Rattle.booktext.specs.Lines.{Statement, word, verb, says, of_place, makes_rule, a_severity, a_bound}
+use Rattle.booktext.specs.Lines.{Statement, word, verb, says, line_of, of_place, of_codes, makes_rule, a_set, a_severity, a_bound, a_more, a_less}
 use Rattle.booktext.specs.Words.{place_in, is_place, is_severity, is_severity_word, kind_names, kind_number, bound_fits}
-use Rattle.booktext.specs.Meaning.{give}
-use Rattle.booktext.specs.Changes.{spot_number, spot_of, says_of, bind, amend, amended, dropped, settled_as, settled}
-use Rattle.booktext.specs.Faults.{count_right, key_right, codes_right, place_right, kind_right, severity_right, before_bound, bound_right}
+use Rattle.booktext.specs.Meaning.{from, give}
+use Rattle.booktext.specs.Changes.{spot_number, spot_of, says_of, bind, amend, amended, dropped, settled_as, settled, names_code, lessened, kept, added_by, added}
+use Rattle.booktext.specs.Contents.{codes_of, held}
+use Rattle.booktext.specs.Faults.{count_right, key_right, codes_right, place_right, kind_right, severity_right, before_bound, bound_right, Told, tell}
+use Rattle.booktext.specs.Refusals.{at_of, first_stray, first_bad_set}
 use Rattle.booktext.specs.Standing.{sound, ready}
 use Rattle.booktext.proofs.Each.{each_append}
 use Rattle.booktext.proofs.Sounding.{Sounds, sounds}
 use Rattle.booktext.proofs.Reading.{number-few}
-use Rattle.booktext.proofs.Changing.{amend-rule, amend-spot}
+use Rattle.booktext.proofs.Changing.{amend-rule, amend-spot, amended-rule}
 use Rattle.booktext.proofs.Ruling.{rule_verb_lem, rule-place, rule_kind, rule-own}
 
 -- a kind's number
@@ -124,3 +128,62 @@ settled-ready (s ∷ ss) e =
     by true true rule ok every = refl
     by true false rule ok every = rw (amended-ready (spot_of s) s ss refl rule ok every) refl
     by false b rule ok every = rw ok refl
+
+-- ---- what hangs on no rule
+
+-- is the same of the statements as they are settled: their rules alone change
+module _ {A : Type 0} (f : List Statement → A) (skips : (s : Statement) (ss : List Statement) → makes_rule s ≡ true → f (s ∷ ss) ≡ f ss) (keeps : (s : Statement) (ss : List Statement) → f (settled ss) ≡ f ss → f (s ∷ settled ss) ≡ f (s ∷ ss)) where
+  settled_as_said : (ss : List Statement) → f (settled ss) ≡ f ss
+  unfolding settled settled_as
+  settled_as_said [] = refl
+  settled_as_said (s ∷ ss) = by (makes_rule s) (dropped (spot_of s) ss) refl (settled_as_said ss)
+    where
+      by : (a b : Bool) → makes_rule s ≡ a → f (settled ss) ≡ f ss → f (cond a (cond b [] (amended (spot_of s) s ss ∷ [])) (s ∷ []) ++ settled ss) ≡ f (s ∷ ss)
+      by true true e same = same ∙ sym (skips s ss e)
+      by true false e same = skips (amended (spot_of s) s ss) (settled ss) (amended-rule (spot_of s) s ss ∙ e) ∙ same ∙ sym (skips s ss e)
+      by false b e same = keeps s ss same
+
+-- row 52
+pub settled_stray : (t : List ℕ) (line : ℕ) (names : List (List ℕ)) (ss : List Statement) → first_stray t line names (settled ss) ≡ first_stray t line names ss
+unfolding first_stray
+settled_stray t line names =
+    settled_as_said (first_stray t line names)
+    (λ s ss rule. ap (λ (b : Bool). cond (b && not (among (word s 1) names)) (tell 52 (line_of t s.at) line) (first_stray t line names ss)) (rule_verb_lem (λ (v : ℕ). of_codes v ≡ false) refl refl (verb s) rule))
+    (λ s ss same. ap (cond (of_codes (verb s) && not (among (word s 1) names)) (tell 52 (line_of t s.at) line)) same)
+
+-- the codes of a set
+module _ (name : List ℕ) where
+  settled_lessened : (c : List ℕ) (ss : List Statement) → lessened name c (settled ss) ≡ lessened name c ss
+  unfolding lessened
+  settled_lessened c =
+      settled_as_said (lessened name c)
+      (λ s ss rule. ap (λ (b : Bool). (b && same (word s 1) name && among c (drop 2 s.words)) || lessened name c ss) (rule_verb_lem (λ (v : ℕ). eqb v a_less ≡ false) refl refl (verb s) rule))
+      (λ s ss same. ap (λ (b : Bool). names_code a_less name c s || b) same)
+
+  settled_kept : (ss : List Statement) (codes : List (List ℕ)) → kept name (settled ss) codes ≡ kept name ss codes
+  unfolding kept
+  settled_kept ss [] = refl
+  settled_kept ss (c ∷ codes) = ap₂ (λ (b : Bool) (more : List (List ℕ)). cond b more (c ∷ more)) (settled_lessened c ss) (settled_kept ss codes)
+
+  settled_added : (ss : List Statement) → added name (settled ss) ≡ added name ss
+  unfolding added kept
+  settled_added =
+      settled_as_said (added name)
+      (λ s ss rule. ap (λ (b : Bool). kept name ss (cond (b && same (word s 1) name) (drop 2 s.words) []) ++ added name ss) (rule_verb_lem (λ (v : ℕ). eqb v a_more ≡ false) refl refl (verb s) rule))
+      (λ s ss same. ap₂ ◌++◌ (settled_kept ss (added_by name s)) same)
+
+  settled_held : (all ss : List Statement) → held all (settled ss) name ≡ held all ss name
+  unfolding held
+  settled_held all ss = ap₂ ◌++◌ (settled_kept ss (codes_of all name)) (settled_added ss)
+
+-- row 53, and the sets
+module _ (all ss : List Statement) where
+  pub settled_bad : (t : List ℕ) (line : ℕ) (names : List (List ℕ)) → first_bad_set t line all (settled ss) names ≡ first_bad_set t line all ss names
+  unfolding first_bad_set
+  settled_bad t line [] = refl
+  settled_bad t line (name ∷ names) =
+      ap₂ (λ (codes : List (List ℕ)) (told : Told). cond (within 1 code_count_limit (length codes)) told (tell 53 (line_of t (at_of (from a_set name all))) line)) (settled_held name all ss) (settled_bad t line names)
+
+  pub settled_sets : (names : List (List ℕ)) → map (held all (settled ss)) names ≡ map (held all ss) names
+  settled_sets [] = refl
+  settled_sets (name ∷ names) = ap₂ ◌∷◌ (settled_held name all ss) (settled_sets names)

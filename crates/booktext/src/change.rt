@@ -1,13 +1,11 @@
 // What the statements of a section change in the rules before them.
-ghost use Rattle.std.specs.Prelude.{◌≡◌, true, List, map, ℕ, ◌+◌, ◌<◌, length, get_or, drop};
+ghost use Rattle.std.specs.Prelude.{◌≡◌, true, List, ◌++◌, map, ℕ, ◌+◌, ◌≤◌, ◌<◌, length, get_or, take, drop};
 ghost use Rattle.booktext.specs.Lines.{makes_rule};
 ghost use Rattle.booktext.specs.Changes.{amend, amended, dropped, settled_as, settled};
-ghost use Rattle.booktext.specs.Refusals.{statement_limit};
-ghost use Rattle.booktext.specs.Standing.{noted, no_cell, Marked, Marks, Holds, NotesMore};
+ghost use Rattle.booktext.specs.Standing.{noted, no_cell, Marked, Marks};
 
 use crate::cell::Cell;
 use crate::line::word_of;
-use crate::section::note_cell;
 use crate::word::{BOUND, DROP, SEVERITY, is_rule};
 use hl7::bytes::byte_at;
 
@@ -52,31 +50,33 @@ pub fn amended(t: &[u8], rule: Cell, spot: usize, cells: &[Cell]) -> Cell
 }
 
 // ---- all of them
-// Notes statement i as those that follow leave it.
-fn settle_one(t: &[u8], cells: &[Cell], i: usize, lasting: &mut [Cell], count: usize) -> usize
-    requires { Marks t.now cells.now × (i < length cells.now) × (length lasting.old ≡ statement_limit) }
-    ensures { NotesMore t.now lasting.old count lasting.new result (settled_as (noted t.now (get_or cells.now i no_cell)) (map (noted t.now) (drop (i + 1) cells.now))) }
+// Settles statement i by those that follow: it comes behind the cells that are kept, or is dropped.
+fn settle_one(t: &[u8], cells: &mut [Cell], i: usize, count: usize) -> usize
+    requires { Marks t.now cells.old × (i < length cells.old) × (count ≤ i) }
+    ensures { Marks t.now cells.new × (result ≤ i + 1) × (drop (i + 1) cells.new ≡ drop (i + 1) cells.old) × (map (noted t.now) (take result cells.new) ≡ map (noted t.now) (take count cells.old) ++ settled_as (noted t.now (get_or cells.old i no_cell)) (map (noted t.now) (drop (i + 1) cells.old))) }
 {
     let cell = cells[i];
-    let later = &cells[i + 1..];
     if !is_rule(cell.verb) {
-        return note_cell(lasting, count, cell);
+        cells[count] = cell;
+        return count + 1;
     }
+    let later = &cells[i + 1..];
     if is_dropped(later, cell.spot) {
         return count;
     }
     let rule = amended(t, cell, cell.spot, later);
-    note_cell(lasting, count, rule)
+    cells[count] = rule;
+    count + 1
 }
 
-// Notes the statements in the cells, each as those that follow leave it.
-pub(crate) fn settle(t: &[u8], cells: &[Cell], lasting: &mut [Cell]) -> usize
-    requires { Marks t.now cells.now × (length lasting.old ≡ statement_limit) }
-    ensures { Holds t.now lasting.new result (settled (map (noted t.now) cells.now)) }
+// Settles the statements in the cells, each by those that follow, and answers how many are left: these stand in the first cells then.
+pub(crate) fn settle(t: &[u8], cells: &mut [Cell]) -> usize
+    requires { Marks t.now cells.old }
+    ensures { (result ≤ length cells.old) × (map (noted t.now) (take result cells.new) ≡ settled (map (noted t.now) cells.old)) × Marks t.now (take result cells.new) }
 {
     let mut count = 0;
     for i in 0..cells.len() {
-        count = settle_one(t, cells, i, lasting, count);
+        count = settle_one(t, cells, i, count);
     }
     count
 }

@@ -1,9 +1,9 @@
 // A text made into a book.
-ghost use Rattle.std.specs.Prelude.{◌≡◌, true, cond, [], ◌∷◌, ◌++◌, map, ◌≤◌, ◌<◌, length, get_or};
+ghost use Rattle.std.specs.Prelude.{◌≡◌, true, cond, List, [], ◌∷◌, ◌++◌, map, ◌≤◌, ◌<◌, length, get_or};
 ghost use Rattle.grade.specs.Encoding.{each, spell_all, text_bytes, two_bytes_of, rule_bytes, section_bytes, book_bytes};
 ghost use Rattle.grade.specs.Limits.{book_limit};
 ghost use Rattle.ack.specs.Splice.{Wrote};
-ghost use Rattle.booktext.specs.Lines.{statements, says, line_of, text_limit, a_section};
+ghost use Rattle.booktext.specs.Lines.{Statement, statements, says, line_of, text_limit, a_section};
 ghost use Rattle.booktext.specs.Changes.{settled};
 ghost use Rattle.booktext.specs.Contents.{rules_of, contents_of, section_of, sections_in, meaning};
 ghost use Rattle.booktext.specs.Faults.{tell, nothing, firstly, number_of, told_by, told_of};
@@ -54,7 +54,7 @@ fn put_front(
     put_rules(out, fourth, t, cells, names)
 }
 
-// Rows 50 to 54 of a section whose statements are noted, and settled, and its bytes.
+// Rows 50 to 54 of a section by its settled statements, and its bytes.
 fn put_section(
     out: &mut [u8],
     at: usize,
@@ -63,20 +63,19 @@ fn put_section(
     rest: usize,
     head: usize,
     cells: &[Cell],
-    lasting: &[Cell],
 ) -> Result<usize, Fault>
-    requires { Heads t.now heads.now rest × (each sound (statements t.now) ≡ true) × (each ready (map (noted t.now) cells.now) ≡ true) × Marks t.now cells.now × Marks t.now lasting.now × (map (noted t.now) lasting.now ≡ settled (map (noted t.now) cells.now)) × (length (get_or (words_from t.now head) 1 []) ≤ 255) }
-    ensures { Puts (sizes_told t.now (statements t.now) at (line_of t.now head) (contents_of (statements t.now) (get_or (words_from t.now head) 1 []) (map (noted t.now) cells.now)) (map (noted t.now) cells.now)) (section_bytes (contents_of (statements t.now) (get_or (words_from t.now head) 1 []) (map (noted t.now) cells.now))) out.old at out.new result }
+    requires { Heads t.now heads.now rest × (each sound (statements t.now) ≡ true) × (each ready (map (noted t.now) cells.now) ≡ true) × Marks t.now cells.now × (length (get_or (words_from t.now head) 1 []) ≤ 255) }
+    ensures { (ss : List Statement) → map (noted t.now) cells.now ≡ settled ss → Puts (sizes_told t.now (statements t.now) at (line_of t.now head) (contents_of (statements t.now) (get_or (words_from t.now head) 1 []) ss) ss) (section_bytes (contents_of (statements t.now) (get_or (words_from t.now head) 1 []) ss)) out.old at out.new result }
 {
-    let rules = count_rules(lasting);
+    let rules = count_rules(cells);
     if RULE_LIMIT < rules {
         return Err(over(t, Row::RuleCount, head));
     }
-    let Some(names) = Names::of(t, lasting) else {
+    let Some(names) = Names::of(t, cells) else {
         return Err(over(t, Row::SetCount, head));
     };
     first_stray(t, head, cells, &names)?;
-    let next = put_front(out, at, t, head, lasting, &names, rules);
+    let next = put_front(out, at, t, head, cells, &names, rules);
     let end = put_sets(out, next, t, heads, rest, head, cells, &names)?;
     let long = BOOK_LIMIT < end;
     if long {
@@ -85,7 +84,7 @@ fn put_section(
     Ok(end)
 }
 
-// Rows 47 to 49, then the others; the statements are settled in between.
+// Rows 47 to 49, then the others; the statements are settled in between, in their cells.
 fn check_section(
     out: &mut [u8],
     at: usize,
@@ -93,15 +92,14 @@ fn check_section(
     heads: &[usize],
     rest: usize,
     head: usize,
-    cells: &[Cell],
-    lasting: &mut [Cell],
+    cells: &mut [Cell],
 ) -> Result<usize, Fault>
-    requires { Heads t.now heads.now rest × (each sound (statements t.now) ≡ true) × (each ready (map (noted t.now) cells.now) ≡ true) × Marks t.now cells.now × (length cells.now ≤ statement_limit) × (length lasting.old ≡ statement_limit) × (length (get_or (words_from t.now head) 1 []) ≤ 255) }
-    ensures { Puts (firstly (first_rule_fault t.now (statements t.now) (line_of t.now head) [] (map (noted t.now) cells.now)) (sizes_told t.now (statements t.now) at (line_of t.now head) (contents_of (statements t.now) (get_or (words_from t.now head) 1 []) (map (noted t.now) cells.now)) (map (noted t.now) cells.now))) (section_bytes (contents_of (statements t.now) (get_or (words_from t.now head) 1 []) (map (noted t.now) cells.now))) out.old at out.new result }
+    requires { Heads t.now heads.now rest × (each sound (statements t.now) ≡ true) × (each ready (map (noted t.now) cells.old) ≡ true) × Marks t.now cells.old × (length (get_or (words_from t.now head) 1 []) ≤ 255) }
+    ensures { Puts (firstly (first_rule_fault t.now (statements t.now) (line_of t.now head) [] (map (noted t.now) cells.old)) (sizes_told t.now (statements t.now) at (line_of t.now head) (contents_of (statements t.now) (get_or (words_from t.now head) 1 []) (map (noted t.now) cells.old)) (map (noted t.now) cells.old))) (section_bytes (contents_of (statements t.now) (get_or (words_from t.now head) 1 []) (map (noted t.now) cells.old))) out.old at out.new result }
 {
     first_rule_fault(t, heads, rest, head, cells)?;
-    let count = settle(t, cells, lasting);
-    put_section(out, at, t, heads, rest, head, cells, &lasting[..count])
+    let count = settle(t, cells);
+    put_section(out, at, t, heads, rest, head, &cells[..count])
 }
 
 // All rows of the section with a head, and its bytes.
@@ -113,9 +111,8 @@ fn make_section(
     rest: usize,
     head: usize,
     cells: &mut [Cell],
-    lasting: &mut [Cell],
 ) -> Result<usize, Fault>
-    requires { Heads t.now heads.now rest × (length t.now ≤ text_limit) × (head ≤ length t.now) × (says a_section (statement_at t.now head 0) ≡ true) × (each sound (statements t.now) ≡ true) × (each sound (statement_at t.now head 0 ∷ left t.now (next_line t.now head)) ≡ true) × (length cells.old ≡ statement_limit) × (length lasting.old ≡ statement_limit) }
+    requires { Heads t.now heads.now rest × (length t.now ≤ text_limit) × (head ≤ length t.now) × (says a_section (statement_at t.now head 0) ≡ true) × (each sound (statements t.now) ≡ true) × (each sound (statement_at t.now head 0 ∷ left t.now (next_line t.now head)) ≡ true) × (length cells.old ≡ statement_limit) }
     ensures { Puts (section_told t.now (statements t.now) at (statement_at t.now head 0) (left t.now (next_line t.now head))) (section_bytes (section_of (statements t.now) (statement_at t.now head 0) (left t.now (next_line t.now head)))) out.old at out.new result }
 {
     let start = next_line(t, head);
@@ -124,7 +121,7 @@ fn make_section(
     if STATEMENT_LIMIT < count {
         return Err(over(t, Row::StatementCount, head));
     }
-    check_section(out, at, t, heads, rest, head, &cells[..count], lasting)
+    check_section(out, at, t, heads, rest, head, &mut cells[..count])
 }
 
 // A section where the statement is one, else nothing.
@@ -136,13 +133,12 @@ fn make_any(
     rest: usize,
     line: usize,
     cells: &mut [Cell],
-    lasting: &mut [Cell],
 ) -> Result<usize, Fault>
-    requires { Heads t.now heads.now rest × (length t.now ≤ text_limit) × (line ≤ length t.now) × (each sound (statements t.now) ≡ true) × (each sound (statement_at t.now line 0 ∷ left t.now (next_line t.now line)) ≡ true) × (length cells.old ≡ statement_limit) × (length lasting.old ≡ statement_limit) }
+    requires { Heads t.now heads.now rest × (length t.now ≤ text_limit) × (line ≤ length t.now) × (each sound (statements t.now) ≡ true) × (each sound (statement_at t.now line 0 ∷ left t.now (next_line t.now line)) ≡ true) × (length cells.old ≡ statement_limit) }
     ensures { Puts (cond (says a_section (statement_at t.now line 0)) (section_told t.now (statements t.now) at (statement_at t.now line 0) (left t.now (next_line t.now line))) nothing) (cond (says a_section (statement_at t.now line 0)) (section_bytes (section_of (statements t.now) (statement_at t.now line 0) (left t.now (next_line t.now line)))) []) out.old at out.new result }
 {
     if verb_at(t, line) == SECTION {
-        return make_section(out, at, t, heads, rest, line, cells, lasting);
+        return make_section(out, at, t, heads, rest, line, cells);
     }
     Ok(put(out, at, b""))
 }
@@ -155,15 +151,14 @@ fn make_sections(
     heads: &[usize],
     rest: usize,
     cells: &mut [Cell],
-    lasting: &mut [Cell],
 ) -> Result<usize, Fault>
-    requires { Heads t.now heads.now rest × (at ≤ book_limit) × (length t.now ≤ text_limit) × (each sound (statements t.now) ≡ true) × (length cells.old ≡ statement_limit) × (length lasting.old ≡ statement_limit) }
+    requires { Heads t.now heads.now rest × (at ≤ book_limit) × (length t.now ≤ text_limit) × (each sound (statements t.now) ≡ true) × (length cells.old ≡ statement_limit) }
     ensures { Puts (sections_told t.now (statements t.now) at (statements t.now)) (spell_all section_bytes (sections_in (statements t.now) (statements t.now))) out.old at out.new result }
 {
     let mut to = at;
     let mut line = next_statement(t, 0);
     while line <= t.len() {
-        to = make_any(out, to, t, heads, rest, line, cells, lasting)?;
+        to = make_any(out, to, t, heads, rest, line, cells)?;
         line = next_statement(t, next_line(t, line));
     }
     Ok(put(out, to, b""))
@@ -181,11 +176,10 @@ fn make_book(
     ensures { Puts (sections_told t.now (statements t.now) 6 (statements t.now)) (book_bytes (meaning t.now)) out.old 0 out.new result }
 {
     let mut cells = [NO_CELL; STATEMENT_LIMIT];
-    let mut lasting = [NO_CELL; STATEMENT_LIMIT];
     let second = put(out, 0, b"VXB");
     let third = put_two(out, second, 1);
     let fourth = put_byte(out, third, sections as u8);
-    make_sections(out, fourth, t, heads, rest, &mut cells, &mut lasting)
+    make_sections(out, fourth, t, heads, rest, &mut cells)
 }
 
 // Rows 31 to 54 and 56. Where none holds, the book stands in the first bytes of the place, and its length is answered.

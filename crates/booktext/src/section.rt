@@ -44,7 +44,7 @@ pub(crate) fn used_twice(t: &[u8], head: usize, start: usize) -> Result<(), Faul
 
 // ---- statements after inclusion
 // Notes one statement more.
-pub(crate) fn note_cell(cells: &mut [Cell], count: usize, cell: Cell) -> usize
+fn note_cell(cells: &mut [Cell], count: usize, cell: Cell) -> usize
     requires { length cells.old ≡ statement_limit }
     ensures { (t : List ℕ) → Marked t cell → NotesMore t cells.old count cells.new result (noted t cell ∷ []) }
 {

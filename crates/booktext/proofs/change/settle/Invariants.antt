@@ -1,10 +1,7 @@
--- `booktext::change::settle` meets its contract. The invariant of its loop: whoever notes those left, settled, has noted all. Assumes nothing.
-use mathlib.Core.List.{map}
-use lib.ListN.{drop}
-use Rattle.booktext.specs.Changes.{settled}
-use Rattle.booktext.specs.Standing.{noted}
-use Rattle.booktext.proofs.Noting.{Noting}
+-- `booktext::change::settle` meets its contract. The invariant of its loop: what is left of those passed, and those to come settled, are all settled. Assumes
+-- nothing.
+use Rattle.booktext.proofs.Changing.{Settling}
 use Rattle.booktext.proofs.change.settle.Given as goal
 
 abbrev pub invariant-loop-i : goal.invariant-loop-i
-invariant-loop-i l = Noting l.t l.initial.lasting 0 (settled (map (noted l.t) l.cells)) l.lasting l.count (settled (map (noted l.t) (drop l.i l.cells)))
+invariant-loop-i l = Settling l.t l.initial.cells l.cells l.count l.i

@@ -1,9 +1,12 @@
 -- `booktext::compile::check_section` meets its contract. Assumes nothing.
-use mathlib.Core.Path.{refl, sym}
+use mathlib.Core.Path.{refl, sym, ap, ◌∙◌}
 use native.Mathlib.Omega.{arith}
 use lib.Seq.{length-take-le}
+use Rattle.grade.specs.Encoding.{each}
+use Rattle.booktext.specs.Standing.{ready}
+use Rattle.booktext.proofs.Settling.{settled-ready}
 use Rattle.booktext.proofs.Telling.{row-some, handed}
-use Rattle.booktext.proofs.Making.{puts_first, puts_next, settled-fits, settled-noted}
+use Rattle.booktext.proofs.Making.{puts_first, puts_next}
 use Rattle.booktext.proofs.compile.check_section.Goals as goal
 
 pub first_rule_fault-requires : goal.first_rule_fault-requires
@@ -15,16 +18,16 @@ returns-in_err-first_rule_fault c =
     puts_first c.in_err-first_rule_fault.ensures _ (row-some f.row) (handed f c.from_residual.result c.from_residual.ensures.1) refl
 
 pub settle-count-requires : goal.settle-count-requires
-settle-count-requires c = (c.requires.3, c.requires.5)
+settle-count-requires c = c.requires.3
 
 pub slice_bounds-put_section-end : goal.slice_bounds-put_section-end
-slice_bounds-put_section-end c = omega (arith, settled-fits _ c.args.cells.now c.settle-count.ensures c.requires.4, c.settle-count.auto.lasting, c.requires.5)
+slice_bounds-put_section-end c = omega (arith, c.settle-count.ensures.0, c.settle-count.auto.cells)
 
 pub slice_bounds-put_section-end-2 : goal.slice_bounds-put_section-end-2
-slice_bounds-put_section-end-2 c = sym (length-take-le c.settle-count.result _ (omega (arith, settled-fits _ c.args.cells.now c.settle-count.ensures c.requires.4, c.settle-count.auto.lasting, c.requires.5)))
+slice_bounds-put_section-end-2 c = sym (length-take-le c.settle-count.result _ (omega (arith, c.settle-count.ensures.0, c.settle-count.auto.cells)))
 
 pub put_section-requires : goal.put_section-requires
-put_section-requires c = (c.requires.0, c.requires.1, c.requires.2, c.requires.3, c.settle-count.ensures.marks (settled-fits _ c.args.cells.now c.settle-count.ensures c.requires.4), settled-noted _ c.args.cells.now c.settle-count.ensures c.requires.4, c.requires.6)
+put_section-requires c = (c.requires.0, c.requires.1, ap (each ready) c.settle-count.ensures.1 ∙ settled-ready _ c.requires.2, c.settle-count.ensures.2, c.requires.4)
 
 pub returns : goal.returns
-returns c = puts_next c.in_ok-first_rule_fault.ensures refl c.put_section.ensures
+returns c = puts_next c.in_ok-first_rule_fault.ensures refl (c.put_section.ensures _ c.settle-count.ensures.1)

@@ -7,10 +7,10 @@ use Rattle.booktext.proofs.Compiling.{making_start, making_over, making_right, m
 use Rattle.booktext.proofs.compile.make_sections.Goals as goal
 
 pub loop-line-init : goal.loop-line-init
-loop-line-init c = (making_start c.args.t.now c.args.out.now c.args.at c.requires.1 c.requires.3 c.next_statement-line.ensures, refl, refl)
+loop-line-init c = (making_start c.args.t.now c.args.out.now c.args.at c.requires.1 c.requires.3 c.next_statement-line.ensures, refl)
 
 pub make_any-requires : goal.make_any-requires
-make_any-requires c = (c.requires.0, c.requires.2, c.loop-line-test.true, c.requires.3, making_right c.args.t.now c.loop-line.line c.loop-line.invariant.0 c.loop-line-test.true, c.loop-line.invariant.1 ∙ c.requires.4, c.loop-line.invariant.2 ∙ c.requires.5)
+make_any-requires c = (c.requires.0, c.requires.2, c.loop-line-test.true, c.requires.3, making_right c.args.t.now c.loop-line.line c.loop-line.invariant.0 c.loop-line-test.true, c.loop-line.invariant.1 ∙ c.requires.4)
 
 pub returns-in_err-to : goal.returns-in_err-to
 returns-in_err-to c =
@@ -25,7 +25,6 @@ pub loop-line-preserved : goal.loop-line-preserved
 loop-line-preserved c = (
   making_on c.args.t.now c.loop-line.line c.loop-line.invariant.0 c.loop-line-test.true c.in_ok-to.ensures refl c.next_line.ensures c.next_statement-line-in-loop-line.ensures,
   c.cells-1.given ∙ c.loop-line.invariant.1,
-  c.lasting-1.given ∙ c.loop-line.invariant.2,
 )
 
 pub returns : goal.returns

@@ -8,7 +8,7 @@ use Rattle.booktext.proofs.Compiling.{Making}
 use Rattle.booktext.proofs.compile.make_sections.Given as goal
 
 abbrev pub invariant-loop-line : goal.invariant-loop-line
-invariant-loop-line l = Making l.t l.initial.out l.at (onward l.t (left l.t) l.line) l.out l.to × (length l.cells ≡ length l.initial.cells) × (length l.lasting ≡ length l.initial.lasting)
+invariant-loop-line l = Making l.t l.initial.out l.at (onward l.t (left l.t) l.line) l.out l.to × (length l.cells ≡ length l.initial.cells)
 
 abbrev pub decreases-loop-line : goal.decreases-loop-line
 decreases-loop-line l = length (onward l.t (left l.t) l.line)
