@@ -21,7 +21,7 @@ use hl7::bytes::{pick, same_bytes};
 fn stands_after(so: bool, cell: Cell, spot: usize) -> bool
     ensures { (t : List ℕ) → Marked t cell → result ≡ (rules_it spot (noted t cell) || (not (says_of a_drop spot (noted t cell)) && so)) }
 {
-    let ruled = is_rule(cell.verb) & (cell.spot == spot);
+    let ruled = is_rule(cell.verb) & (cell.spot as usize == spot);
     ruled | (!cell.says_of(DROP, spot) & so)
 }
 
@@ -111,7 +111,7 @@ fn has_after(t: &[u8], so: bool, cell: Cell, name: &[u8], code: &[u8]) -> bool
     if !is_codes(cell.verb) {
         return so;
     }
-    if names_code(t, cell.line, name, code) {
+    if names_code(t, cell.line as usize, name, code) {
         return cell.verb == MORE;
     }
     so
@@ -183,12 +183,13 @@ fn rule_fault(t: &[u8], heads: &[usize], rest: usize, cells: &[Cell], i: usize) 
     let cell = cells[i];
     let earlier = &cells[..i];
     if is_placed(cell.verb) {
-        return place_fault(cell.verb, is_standing(earlier, cell.spot));
+        return place_fault(cell.verb, is_standing(earlier, cell.spot as usize));
     }
     if !is_codes(cell.verb) {
         return None;
     }
-    if !codes_asked(t, heads, rest, earlier, cell.line, cell.verb == LESS) {
+    let line = cell.line as usize;
+    if !codes_asked(t, heads, rest, earlier, line, cell.verb == LESS) {
         return Some(Row::WrongChange);
     }
     None
@@ -207,7 +208,7 @@ pub(crate) fn first_rule_fault(
 {
     for i in 0..cells.len() {
         if let Some(row) = rule_fault(t, heads, rest, cells, i) {
-            return Err(row.in_section(line_of(t, cells[i].line), line_of(t, head)));
+            return Err(row.in_section(line_of(t, cells[i].line as usize), line_of(t, head)));
         }
     }
     Ok(())

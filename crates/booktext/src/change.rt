@@ -27,7 +27,7 @@ fn amend(t: &[u8], rule: Cell, spot: usize, cell: Cell) -> Cell
     ensures { (noted t.now result ≡ amend spot (noted t.now rule) (noted t.now cell)) × (result.verb ≡ rule.verb) × (result.spot ≡ rule.spot) }
 {
     if cell.says_of(SEVERITY, spot) {
-        let given = byte_at(word_of(t, cell.line, 3), 0);
+        let given = byte_at(word_of(t, cell.line as usize, 3), 0);
         return Cell { given, ..rule };
     }
     if cell.says_of(BOUND, spot) {
@@ -61,10 +61,11 @@ fn settle_one(t: &[u8], cells: &mut [Cell], i: usize, count: usize) -> usize
         return count + 1;
     }
     let later = &cells[i + 1..];
-    if is_dropped(later, cell.spot) {
+    let spot = cell.spot as usize;
+    if is_dropped(later, spot) {
         return count;
     }
-    let rule = amended(t, cell, cell.spot, later);
+    let rule = amended(t, cell, spot, later);
     cells[count] = rule;
     count + 1
 }

@@ -90,8 +90,8 @@ impl Names {
     fn note_sets(&mut self, t: &[u8], cell: Cell) -> bool
         ensures { NamesMore t.now self.old result self.new (pinned (noted t.now cell ∷ [])) }
     {
-        if verb_at(t, cell.line) == SETS {
-            return self.note_words(t, skip_words(t, cell.line, 1));
+        if verb_at(t, cell.line as usize) == SETS {
+            return self.note_words(t, skip_words(t, cell.line as usize, 1));
         }
         true
     }

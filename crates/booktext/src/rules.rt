@@ -28,7 +28,7 @@ pub fn letter_of(t: &[u8], cell: Cell) -> u8
     ensures { result ≡ letter_of (noted t.now cell) }
 {
     if cell.given == 0 {
-        return byte_at(word_of(t, cell.line, 3), 0);
+        return byte_at(word_of(t, cell.line as usize, 3), 0);
     }
     cell.given
 }
@@ -68,11 +68,11 @@ fn put_rule(out: &mut [u8], at: usize, t: &[u8], cell: Cell, names: &Names) -> u
 {
     let bound = cell.bound_at(t);
     let first = word_of(t, bound, 0);
-    let kind = kind_number(word_of(t, cell.line, 2));
+    let kind = kind_number(word_of(t, cell.line as usize, 2));
     let set = set_number(t, first, names);
     let low = number_in(first);
     let high = number_in(word_of(t, bound, 1));
-    let second = put_place(out, at, word_of(t, cell.line, 1));
+    let second = put_place(out, at, word_of(t, cell.line as usize, 1));
     let third = put_byte(out, second, kind);
     let fourth = put_byte(out, third, letter_of(t, cell));
     put_bound(out, fourth, kind, set, low, high)
@@ -95,7 +95,7 @@ fn put_made(out: &mut [u8], at: usize, t: &[u8], cell: Cell, names: &Names) -> u
     requires { (ready (noted t.now cell) ≡ true) }
     ensures { Wrote out.old at (spell_all rule_bytes (rules_of (names_in t.now names.now) (noted t.now cell ∷ []))) out.new result }
 {
-    if is_rule(verb_at(t, cell.line)) {
+    if is_rule(verb_at(t, cell.line as usize)) {
         return put_rule(out, at, t, cell, names);
     }
     put(out, at, b"")

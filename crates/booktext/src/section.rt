@@ -1,6 +1,6 @@
 // Rows 46 and 56: what a section takes over from commons, and its statements after inclusion, noted in lent cells.
-ghost use Rattle.std.specs.Prelude.{◌≡◌, not, ◌&&◌, List, [], ◌∷◌, map, ℕ, length};
-ghost use Rattle.booktext.specs.Lines.{statements, says, line_of, a_use};
+ghost use Rattle.std.specs.Prelude.{◌≡◌, not, ◌&&◌, List, [], ◌∷◌, map, ℕ, ◌≤◌, length};
+ghost use Rattle.booktext.specs.Lines.{statements, says, line_of, text_limit, a_use};
 ghost use Rattle.booktext.specs.Meaning.{give, taken, expand};
 ghost use Rattle.booktext.specs.Refusals.{is_first, used_twice, statement_limit};
 ghost use Rattle.booktext.specs.Standing.{statement_at, left, body_from, Heads, told_in, noted, Marked, Holds, NotesMore};
@@ -57,7 +57,7 @@ fn note_cell(cells: &mut [Cell], count: usize, cell: Cell) -> usize
 
 // Notes one by the position of its line, and the severity that it was given.
 fn note(t: &[u8], cells: &mut [Cell], count: usize, at: usize, letter: u8) -> usize
-    requires { length cells.old ≡ statement_limit }
+    requires { (length t.now ≤ text_limit) × (at ≤ length t.now) × (length cells.old ≡ statement_limit) }
     ensures { NotesMore t.now cells.old count cells.new result ((statement_at t.now at letter ∷ [])) }
 {
     note_cell(cells, count, cell_at(t, at, letter))
@@ -65,7 +65,7 @@ fn note(t: &[u8], cells: &mut [Cell], count: usize, at: usize, letter: u8) -> us
 
 // Notes the statements of a common, which begin at start.
 fn note_block(t: &[u8], cells: &mut [Cell], count: usize, start: usize, letter: u8) -> usize
-    requires { length cells.old ≡ statement_limit }
+    requires { (length t.now ≤ text_limit) × (length cells.old ≡ statement_limit) }
     ensures { NotesMore t.now cells.old count cells.new result (map (give letter) (body_from t.now start)) }
 {
     let mut n = count;
@@ -89,7 +89,7 @@ fn note_taken(
     count: usize,
     at: usize,
 ) -> usize
-    requires { Heads t.now heads.now rest × (length cells.old ≡ statement_limit) }
+    requires { Heads t.now heads.now rest × (length t.now ≤ text_limit) × (length cells.old ≡ statement_limit) }
     ensures { NotesMore t.now cells.old count cells.new result (taken (statements t.now) (statement_at t.now at 0)) }
 {
     if verb_at(t, at) != USE {
@@ -117,7 +117,7 @@ fn note_both(
     count: usize,
     at: usize,
 ) -> usize
-    requires { Heads t.now heads.now rest × (length cells.old ≡ statement_limit) }
+    requires { Heads t.now heads.now rest × (length t.now ≤ text_limit) × (at ≤ length t.now) × (length cells.old ≡ statement_limit) }
     ensures { NotesMore t.now cells.old count cells.new result ((statement_at t.now at 0 ∷ taken (statements t.now) (statement_at t.now at 0))) }
 {
     let next = note(t, cells, count, at, 0);
@@ -132,7 +132,7 @@ pub fn note_section(
     cells: &mut [Cell],
     start: usize,
 ) -> usize
-    requires { Heads t.now heads.now rest × (length cells.old ≡ statement_limit) }
+    requires { Heads t.now heads.now rest × (length t.now ≤ text_limit) × (length cells.old ≡ statement_limit) }
     ensures { Holds t.now cells.new result (expand (statements t.now) (body_from t.now start)) }
 {
     let mut n = 0;

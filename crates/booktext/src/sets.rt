@@ -66,7 +66,7 @@ fn takes_code(t: &[u8], cell: Cell, name: &[u8], code: &[u8]) -> bool
     ensures { result ≡ names_code a_less name.now code.now (noted t.now cell) }
 {
     if cell.verb == LESS {
-        return names_code(t, cell.line, name, code);
+        return names_code(t, cell.line as usize, name, code);
     }
     false
 }
@@ -149,10 +149,10 @@ fn put_more(out: &mut [u8], run: Run, t: &[u8], cells: &[Cell], name: &[u8], i: 
     if cell.verb != MORE {
         return put_none(out, run);
     }
-    if !same_bytes(word_of(t, cell.line, 1), name) {
+    if !same_bytes(word_of(t, cell.line as usize, 1), name) {
         return put_none(out, run);
     }
-    let from = skip_words(t, cell.line, 2);
+    let from = skip_words(t, cell.line as usize, 2);
     put_words(out, run, t, &cells[i + 1..], name, from)
 }
 
@@ -243,7 +243,7 @@ fn is_stray(t: &[u8], cell: Cell, names: &Names) -> bool
     ensures { result ≡ (of_codes (verb (noted t.now cell)) && not (among (word (noted t.now cell) 1) (names_in t.now names.now))) }
 {
     if is_codes(cell.verb) {
-        return names.number_of(t, word_of(t, cell.line, 1)) == 0;
+        return names.number_of(t, word_of(t, cell.line as usize, 1)) == 0;
     }
     false
 }
@@ -255,7 +255,7 @@ pub(crate) fn first_stray(t: &[u8], head: usize, cells: &[Cell], names: &Names) 
 {
     for &cell in cells {
         if is_stray(t, cell, names) {
-            return Err(Row::StraySet.in_section(line_of(t, cell.line), line_of(t, head)));
+            return Err(Row::StraySet.in_section(line_of(t, cell.line as usize), line_of(t, head)));
         }
     }
     Ok(())

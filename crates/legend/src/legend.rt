@@ -61,8 +61,8 @@ fn put_rule(out: &mut Output<'_>, t: &[u8], cell: Cell, key: &[u8], n: usize)
 {
     out.put(key);
     out.put_number(b' ', n);
-    out.put_field(b' ', word_of(t, cell.line, 1));
-    out.put_field(b' ', word_of(t, cell.line, 2));
+    out.put_field(b' ', word_of(t, cell.line as usize, 1));
+    out.put_field(b' ', word_of(t, cell.line as usize, 2));
     out.put_byte(b' ');
     out.put_byte(letter_of(t, cell));
     put_words(out, t, cell.bound_at(t));
@@ -74,7 +74,7 @@ fn put_change(out: &mut Output<'_>, t: &[u8], spot: usize, cell: Cell)
     ensures { Adds out.old (later_remarks t.now spot (noted t.now cell ∷ [])) out.new }
 {
     if cell.says_of(SEVERITY, spot) | cell.says_of(BOUND, spot) {
-        put_remark(out, people_at(t, cell.line));
+        put_remark(out, people_at(t, cell.line as usize));
     }
 }
 
@@ -96,7 +96,7 @@ fn is_staying(cells: &[Cell], i: usize) -> bool
 {
     let cell = cells[i];
     if is_rule(cell.verb) {
-        return !is_dropped(&cells[i + 1..], cell.spot);
+        return !is_dropped(&cells[i + 1..], cell.spot as usize);
     }
     false
 }
@@ -116,7 +116,7 @@ fn put_amended(
 {
     let rule = amended(t, cell, spot, cells);
     put_rule(out, t, rule, key, n);
-    put_remark(out, people_at(t, cell.line));
+    put_remark(out, people_at(t, cell.line as usize));
     put_changes(out, t, spot, cells);
     out.put_byte(LINE_FEED);
 }
@@ -128,7 +128,7 @@ fn put_line(out: &mut Output<'_>, t: &[u8], cells: &[Cell], i: usize, key: &[u8]
 {
     let cell = cells[i];
     let later = &cells[i + 1..];
-    put_amended(out, t, cell, cell.spot, later, key, n);
+    put_amended(out, t, cell, cell.spot as usize, later, key, n);
 }
 
 // That line, if it stays.
