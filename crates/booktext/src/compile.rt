@@ -189,12 +189,20 @@ pub fn make(t: &[u8], place: &mut [u8]) -> Told
 {
     bytes_told(t)?;
     first_fault(t)?;
+    make_noted(t, place)
+}
+
+// Rows 43 to 54 and 56, likewise, of a text that passes the others. Beside a `?` the array would be filled twice.
+fn make_noted(t: &[u8], place: &mut [u8]) -> Told
+    requires { (length place.old ≡ book_limit) × (length t.now ≤ text_limit) × (each sound (statements t.now) ≡ true) }
+    ensures { MakesBy (named_told t.now) t.now (told_of result) place.new }
+{
     let mut heads = [0usize; HEAD_LIMIT];
     let noted = note_heads(t, &mut heads);
     make_named(t, &heads[..noted.count], noted.rest, place)
 }
 
-// Rows 43 to 54 and 56, likewise, of a text that passes the others.
+// The same, its sets, commons and sections noted.
 fn make_named(t: &[u8], heads: &[usize], rest: usize, place: &mut [u8]) -> Told
     requires { Heads t.now heads.now rest × (length place.old ≡ book_limit) × (length t.now ≤ text_limit) × (each sound (statements t.now) ≡ true) }
     ensures { MakesBy (named_told t.now) t.now (told_of result) place.new }

@@ -1,6 +1,5 @@
 -- `booktext::compile::make` meets its contract. Assumes nothing.
-use mathlib.Core.Path.{refl, sym}
-use lib.Seq.{length-take-le}
+use mathlib.Core.Path.{refl}
 use Rattle.booktext.proofs.Telling.{row-some, handed-as}
 use Rattle.booktext.proofs.Compiling.{bytes-refused, words-refused, text-short, text-sound, text-made}
 use Rattle.booktext.proofs.compile.make.Goals as goal
@@ -16,13 +15,10 @@ returns-in_err-first_fault c =
     rw (handed-as f c.from_residual-in_err-first_fault.result c.from_residual-in_err-first_fault.ensures.1)
     (words-refused c.args.t.now c.in_ok-bytes_told.ensures refl c.in_err-first_fault.ensures c.args.place.now (row-some f.row))
 
-pub slice_bounds-make_named-end : goal.slice_bounds-make_named-end
-slice_bounds-make_named-end c = sym (length-take-le _ _ c.note_heads-noted.ensures.0)
-
-pub make_named-requires : goal.make_named-requires
-make_named-requires c =
+pub make_noted-requires : goal.make_noted-requires
+make_noted-requires c =
     let t = c.args.t.now in
-    (c.note_heads-noted.ensures.1, c.requires, text-short t c.in_ok-bytes_told.ensures refl, text-sound t c.in_ok-bytes_told.ensures refl c.in_ok-first_fault.ensures refl)
+    (c.requires, text-short t c.in_ok-bytes_told.ensures refl, text-sound t c.in_ok-bytes_told.ensures refl c.in_ok-first_fault.ensures refl)
 
 pub returns : goal.returns
-returns c = text-made c.args.t.now c.in_ok-bytes_told.ensures refl c.in_ok-first_fault.ensures refl c.make_named.ensures
+returns c = text-made c.args.t.now c.in_ok-bytes_told.ensures refl c.in_ok-first_fault.ensures refl c.make_noted.ensures
