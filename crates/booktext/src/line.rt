@@ -1,5 +1,5 @@
 // Words of what a line says, from a position on. These functions are total, so that whoever calls them has nothing to show.
-ghost use Rattle.std.specs.Prelude.{◌≡◌, ℕ, Bool, [], ◌+◌, ◌≤◌, ◌<◌, length, get_or, drop};
+ghost use Rattle.std.specs.Prelude.{◌≡◌, [], ◌+◌, ◌≤◌, length, get_or, drop};
 ghost use Rattle.booktext.specs.Lines.{blank, line_of};
 ghost use Rattle.booktext.specs.Standing.{dark, run, words_from, span_bytes, NextWord};
 
@@ -20,31 +20,32 @@ fn is_dark(x: u8) -> bool
     !(is_blank(x) | ((x == 10) | (x == 124)))
 }
 
-// Where the bytes that pass a test and begin at from end.
-fn run_end<F: Fn(u8) -> bool>(t: &[u8], from: usize, test: F) -> usize
-    requires { F.IsAlwaysCallable test }
-    ensures { (p : ℕ → Bool) → ((x : ℕ) (b : Bool) → x < 256 → F.post test x b → b ≡ p x) → result ≡ from + length (run p (drop from t.now)) }
-{
-    for i in from..t.len() {
-        if !test(t[i]) {
-            return i;
-        }
-    }
-    from.max(t.len())
-}
-
-// Where the blanks that begin at from end.
+// Where the blanks that begin at from end. By index: where one loop serves any test, or the library searches, a text of long blanks or of many words takes longer.
 pub fn past_blanks(t: &[u8], from: usize) -> usize
     ensures { result ≡ from + length (run blank (drop from t.now)) }
 {
-    run_end(t, from, is_blank)
+    let mut i = from;
+    while i < t.len() {
+        if !is_blank(t[i]) {
+            return i;
+        }
+        i += 1;
+    }
+    i
 }
 
-// Where the word that begins at from ends.
+// Where the word that begins at from ends, likewise.
 fn word_end(t: &[u8], from: usize) -> usize
     ensures { result ≡ from + length (run dark (drop from t.now)) }
 {
-    run_end(t, from, is_dark)
+    let mut i = from;
+    while i < t.len() {
+        if !is_dark(t[i]) {
+            return i;
+        }
+        i += 1;
+    }
+    i
 }
 
 // The first word at a position or later.
