@@ -18,7 +18,7 @@ use Rattle.booktext.specs.Changes.{lessened, kept, added_by, added}
 use Rattle.booktext.specs.Contents.{listed, codes_at, codes_of, held}
 use Rattle.booktext.specs.Faults.{codes_right}
 use Rattle.booktext.specs.Standing.{is_short, sound, ready, noted, no_cell}
-use Rattle.booktext.specs.declared.cell.Cell.{Cell}
+use Rattle.booktext.specs.Cells.{Cell}
 use Rattle.booktext.proofs.Each.{each_append, each_as, each-body}
 use Rattle.booktext.proofs.Sounding.{sounds}
 

@@ -15,6 +15,7 @@ pub mod Naming
 pub mod Each
 pub mod Sounding
 pub mod Ruling
+pub mod Numbering
 pub mod Settling
 pub mod Fitting
 pub mod Spelling

@@ -22,7 +22,7 @@ use Rattle.booktext.specs.Contents.{rules_of, names_of, held, contents_of, secti
 use Rattle.booktext.specs.Faults.{Told, tell, nothing, firstly, key_right}
 use Rattle.booktext.specs.Refusals.{at_of, statement_limit, used_twice, first_rule_fault, first_stray, first_bad_set, over, sizes_told, section_told}
 use Rattle.booktext.specs.Standing.{words_from, span_bytes, statement_at, next_line, left, body_from, sound, ready, noted, Holds, CountsRules, names_in, told_in, end_in, Puts}
-use Rattle.booktext.specs.declared.cell.Cell.{Cell}
+use Rattle.booktext.specs.Cells.{Cell}
 use Rattle.booktext.specs.declared.names.Names.{Names}
 use Rattle.booktext.specs.declared.told.Fault.{Fault}
 use Rattle.booktext.proofs.Each.{each-body}

@@ -18,7 +18,7 @@ use Rattle.booktext.specs.Words.{place_in, kind_number}
 use Rattle.booktext.specs.Meaning.{give}
 use Rattle.booktext.specs.Changes.{spot_of, says_of, bind}
 use Rattle.booktext.specs.Standing.{words_from, statement_at, bound_by, noted, Marked, Marks, no_cell}
-use Rattle.booktext.specs.declared.cell.Cell.{Cell}
+use Rattle.booktext.specs.Cells.{Cell}
 
 -- ---- cells
 

@@ -17,7 +17,7 @@ use Rattle.booktext.specs.Words.{kind_number, a_code_kind}
 use Rattle.booktext.specs.Contents.{with_name, with_names, pinned, asks_code, named, names_of}
 use Rattle.booktext.specs.Standing.{no_span, span_bytes, words_from, statement_at, noted, no_cell, names_in, NextWord, NamesMore}
 use Rattle.booktext.specs.declared.names.Names.{Names}
-use Rattle.booktext.specs.declared.cell.Cell.{Cell}
+use Rattle.booktext.specs.Cells.{Cell}
 use Rattle.booktext.proofs.Marking.{noted-verb, noted_other, cells_step, cells_done}
 
 -- ---- a name's number, in the words of a loop along the spans

@@ -15,7 +15,7 @@ use Rattle.booktext.specs.Meaning.{body, from, under, give, taken, expand}
 use Rattle.booktext.specs.Faults.{Told, tell, nothing}
 use Rattle.booktext.specs.Refusals.{is_first, used_twice, statement_limit}
 use Rattle.booktext.specs.Standing.{words_from, statement_at, next_line, left, body_from, Finds, noted, Marked, Holds, NotesMore}
-use Rattle.booktext.specs.declared.cell.Cell.{Cell}
+use Rattle.booktext.specs.Cells.{Cell}
 use Rattle.booktext.proofs.Stating.{onward, onward-none, onward-some, onward_step}
 
 -- ---- row 46

@@ -21,7 +21,7 @@ use Rattle.booktext.specs.Contents.{listed, codes_at, codes_of, held}
 use Rattle.booktext.specs.Faults.{Told, tell, nothing}
 use Rattle.booktext.specs.Refusals.{spots_of, stands, has_code, code_asked, rule_fault, first_rule_fault}
 use Rattle.booktext.specs.Standing.{words_from, span_bytes, NextWord, statement_at, next_line, left, body_from, Finds, noted, no_cell, Marked, Marks, rules_it}
-use Rattle.booktext.specs.declared.cell.Cell.{Cell}
+use Rattle.booktext.specs.Cells.{Cell}
 use Rattle.booktext.proofs.Stating.{onward, onward-none, onward-some, onward_step}
 use Rattle.booktext.proofs.Marking.{noted-verb, noted-at, noted_other, cells_step, cells_done, mark_says, mark_at}
 use Rattle.booktext.proofs.Changing.{amend-rule, amend-spot, amended_as}

@@ -29,7 +29,7 @@ use Rattle.booktext.specs.Words.{number_in, pointed, place_in, bound_fits, is_pl
 use Rattle.booktext.specs.Contents.{letter_of, rule_or, made, rules_of}
 use Rattle.booktext.specs.Faults.{place_right, kind_right, severity_right, before_bound, bound_right}
 use Rattle.booktext.specs.Standing.{statement_at, noted, no_cell, Marked, Marks, sound, ready, CountsRules, place_bytes, bound_bytes}
-use Rattle.booktext.specs.declared.cell.Cell.{Cell}
+use Rattle.booktext.specs.Cells.{Cell}
 use Rattle.booktext.proofs.Marking.{line_says, noted_as, noted-verb, cells_step, cells_done}
 use Rattle.booktext.proofs.Sounding.{Sounds, sounds}
 

@@ -20,7 +20,7 @@ use Rattle.booktext.specs.Contents.{held}
 use Rattle.booktext.specs.Faults.{Told, tell, nothing}
 use Rattle.booktext.specs.Refusals.{first_stray, first_bad_set, at_of}
 use Rattle.booktext.specs.Standing.{words_from, span_bytes, next_line, left, Finds, names_in, no_span, noted, no_cell, Marked, Spelt, told_in, end_in, Puts}
-use Rattle.booktext.specs.declared.cell.Cell.{Cell}
+use Rattle.booktext.specs.Cells.{Cell}
 use Rattle.booktext.specs.declared.names.Names.{Names}
 use Rattle.booktext.specs.declared.told.Fault.{Fault}
 use Rattle.booktext.specs.declared.sets.Run.{Run}

@@ -19,7 +19,7 @@ use Rattle.booktext.specs.Meaning.{from}
 use Rattle.booktext.specs.Changes.{names_code, lessened, kept, added_by, added}
 use Rattle.booktext.specs.Contents.{listed, codes_at, codes_of, held}
 use Rattle.booktext.specs.Standing.{words_from, span_bytes, NextWord, statement_at, next_line, left, body_from, Finds, is_short, sound, noted, no_cell, Marked, Marks, Spelt}
-use Rattle.booktext.specs.declared.cell.Cell.{Cell}
+use Rattle.booktext.specs.Cells.{Cell}
 use Rattle.booktext.specs.declared.sets.Run.{Run}
 use Rattle.booktext.proofs.Each.{each_both}
 use Rattle.booktext.proofs.Marking.{noted_other, cells_step, cells_done, mark_at, part_cells, part_noted}

@@ -5,4 +5,5 @@ pub mod Changes
 pub mod Contents
 pub mod Faults
 pub mod Refusals
+pub mod Cells
 pub mod Standing

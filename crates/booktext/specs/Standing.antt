@@ -19,7 +19,7 @@ use Rattle.grade.specs.Rule.{name_bytes, severity_of}
 use Rattle.grade.specs.declared.rule.Place.{Place}
 use Rattle.booktext.specs.declared.told.Row.{Row}
 use Rattle.booktext.specs.declared.told.Fault.{Fault}
-use Rattle.booktext.specs.declared.cell.Cell.{Cell}
+use Rattle.booktext.specs.Cells.{Cell}
 use Rattle.booktext.specs.declared.names.Names.{Names}
 use Rattle.booktext.specs.declared.sets.Run.{Run}
 

@@ -8,7 +8,7 @@ ghost use Rattle.booktext.specs.Contents.{listed, codes_of};
 ghost use Rattle.booktext.specs.Refusals.{stands, has_code, code_asked, rule_fault, first_rule_fault};
 ghost use Rattle.booktext.specs.Standing.{words_from, statement_at, body_from, Heads, told_in, row_number, noted, no_cell, Marked, Marks, rules_it};
 
-use crate::cell::Cell;
+use crate::cell::SmallCell;
 use crate::heads::seek_head;
 use crate::line::{line_of, next_word, part, skip_words, word_of};
 use crate::statement::{next_in_body, next_line, verb_at};
@@ -18,7 +18,7 @@ use hl7::bytes::{pick, same_bytes};
 
 // ---- rules
 // Whether a rule of this place and kind stands after the statement of a cell, where one stood or did not before.
-fn stands_after(so: bool, cell: Cell, spot: usize) -> bool
+fn stands_after(so: bool, cell: SmallCell, spot: usize) -> bool
     ensures { (t : List ℕ) → Marked t cell → result ≡ (rules_it spot (noted t cell) || (not (says_of a_drop spot (noted t cell)) && so)) }
 {
     let ruled = is_rule(cell.verb) & (cell.spot as usize == spot);
@@ -26,7 +26,7 @@ fn stands_after(so: bool, cell: Cell, spot: usize) -> bool
 }
 
 // Whether one stands after the statements in the cells.
-fn is_standing(cells: &[Cell], spot: usize) -> bool
+fn is_standing(cells: &[SmallCell], spot: usize) -> bool
     ensures { (t : List ℕ) → Marks t cells.now → result ≡ stands spot (map (noted t) cells.now) }
 {
     let mut so = false;
@@ -104,7 +104,7 @@ pub(crate) fn names_code(t: &[u8], at: usize, name: &[u8], code: &[u8]) -> bool
 }
 
 // Whether a set has a code after the statement of a cell, where it had it or not before.
-fn has_after(t: &[u8], so: bool, cell: Cell, name: &[u8], code: &[u8]) -> bool
+fn has_after(t: &[u8], so: bool, cell: SmallCell, name: &[u8], code: &[u8]) -> bool
     requires { Marked t.now cell }
     ensures { result ≡ (names_code a_more name.now code.now (noted t.now cell) || (not (names_code a_less name.now code.now (noted t.now cell)) && so)) }
 {
@@ -122,7 +122,7 @@ fn has_code(
     t: &[u8],
     heads: &[usize],
     rest: usize,
-    cells: &[Cell],
+    cells: &[SmallCell],
     name: &[u8],
     code: &[u8],
 ) -> bool
@@ -141,7 +141,7 @@ fn codes_asked(
     t: &[u8],
     heads: &[usize],
     rest: usize,
-    cells: &[Cell],
+    cells: &[SmallCell],
     at: usize,
     less: bool,
 ) -> bool
@@ -176,7 +176,7 @@ fn place_fault(verb: u8, stands: bool) -> Option<Row>
 }
 
 // The row that holds of statement i after those before it.
-fn rule_fault(t: &[u8], heads: &[usize], rest: usize, cells: &[Cell], i: usize) -> Option<Row>
+fn rule_fault(t: &[u8], heads: &[usize], rest: usize, cells: &[SmallCell], i: usize) -> Option<Row>
     requires { Heads t.now heads.now rest × Marks t.now cells.now × (i < length cells.now) }
     ensures { row_number result ≡ rule_fault (statements t.now) (map (noted t.now) (take i cells.now)) (noted t.now (get_or cells.now i no_cell)) }
 {
@@ -201,7 +201,7 @@ pub(crate) fn first_rule_fault(
     heads: &[usize],
     rest: usize,
     head: usize,
-    cells: &[Cell],
+    cells: &[SmallCell],
 ) -> Result<(), Fault>
     requires { Heads t.now heads.now rest × Marks t.now cells.now }
     ensures { told_in result ≡ first_rule_fault t.now (statements t.now) (line_of t.now head) [] (map (noted t.now) cells.now) }

@@ -1,6 +1,6 @@
 // A statement of a section, as it is noted.
 ghost use Rattle.std.specs.Prelude.{◌≡◌, true, ◌&&◌, ◌+◌, ◌*◌, ◌≤◌, eqb, length, drop};
-ghost use Rattle.booktext.specs.Lines.{makes_rule, text_limit};
+ghost use Rattle.booktext.specs.Lines.{makes_rule};
 ghost use Rattle.booktext.specs.Changes.{spot_of};
 ghost use Rattle.booktext.specs.Contents.{asks_code};
 ghost use Rattle.booktext.specs.Standing.{words_from, statement_at, noted, Marked};
@@ -9,16 +9,110 @@ use crate::line::{skip_words, word_of};
 use crate::statement::verb_at;
 use crate::word::{CODE_KIND, is_placed, is_rule, kind_number, place_in};
 
+// A number of a cell: where a line begins, or a place and kind. A usize holds those of any text; a u32 those of texts that are not too long, in less room.
+pub trait CellNumber: Copy {
+    ghost use Rattle.std.specs.Prelude.{List, ℕ, map};
+    ghost use Rattle.booktext.specs.declared.cell.Cell as held;
+    ghost use Rattle.booktext.specs.Cells.{Cell, numbered};
+
+    // There is room for a number.
+    ghost fits: { ℕ → Type 0 };
+
+    // The number, a cell by its numbers, and all cells of a list by theirs.
+    ghost number: { Self → ℕ };
+
+    ghost cell: { held.Cell Self → Cell };
+
+    ghost cells: { List (held.Cell Self) → List Cell };
+
+    fn of(n: usize) -> Self
+        requires { fits n }
+        ensures { number result ≡ n };
+
+    fn get(self) -> usize
+        ensures { result ≡ number self };
+
+    // There is room for smaller numbers, and for each place and kind.
+    ghost less_fits: { (n m : ℕ) → m ≤ n → fits n → fits m };
+
+    ghost spot_fits: { fits 4000000 };
+
+    ghost cell_is: { (c : held.Cell Self) → cell c ≡ numbered number c };
+
+    ghost cells_are: { (cs : List (held.Cell Self)) → cells cs ≡ map cell cs };
+}
+
+impl CellNumber for usize {
+    ghost use Rattle.booktext.specs.Cells.{numbered_same, all_same};
+
+    ghost fits = { λ n. Unit {0} };
+
+    ghost number = { λ n. n };
+
+    ghost cell = { λ c. c };
+
+    ghost cells = { λ cs. cs };
+
+    fn of(n: usize) -> usize {
+        n
+    }
+
+    fn get(self) -> usize {
+        self
+    }
+
+    ghost less_fits = { λ n m h k. k };
+
+    ghost spot_fits = { tt };
+
+    ghost cell_is = { numbered_same };
+
+    ghost cells_are = { all_same };
+}
+
+impl CellNumber for u32 {
+    ghost use Rattle.std.specs.Prelude.{◌<◌};
+    ghost use Rattle.std.proofs.Common.{arith};
+    ghost use Rattle.booktext.specs.Cells.{numbered_same, all_same};
+
+    ghost fits = { λ n. n < 4294967296 };
+
+    ghost number = { λ n. n };
+
+    ghost cell = { λ c. c };
+
+    ghost cells = { λ cs. cs };
+
+    fn of(n: usize) -> u32 {
+        n as u32
+    }
+
+    fn get(self) -> usize {
+        self as usize
+    }
+
+    ghost less_fits = { λ n m h k. omega (arith, h, k) };
+
+    ghost spot_fits = { omega arith };
+
+    ghost cell_is = { numbered_same };
+
+    ghost cells_are = { all_same };
+}
+
 // Where its line begins, where another line begins that has its bound, and the place and kind that it speaks of; the severity that it was given, else 0, and its
-// verb. There are up to 2,048 at once, so what needs less than 32 bits has no more, and the bytes stand last.
+// verb. The bytes stand last, so that it has no gaps.
 #[derive(Clone, Copy)]
-pub struct Cell {
-    pub line: u32,
-    pub bound: Option<u32>,
-    pub spot: u32,
+pub struct Cell<N = usize> {
+    pub line: N,
+    pub bound: Option<N>,
+    pub spot: N,
     pub given: u8,
     pub verb: u8,
 }
+
+// One of a text that is compiled: such a text has at most a mebibyte, and there are up to 2,048 cells at once.
+pub type SmallCell = Cell<u32>;
 
 // Stands where none is noted yet.
 pub const NO_CELL: Cell = Cell {
@@ -29,29 +123,38 @@ pub const NO_CELL: Cell = Cell {
     verb: 0,
 };
 
-impl Cell {
+// The same of a text that is compiled: a constant's value may call no function that would make both.
+pub const NO_SMALL_CELL: SmallCell = Cell {
+    line: 0,
+    bound: None,
+    spot: 0,
+    given: 0,
+    verb: 0,
+};
+
+impl<N: CellNumber> Cell<N> {
     // Whether it has this verb, and this place and kind.
     pub fn says_of(self, verb: u8, spot: usize) -> bool
-        ensures { result ≡ (eqb self.verb verb && eqb self.spot spot) }
+        ensures { result ≡ (eqb (N.cell self).verb verb && eqb (N.cell self).spot spot) }
     {
-        (self.verb == verb) & (self.spot as usize == spot)
+        (self.verb == verb) & (self.spot.get() == spot)
     }
 
     // Where the words of a rule's bound begin.
     pub fn bound_at(self, t: &[u8]) -> usize
-        ensures { makes_rule (noted t.now self) ≡ true → words_from t.now result ≡ drop 4 (noted t.now self).words }
+        ensures { makes_rule (noted t.now (N.cell self)) ≡ true → words_from t.now result ≡ drop 4 (noted t.now (N.cell self)).words }
     {
         match self.bound {
-            Some(line) => skip_words(t, line as usize, 3),
-            None => skip_words(t, self.line as usize, 4),
+            Some(line) => skip_words(t, line.get(), 3),
+            None => skip_words(t, self.line.get(), 4),
         }
     }
 
     // Whether it is a rule of kind CODE.
     pub(crate) fn asks_code(self, t: &[u8]) -> bool
-        ensures { result ≡ asks_code (noted t.now self) }
+        ensures { result ≡ asks_code (noted t.now (N.cell self)) }
     {
-        let line = self.line as usize;
+        let line = self.line.get();
         is_rule(verb_at(t, line)) & (kind_number(word_of(t, line, 2)) == CODE_KIND)
     }
 }
@@ -65,27 +168,27 @@ pub fn spot_number(segment: u8, field: u8, component: u8, kind: u8) -> usize
 }
 
 // Those that the statement of a line speaks of; 0 where it names no place.
-fn spot_at(t: &[u8], line: usize) -> u32
-    ensures { result ≡ spot_of (statement_at t.now line 0) }
+fn spot_at(t: &[u8], line: usize) -> usize
+    ensures { (result ≡ spot_of (statement_at t.now line 0)) × (result ≤ 4000000) }
 {
     if !is_placed(verb_at(t, line)) {
         return 0;
     }
     let place = place_in(word_of(t, line, 1));
     let kind = kind_number(word_of(t, line, 2));
-    spot_number(place.segment, place.field, place.component, kind) as u32
+    spot_number(place.segment, place.field, place.component, kind)
 }
 
 // The statement of a line, with the severity that it was given.
-pub(crate) fn cell_at(t: &[u8], line: usize, given: u8) -> Cell
-    requires { (length t.now ≤ text_limit) × (line ≤ length t.now) }
-    ensures { (noted t.now result ≡ statement_at t.now line given) × Marked t.now result }
+pub(crate) fn cell_at<N: CellNumber>(t: &[u8], line: usize, given: u8) -> Cell<N>
+    requires { N.fits (length t.now) × (line ≤ length t.now) }
+    ensures { (noted t.now (N.cell result) ≡ statement_at t.now line given) × Marked t.now (N.cell result) }
 {
     Cell {
-        line: line as u32,
+        line: N::of(line),
         given,
         bound: None,
         verb: verb_at(t, line),
-        spot: spot_at(t, line),
+        spot: N::of(spot_at(t, line)),
     }
 }

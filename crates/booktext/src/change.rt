@@ -4,15 +4,15 @@ ghost use Rattle.booktext.specs.Lines.{makes_rule};
 ghost use Rattle.booktext.specs.Changes.{amend, amended, dropped, settled_as, settled};
 ghost use Rattle.booktext.specs.Standing.{noted, no_cell, Marked, Marks};
 
-use crate::cell::Cell;
+use crate::cell::{Cell, CellNumber, SmallCell};
 use crate::line::word_of;
 use crate::word::{BOUND, DROP, SEVERITY, is_rule};
 use hl7::bytes::byte_at;
 
 // ---- one rule
 // Whether one of the statements in the cells drops a rule of this place and kind.
-pub fn is_dropped(cells: &[Cell], spot: usize) -> bool
-    ensures { (t : List ℕ) → Marks t cells.now → result ≡ dropped spot (map (noted t) cells.now) }
+pub fn is_dropped<N: CellNumber>(cells: &[Cell<N>], spot: usize) -> bool
+    ensures { (t : List ℕ) → Marks t (N.cells cells.now) → result ≡ dropped spot (map (noted t) (N.cells cells.now)) }
 {
     let mut any = false;
     for &cell in cells {
@@ -22,12 +22,12 @@ pub fn is_dropped(cells: &[Cell], spot: usize) -> bool
 }
 
 // A rule of this place and kind as a later statement leaves it.
-fn amend(t: &[u8], rule: Cell, spot: usize, cell: Cell) -> Cell
-    requires { (makes_rule (noted t.now rule) ≡ true) × Marked t.now cell }
-    ensures { (noted t.now result ≡ amend spot (noted t.now rule) (noted t.now cell)) × (result.verb ≡ rule.verb) × (result.spot ≡ rule.spot) }
+fn amend<N: CellNumber>(t: &[u8], rule: Cell<N>, spot: usize, cell: Cell<N>) -> Cell<N>
+    requires { (makes_rule (noted t.now (N.cell rule)) ≡ true) × Marked t.now (N.cell cell) }
+    ensures { (noted t.now (N.cell result) ≡ amend spot (noted t.now (N.cell rule)) (noted t.now (N.cell cell))) × ((N.cell result).verb ≡ (N.cell rule).verb) × ((N.cell result).spot ≡ (N.cell rule).spot) }
 {
     if cell.says_of(SEVERITY, spot) {
-        let given = byte_at(word_of(t, cell.line as usize, 3), 0);
+        let given = byte_at(word_of(t, cell.line.get(), 3), 0);
         return Cell { given, ..rule };
     }
     if cell.says_of(BOUND, spot) {
@@ -38,9 +38,9 @@ fn amend(t: &[u8], rule: Cell, spot: usize, cell: Cell) -> Cell
 }
 
 // The same as all statements in the cells leave it.
-pub fn amended(t: &[u8], rule: Cell, spot: usize, cells: &[Cell]) -> Cell
-    requires { (makes_rule (noted t.now rule) ≡ true) × Marks t.now cells.now }
-    ensures { (noted t.now result ≡ amended spot (noted t.now rule) (map (noted t.now) cells.now)) × (result.verb ≡ rule.verb) × (result.spot ≡ rule.spot) }
+pub fn amended<N: CellNumber>(t: &[u8], rule: Cell<N>, spot: usize, cells: &[Cell<N>]) -> Cell<N>
+    requires { (makes_rule (noted t.now (N.cell rule)) ≡ true) × Marks t.now (N.cells cells.now) }
+    ensures { (noted t.now (N.cell result) ≡ amended spot (noted t.now (N.cell rule)) (map (noted t.now) (N.cells cells.now))) × ((N.cell result).verb ≡ (N.cell rule).verb) × ((N.cell result).spot ≡ (N.cell rule).spot) }
 {
     let mut last = rule;
     for &cell in cells {
@@ -51,7 +51,7 @@ pub fn amended(t: &[u8], rule: Cell, spot: usize, cells: &[Cell]) -> Cell
 
 // ---- all of them
 // Settles statement i by those that follow: it comes behind the cells that are kept, or is dropped.
-fn settle_one(t: &[u8], cells: &mut [Cell], i: usize, count: usize) -> usize
+fn settle_one(t: &[u8], cells: &mut [SmallCell], i: usize, count: usize) -> usize
     requires { Marks t.now cells.old × (i < length cells.old) × (count ≤ i) }
     ensures { Marks t.now cells.new × (result ≤ i + 1) × (drop (i + 1) cells.new ≡ drop (i + 1) cells.old) × (map (noted t.now) (take result cells.new) ≡ map (noted t.now) (take count cells.old) ++ settled_as (noted t.now (get_or cells.old i no_cell)) (map (noted t.now) (drop (i + 1) cells.old))) }
 {
@@ -71,7 +71,7 @@ fn settle_one(t: &[u8], cells: &mut [Cell], i: usize, count: usize) -> usize
 }
 
 // Settles the statements in the cells, each by those that follow, and answers how many are left: these stand in the first cells then.
-pub(crate) fn settle(t: &[u8], cells: &mut [Cell]) -> usize
+pub(crate) fn settle(t: &[u8], cells: &mut [SmallCell]) -> usize
     requires { Marks t.now cells.old }
     ensures { (result ≤ length cells.old) × (map (noted t.now) (take result cells.new) ≡ settled (map (noted t.now) cells.old)) × Marks t.now (take result cells.new) }
 {

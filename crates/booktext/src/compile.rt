@@ -11,7 +11,7 @@ ghost use Rattle.booktext.specs.Refusals.{statement_limit, first_rule_fault, siz
 ghost use Rattle.booktext.specs.Standing.{words_from, statement_at, next_line, left, sound, ready, noted, Marks, names_in, Puts, Heads, MakesBy};
 
 use crate::before::first_rule_fault;
-use crate::cell::{Cell, NO_CELL};
+use crate::cell::{NO_SMALL_CELL, SmallCell};
 use crate::change::settle;
 use crate::fault::{bytes_told, first_fault};
 use crate::heads::{HEAD_LIMIT, note_heads};
@@ -41,7 +41,7 @@ fn put_front(
     at: usize,
     t: &[u8],
     head: usize,
-    cells: &[Cell],
+    cells: &[SmallCell],
     names: &Names,
     rules: usize,
 ) -> usize
@@ -62,7 +62,7 @@ fn put_section(
     heads: &[usize],
     rest: usize,
     head: usize,
-    cells: &[Cell],
+    cells: &[SmallCell],
 ) -> Result<usize, Fault>
     requires { Heads t.now heads.now rest × (each sound (statements t.now) ≡ true) × (each ready (map (noted t.now) cells.now) ≡ true) × Marks t.now cells.now × (length (get_or (words_from t.now head) 1 []) ≤ 255) }
     ensures { (ss : List Statement) → map (noted t.now) cells.now ≡ settled ss → Puts (sizes_told t.now (statements t.now) at (line_of t.now head) (contents_of (statements t.now) (get_or (words_from t.now head) 1 []) ss) ss) (section_bytes (contents_of (statements t.now) (get_or (words_from t.now head) 1 []) ss)) out.old at out.new result }
@@ -92,7 +92,7 @@ fn check_section(
     heads: &[usize],
     rest: usize,
     head: usize,
-    cells: &mut [Cell],
+    cells: &mut [SmallCell],
 ) -> Result<usize, Fault>
     requires { Heads t.now heads.now rest × (each sound (statements t.now) ≡ true) × (each ready (map (noted t.now) cells.old) ≡ true) × Marks t.now cells.old × (length (get_or (words_from t.now head) 1 []) ≤ 255) }
     ensures { Puts (firstly (first_rule_fault t.now (statements t.now) (line_of t.now head) [] (map (noted t.now) cells.old)) (sizes_told t.now (statements t.now) at (line_of t.now head) (contents_of (statements t.now) (get_or (words_from t.now head) 1 []) (map (noted t.now) cells.old)) (map (noted t.now) cells.old))) (section_bytes (contents_of (statements t.now) (get_or (words_from t.now head) 1 []) (map (noted t.now) cells.old))) out.old at out.new result }
@@ -110,7 +110,7 @@ fn make_section(
     heads: &[usize],
     rest: usize,
     head: usize,
-    cells: &mut [Cell],
+    cells: &mut [SmallCell],
 ) -> Result<usize, Fault>
     requires { Heads t.now heads.now rest × (length t.now ≤ text_limit) × (head ≤ length t.now) × (says a_section (statement_at t.now head 0) ≡ true) × (each sound (statements t.now) ≡ true) × (each sound (statement_at t.now head 0 ∷ left t.now (next_line t.now head)) ≡ true) × (length cells.old ≡ statement_limit) }
     ensures { Puts (section_told t.now (statements t.now) at (statement_at t.now head 0) (left t.now (next_line t.now head))) (section_bytes (section_of (statements t.now) (statement_at t.now head 0) (left t.now (next_line t.now head)))) out.old at out.new result }
@@ -132,7 +132,7 @@ fn make_any(
     heads: &[usize],
     rest: usize,
     line: usize,
-    cells: &mut [Cell],
+    cells: &mut [SmallCell],
 ) -> Result<usize, Fault>
     requires { Heads t.now heads.now rest × (length t.now ≤ text_limit) × (line ≤ length t.now) × (each sound (statements t.now) ≡ true) × (each sound (statement_at t.now line 0 ∷ left t.now (next_line t.now line)) ≡ true) × (length cells.old ≡ statement_limit) }
     ensures { Puts (cond (says a_section (statement_at t.now line 0)) (section_told t.now (statements t.now) at (statement_at t.now line 0) (left t.now (next_line t.now line))) nothing) (cond (says a_section (statement_at t.now line 0)) (section_bytes (section_of (statements t.now) (statement_at t.now line 0) (left t.now (next_line t.now line)))) []) out.old at out.new result }
@@ -150,7 +150,7 @@ fn make_sections(
     t: &[u8],
     heads: &[usize],
     rest: usize,
-    cells: &mut [Cell],
+    cells: &mut [SmallCell],
 ) -> Result<usize, Fault>
     requires { Heads t.now heads.now rest × (at ≤ book_limit) × (length t.now ≤ text_limit) × (each sound (statements t.now) ≡ true) × (length cells.old ≡ statement_limit) }
     ensures { Puts (sections_told t.now (statements t.now) at (statements t.now)) (spell_all section_bytes (sections_in (statements t.now) (statements t.now))) out.old at out.new result }
@@ -175,7 +175,7 @@ fn make_book(
     requires { Heads t.now heads.now rest × (length t.now ≤ text_limit) × (each sound (statements t.now) ≡ true) × (sections ≡ length (meaning t.now)) × (sections ≤ 64) }
     ensures { Puts (sections_told t.now (statements t.now) 6 (statements t.now)) (book_bytes (meaning t.now)) out.old 0 out.new result }
 {
-    let mut cells = [NO_CELL; STATEMENT_LIMIT];
+    let mut cells = [NO_SMALL_CELL; STATEMENT_LIMIT];
     let second = put(out, 0, b"VXB");
     let third = put_two(out, second, 1);
     let fourth = put_byte(out, third, sections as u8);

@@ -2,6 +2,8 @@
 
 #![tactic(auto)]
 
+#[cfg(test)]
+mod any_text;
 pub(crate) mod before;
 pub mod cell;
 pub mod change;

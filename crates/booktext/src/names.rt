@@ -1,7 +1,7 @@
 // The names of the sets that a section holds, in their order: where each stands in the text. Names are compared by their bytes.
 ghost use Rattle.std.specs.Prelude.{◌≤◌};
 
-use crate::cell::Cell;
+use crate::cell::SmallCell;
 use crate::line::{next_word, part, skip_words};
 use crate::statement::verb_at;
 use crate::word::SETS;
@@ -87,7 +87,7 @@ impl Names {
     }
 
     // Notes those of a statement's `sets`.
-    fn note_sets(&mut self, t: &[u8], cell: Cell) -> bool
+    fn note_sets(&mut self, t: &[u8], cell: SmallCell) -> bool
         ensures { NamesMore t.now self.old result self.new (pinned (noted t.now cell ∷ [])) }
     {
         if verb_at(t, cell.line as usize) == SETS {
@@ -97,7 +97,7 @@ impl Names {
     }
 
     // Notes the one that a rule of kind CODE gives.
-    fn note_code(&mut self, t: &[u8], cell: Cell) -> bool
+    fn note_code(&mut self, t: &[u8], cell: SmallCell) -> bool
         ensures { NamesMore t.now self.old result self.new (named (noted t.now cell ∷ [])) }
     {
         if cell.asks_code(t) {
@@ -107,7 +107,7 @@ impl Names {
     }
 
     // Those in `sets` lines of the statements in the cells; none where there are too many.
-    fn pinned(t: &[u8], cells: &[Cell]) -> Option<Names>
+    fn pinned(t: &[u8], cells: &[SmallCell]) -> Option<Names>
         ensures { NamesAre t.now (with_names [] (pinned (map (noted t.now) cells.now))) result }
     {
         let mut names = Names::none();
@@ -120,7 +120,7 @@ impl Names {
     }
 
     // The sets that a section holds whose statements are in the cells; none where there are too many.
-    pub(crate) fn of(t: &[u8], cells: &[Cell]) -> Option<Names>
+    pub(crate) fn of(t: &[u8], cells: &[SmallCell]) -> Option<Names>
         ensures { NamesAre t.now (names_of (map (noted t.now) cells.now)) result }
     {
         let mut names = Names::pinned(t, cells)?;

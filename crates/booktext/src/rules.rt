@@ -7,7 +7,7 @@ ghost use Rattle.booktext.specs.Words.{place_in, is_place};
 ghost use Rattle.booktext.specs.Contents.{letter_of, made, rules_of};
 ghost use Rattle.booktext.specs.Standing.{CountsRules, noted, Marks, names_in, ready, place_bytes, bound_bytes};
 
-use crate::cell::Cell;
+use crate::cell::{Cell, CellNumber, SmallCell};
 use crate::line::word_of;
 use crate::names::Names;
 use crate::statement::verb_at;
@@ -16,7 +16,7 @@ use ack::output::{put, put_byte};
 use hl7::bytes::{byte_at, front, pick};
 
 // ---- how many
-pub(crate) fn count_rules(cells: &[Cell]) -> usize
+pub(crate) fn count_rules(cells: &[SmallCell]) -> usize
     ensures { (t : List ℕ) → Marks t cells.now → CountsRules (map (noted t) cells.now) result }
 {
     cells.iter().filter(|cell| is_rule(cell.verb)).count()
@@ -24,11 +24,11 @@ pub(crate) fn count_rules(cells: &[Cell]) -> usize
 
 // ---- bytes
 // The severity that a section gives a statement, else its own.
-pub fn letter_of(t: &[u8], cell: Cell) -> u8
-    ensures { result ≡ letter_of (noted t.now cell) }
+pub fn letter_of<N: CellNumber>(t: &[u8], cell: Cell<N>) -> u8
+    ensures { result ≡ letter_of (noted t.now (N.cell cell)) }
 {
     if cell.given == 0 {
-        return byte_at(word_of(t, cell.line as usize, 3), 0);
+        return byte_at(word_of(t, cell.line.get(), 3), 0);
     }
     cell.given
 }
@@ -62,7 +62,7 @@ fn put_place(out: &mut [u8], at: usize, w: &[u8]) -> usize
 }
 
 // The ten bytes of a rule.
-fn put_rule(out: &mut [u8], at: usize, t: &[u8], cell: Cell, names: &Names) -> usize
+fn put_rule(out: &mut [u8], at: usize, t: &[u8], cell: SmallCell, names: &Names) -> usize
     requires { (ready (noted t.now cell) ≡ true) × (makes_rule (noted t.now cell) ≡ true) }
     ensures { Wrote out.old at (rule_bytes (made (names_in t.now names.now) (noted t.now cell))) out.new result }
 {
@@ -79,7 +79,13 @@ fn put_rule(out: &mut [u8], at: usize, t: &[u8], cell: Cell, names: &Names) -> u
 }
 
 // The rules of the statements in the cells.
-pub(crate) fn put_rules(out: &mut [u8], at: usize, t: &[u8], cells: &[Cell], names: &Names) -> usize
+pub(crate) fn put_rules(
+    out: &mut [u8],
+    at: usize,
+    t: &[u8],
+    cells: &[SmallCell],
+    names: &Names,
+) -> usize
     requires { (each ready (map (noted t.now) cells.now) ≡ true) }
     ensures { Wrote out.old at (spell_all rule_bytes (rules_of (names_in t.now names.now) (map (noted t.now) cells.now))) out.new result }
 {
@@ -91,7 +97,7 @@ pub(crate) fn put_rules(out: &mut [u8], at: usize, t: &[u8], cells: &[Cell], nam
 }
 
 // The rule of a statement, where it makes one.
-fn put_made(out: &mut [u8], at: usize, t: &[u8], cell: Cell, names: &Names) -> usize
+fn put_made(out: &mut [u8], at: usize, t: &[u8], cell: SmallCell, names: &Names) -> usize
     requires { (ready (noted t.now cell) ≡ true) }
     ensures { Wrote out.old at (spell_all rule_bytes (rules_of (names_in t.now names.now) (noted t.now cell ∷ []))) out.new result }
 {

@@ -1,11 +1,11 @@
 // Rows 46 and 56: what a section takes over from commons, and its statements after inclusion, noted in lent cells.
 ghost use Rattle.std.specs.Prelude.{◌≡◌, not, ◌&&◌, List, [], ◌∷◌, map, ℕ, ◌≤◌, length};
-ghost use Rattle.booktext.specs.Lines.{statements, says, line_of, text_limit, a_use};
+ghost use Rattle.booktext.specs.Lines.{statements, says, line_of, a_use};
 ghost use Rattle.booktext.specs.Meaning.{give, taken, expand};
 ghost use Rattle.booktext.specs.Refusals.{is_first, used_twice, statement_limit};
 ghost use Rattle.booktext.specs.Standing.{statement_at, left, body_from, Heads, told_in, noted, Marked, Holds, NotesMore};
 
-use crate::cell::{Cell, cell_at};
+use crate::cell::{Cell, CellNumber, cell_at};
 use crate::heads::seek_head;
 use crate::line::{line_of, word_of};
 use crate::refer::is_first;
@@ -44,9 +44,9 @@ pub(crate) fn used_twice(t: &[u8], head: usize, start: usize) -> Result<(), Faul
 
 // ---- statements after inclusion
 // Notes one statement more.
-fn note_cell(cells: &mut [Cell], count: usize, cell: Cell) -> usize
+fn note_cell<N: CellNumber>(cells: &mut [Cell<N>], count: usize, cell: Cell<N>) -> usize
     requires { length cells.old ≡ statement_limit }
-    ensures { (t : List ℕ) → Marked t cell → NotesMore t cells.old count cells.new result (noted t cell ∷ []) }
+    ensures { (t : List ℕ) → Marked t (N.cell cell) → NotesMore t (N.cells cells.old) count (N.cells cells.new) result (noted t (N.cell cell) ∷ []) }
 {
     if STATEMENT_LIMIT <= count {
         return STATEMENT_LIMIT + 1;
@@ -56,17 +56,29 @@ fn note_cell(cells: &mut [Cell], count: usize, cell: Cell) -> usize
 }
 
 // Notes one by the position of its line, and the severity that it was given.
-fn note(t: &[u8], cells: &mut [Cell], count: usize, at: usize, letter: u8) -> usize
-    requires { (length t.now ≤ text_limit) × (at ≤ length t.now) × (length cells.old ≡ statement_limit) }
-    ensures { NotesMore t.now cells.old count cells.new result ((statement_at t.now at letter ∷ [])) }
+fn note<N: CellNumber>(
+    t: &[u8],
+    cells: &mut [Cell<N>],
+    count: usize,
+    at: usize,
+    letter: u8,
+) -> usize
+    requires { N.fits (length t.now) × (at ≤ length t.now) × (length cells.old ≡ statement_limit) }
+    ensures { NotesMore t.now (N.cells cells.old) count (N.cells cells.new) result ((statement_at t.now at letter ∷ [])) }
 {
     note_cell(cells, count, cell_at(t, at, letter))
 }
 
 // Notes the statements of a common, which begin at start.
-fn note_block(t: &[u8], cells: &mut [Cell], count: usize, start: usize, letter: u8) -> usize
-    requires { (length t.now ≤ text_limit) × (length cells.old ≡ statement_limit) }
-    ensures { NotesMore t.now cells.old count cells.new result (map (give letter) (body_from t.now start)) }
+fn note_block<N: CellNumber>(
+    t: &[u8],
+    cells: &mut [Cell<N>],
+    count: usize,
+    start: usize,
+    letter: u8,
+) -> usize
+    requires { N.fits (length t.now) × (length cells.old ≡ statement_limit) }
+    ensures { NotesMore t.now (N.cells cells.old) count (N.cells cells.new) result (map (give letter) (body_from t.now start)) }
 {
     let mut n = count;
     let mut at = next_in_body(t, start);
@@ -81,16 +93,16 @@ fn note_block(t: &[u8], cells: &mut [Cell], count: usize, start: usize, letter: 
 }
 
 // Notes what a statement takes over.
-fn note_taken(
+fn note_taken<N: CellNumber>(
     t: &[u8],
     heads: &[usize],
     rest: usize,
-    cells: &mut [Cell],
+    cells: &mut [Cell<N>],
     count: usize,
     at: usize,
 ) -> usize
-    requires { Heads t.now heads.now rest × (length t.now ≤ text_limit) × (length cells.old ≡ statement_limit) }
-    ensures { NotesMore t.now cells.old count cells.new result (taken (statements t.now) (statement_at t.now at 0)) }
+    requires { Heads t.now heads.now rest × N.fits (length t.now) × (length cells.old ≡ statement_limit) }
+    ensures { NotesMore t.now (N.cells cells.old) count (N.cells cells.new) result (taken (statements t.now) (statement_at t.now at 0)) }
 {
     if verb_at(t, at) != USE {
         return count;
@@ -109,31 +121,31 @@ fn note_taken(
 }
 
 // Notes a statement of the section, and what it takes over.
-fn note_both(
+fn note_both<N: CellNumber>(
     t: &[u8],
     heads: &[usize],
     rest: usize,
-    cells: &mut [Cell],
+    cells: &mut [Cell<N>],
     count: usize,
     at: usize,
 ) -> usize
-    requires { Heads t.now heads.now rest × (length t.now ≤ text_limit) × (at ≤ length t.now) × (length cells.old ≡ statement_limit) }
-    ensures { NotesMore t.now cells.old count cells.new result ((statement_at t.now at 0 ∷ taken (statements t.now) (statement_at t.now at 0))) }
+    requires { Heads t.now heads.now rest × N.fits (length t.now) × (at ≤ length t.now) × (length cells.old ≡ statement_limit) }
+    ensures { NotesMore t.now (N.cells cells.old) count (N.cells cells.new) result ((statement_at t.now at 0 ∷ taken (statements t.now) (statement_at t.now at 0))) }
 {
     let next = note(t, cells, count, at, 0);
     note_taken(t, heads, rest, cells, next, at)
 }
 
 // Notes the statements of a section that begin at start, with what they take over.
-pub fn note_section(
+pub fn note_section<N: CellNumber>(
     t: &[u8],
     heads: &[usize],
     rest: usize,
-    cells: &mut [Cell],
+    cells: &mut [Cell<N>],
     start: usize,
 ) -> usize
-    requires { Heads t.now heads.now rest × (length t.now ≤ text_limit) × (length cells.old ≡ statement_limit) }
-    ensures { Holds t.now cells.new result (expand (statements t.now) (body_from t.now start)) }
+    requires { Heads t.now heads.now rest × N.fits (length t.now) × (length cells.old ≡ statement_limit) }
+    ensures { Holds t.now (N.cells cells.new) result (expand (statements t.now) (body_from t.now start)) }
 {
     let mut n = 0;
     let mut at = next_in_body(t, start);

@@ -11,7 +11,7 @@ ghost use Rattle.booktext.specs.Refusals.{first_stray, first_bad_set};
 ghost use Rattle.booktext.specs.Standing.{words_from, statement_at, next_line, left, body_from, Finds, Heads, told_in, noted, no_cell, Marked, Marks, names_in, is_short, sound, ready, Spelt, Puts};
 
 use crate::before::names_code;
-use crate::cell::Cell;
+use crate::cell::SmallCell;
 use crate::heads::seek_head;
 use crate::line::{line_of, next_word, part, skip_words, word_of};
 use crate::names::Names;
@@ -61,7 +61,7 @@ fn put_none(out: &mut [u8], run: Run) -> Run
 }
 
 // Whether the statement of a cell takes a code from a set.
-fn takes_code(t: &[u8], cell: Cell, name: &[u8], code: &[u8]) -> bool
+fn takes_code(t: &[u8], cell: SmallCell, name: &[u8], code: &[u8]) -> bool
     requires { Marked t.now cell }
     ensures { result ≡ names_code a_less name.now code.now (noted t.now cell) }
 {
@@ -72,7 +72,7 @@ fn takes_code(t: &[u8], cell: Cell, name: &[u8], code: &[u8]) -> bool
 }
 
 // Whether one of the statements in the cells does.
-fn is_lessened(t: &[u8], cells: &[Cell], name: &[u8], code: &[u8]) -> bool
+fn is_lessened(t: &[u8], cells: &[SmallCell], name: &[u8], code: &[u8]) -> bool
     requires { Marks t.now cells.now }
     ensures { result ≡ lessened name.now code.now (map (noted t.now) cells.now) }
 {
@@ -85,7 +85,14 @@ fn is_lessened(t: &[u8], cells: &[Cell], name: &[u8], code: &[u8]) -> bool
 }
 
 // A code of a set, unless one of the statements in the cells takes it.
-fn put_code(out: &mut [u8], run: Run, t: &[u8], cells: &[Cell], name: &[u8], code: &[u8]) -> Run
+fn put_code(
+    out: &mut [u8],
+    run: Run,
+    t: &[u8],
+    cells: &[SmallCell],
+    name: &[u8],
+    code: &[u8],
+) -> Run
     requires { Marks t.now cells.now × (length code.now ≤ 255) }
     ensures { Spelt (kept name.now (map (noted t.now) cells.now) (code.now ∷ [])) out.old run out.new result }
 {
@@ -99,7 +106,14 @@ fn put_code(out: &mut [u8], run: Run, t: &[u8], cells: &[Cell], name: &[u8], cod
 }
 
 // Those of the words from a position on.
-fn put_words(out: &mut [u8], run: Run, t: &[u8], cells: &[Cell], name: &[u8], from: usize) -> Run
+fn put_words(
+    out: &mut [u8],
+    run: Run,
+    t: &[u8],
+    cells: &[SmallCell],
+    name: &[u8],
+    from: usize,
+) -> Run
     requires { Marks t.now cells.now × (each is_short (words_from t.now from) ≡ true) }
     ensures { Spelt (kept name.now (map (noted t.now) cells.now) (words_from t.now from)) out.old run out.new result }
 {
@@ -116,7 +130,14 @@ fn put_words(out: &mut [u8], run: Run, t: &[u8], cells: &[Cell], name: &[u8], fr
 }
 
 // Those of a line, where it is a code line.
-fn put_line(out: &mut [u8], run: Run, t: &[u8], cells: &[Cell], name: &[u8], line: usize) -> Run
+fn put_line(
+    out: &mut [u8],
+    run: Run,
+    t: &[u8],
+    cells: &[SmallCell],
+    name: &[u8],
+    line: usize,
+) -> Run
     requires { Marks t.now cells.now × (each is_short (listed (statement_at t.now line 0 ∷ [])) ≡ true) }
     ensures { Spelt (kept name.now (map (noted t.now) cells.now) (listed (statement_at t.now line 0 ∷ []))) out.old run out.new result }
 {
@@ -127,7 +148,14 @@ fn put_line(out: &mut [u8], run: Run, t: &[u8], cells: &[Cell], name: &[u8], lin
 }
 
 // Those of the code lines that begin at start.
-fn put_listed(out: &mut [u8], run: Run, t: &[u8], cells: &[Cell], name: &[u8], start: usize) -> Run
+fn put_listed(
+    out: &mut [u8],
+    run: Run,
+    t: &[u8],
+    cells: &[SmallCell],
+    name: &[u8],
+    start: usize,
+) -> Run
     requires { Marks t.now cells.now × (each is_short (listed (body_from t.now start)) ≡ true) }
     ensures { Spelt (kept name.now (map (noted t.now) cells.now) (listed (body_from t.now start))) out.old run out.new result }
 {
@@ -141,7 +169,7 @@ fn put_listed(out: &mut [u8], run: Run, t: &[u8], cells: &[Cell], name: &[u8], s
 }
 
 // Those that statement i adds to a set, unless a later one takes them.
-fn put_more(out: &mut [u8], run: Run, t: &[u8], cells: &[Cell], name: &[u8], i: usize) -> Run
+fn put_more(out: &mut [u8], run: Run, t: &[u8], cells: &[SmallCell], name: &[u8], i: usize) -> Run
     requires { Marks t.now cells.now × (i < length cells.now) × (each is_short (added_by name.now (noted t.now (get_or cells.now i no_cell))) ≡ true) }
     ensures { Spelt (kept name.now (map (noted t.now) (drop (i + 1) cells.now)) (added_by name.now (noted t.now (get_or cells.now i no_cell)))) out.old run out.new result }
 {
@@ -157,7 +185,7 @@ fn put_more(out: &mut [u8], run: Run, t: &[u8], cells: &[Cell], name: &[u8], i: 
 }
 
 // Those that the statements in the cells add.
-fn put_added(out: &mut [u8], run: Run, t: &[u8], cells: &[Cell], name: &[u8]) -> Run
+fn put_added(out: &mut [u8], run: Run, t: &[u8], cells: &[SmallCell], name: &[u8]) -> Run
     requires { Marks t.now cells.now × (each ready (map (noted t.now) cells.now) ≡ true) }
     ensures { Spelt (added name.now (map (noted t.now) cells.now)) out.old run out.new result }
 {
@@ -169,7 +197,7 @@ fn put_added(out: &mut [u8], run: Run, t: &[u8], cells: &[Cell], name: &[u8]) ->
 }
 
 // Those that the set has in the text, whose own line is at a position; none where it is past the end.
-fn put_own(out: &mut [u8], run: Run, t: &[u8], cells: &[Cell], name: &[u8], line: usize) -> Run
+fn put_own(out: &mut [u8], run: Run, t: &[u8], cells: &[SmallCell], name: &[u8], line: usize) -> Run
     requires { Marks t.now cells.now × Finds t.now (from a_set name.now (statements t.now)) (left t.now (next_line t.now line)) line × (each sound (statements t.now) ≡ true) }
     ensures { Spelt (kept name.now (map (noted t.now) cells.now) (codes_of (statements t.now) name.now)) out.old run out.new result }
 {
@@ -181,7 +209,14 @@ fn put_own(out: &mut [u8], run: Run, t: &[u8], cells: &[Cell], name: &[u8], line
 }
 
 // All that it has in the section.
-fn put_held(out: &mut [u8], at: usize, t: &[u8], cells: &[Cell], name: &[u8], line: usize) -> Run
+fn put_held(
+    out: &mut [u8],
+    at: usize,
+    t: &[u8],
+    cells: &[SmallCell],
+    name: &[u8],
+    line: usize,
+) -> Run
     requires { Marks t.now cells.now × (each ready (map (noted t.now) cells.now) ≡ true) × Finds t.now (from a_set name.now (statements t.now)) (left t.now (next_line t.now line)) line × (each sound (statements t.now) ≡ true) }
     ensures { Spelt (held (statements t.now) (map (noted t.now) cells.now) name.now) out.old (record { at = at; count = 0 }) out.new result }
 {
@@ -199,7 +234,7 @@ fn put_set(
     heads: &[usize],
     rest: usize,
     head: usize,
-    cells: &[Cell],
+    cells: &[SmallCell],
     name: &[u8],
 ) -> Result<usize, Fault>
     requires { Heads t.now heads.now rest × Marks t.now cells.now × (each ready (map (noted t.now) cells.now) ≡ true) × (each sound (statements t.now) ≡ true) }
@@ -222,7 +257,7 @@ pub(crate) fn put_sets(
     heads: &[usize],
     rest: usize,
     head: usize,
-    cells: &[Cell],
+    cells: &[SmallCell],
     names: &Names,
 ) -> Result<usize, Fault>
     requires { Heads t.now heads.now rest × Marks t.now cells.now × (each ready (map (noted t.now) cells.now) ≡ true) × (each sound (statements t.now) ≡ true) }
@@ -238,7 +273,7 @@ pub(crate) fn put_sets(
 
 // ---- row 52
 // Whether the statement of a cell changes a set that is none of these.
-fn is_stray(t: &[u8], cell: Cell, names: &Names) -> bool
+fn is_stray(t: &[u8], cell: SmallCell, names: &Names) -> bool
     requires { Marked t.now cell }
     ensures { result ≡ (of_codes (verb (noted t.now cell)) && not (among (word (noted t.now cell) 1) (names_in t.now names.now))) }
 {
@@ -249,7 +284,12 @@ fn is_stray(t: &[u8], cell: Cell, names: &Names) -> bool
 }
 
 // The first of the statements in the cells that does, in a section with a head.
-pub(crate) fn first_stray(t: &[u8], head: usize, cells: &[Cell], names: &Names) -> Result<(), Fault>
+pub(crate) fn first_stray(
+    t: &[u8],
+    head: usize,
+    cells: &[SmallCell],
+    names: &Names,
+) -> Result<(), Fault>
     requires { Marks t.now cells.now }
     ensures { told_in result ≡ first_stray t.now (line_of t.now head) (names_in t.now names.now) (map (noted t.now) cells.now) }
 {

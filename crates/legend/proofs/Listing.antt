@@ -22,7 +22,7 @@ use Rattle.booktext.specs.Changes.{spot_of, amended, dropped}
 use Rattle.booktext.specs.Contents.{letter_of}
 use Rattle.booktext.specs.Refusals.{statement_limit}
 use Rattle.booktext.specs.Standing.{words_from, span_bytes, NextWord, statement_at, next_line, left, body_from, noted, no_cell, Marked, Marks, Finds, Holds}
-use Rattle.booktext.specs.declared.cell.Cell.{Cell}
+use Rattle.booktext.specs.Cells.{Cell}
 use Rattle.booktext.proofs.Marking.{noted-at, noted-first, noted_second, cells_step, cells_done, mark_says, mark_at, part_cells, part_marks, part_noted}
 use Rattle.booktext.proofs.Stating.{onward, onward-none, onward-some, found-onward, left-start}
 use Rattle.legend.specs.People.{line_at, people}

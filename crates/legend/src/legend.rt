@@ -14,7 +14,7 @@ ghost use Rattle.legend.specs.Standing.{rule_words, line_if_stays, roomy};
 
 use crate::people::{LINE_FEED, people_at};
 use ack::output::Output;
-use booktext::cell::{Cell, NO_CELL};
+use booktext::cell::{NO_SMALL_CELL, SmallCell};
 use booktext::change::{amended, is_dropped};
 use booktext::compile::make;
 use booktext::heads::{HEAD_LIMIT, note_heads};
@@ -55,7 +55,7 @@ fn put_words(out: &mut Output<'_>, t: &[u8], from: usize)
 }
 
 // The words of the rule in a cell, by its number in a section with a key.
-fn put_rule(out: &mut Output<'_>, t: &[u8], cell: Cell, key: &[u8], n: usize)
+fn put_rule(out: &mut Output<'_>, t: &[u8], cell: SmallCell, key: &[u8], n: usize)
     requires { makes_rule (noted t.now cell) ≡ true }
     ensures { Adds out.old (rule_words key.now n (noted t.now cell)) out.new }
 {
@@ -69,7 +69,7 @@ fn put_rule(out: &mut Output<'_>, t: &[u8], cell: Cell, key: &[u8], n: usize)
 }
 
 // What the line of a cell remarks, where it gives a place and kind another severity or bound.
-fn put_change(out: &mut Output<'_>, t: &[u8], spot: usize, cell: Cell)
+fn put_change(out: &mut Output<'_>, t: &[u8], spot: usize, cell: SmallCell)
     requires { Marked t.now cell }
     ensures { Adds out.old (later_remarks t.now spot (noted t.now cell ∷ [])) out.new }
 {
@@ -79,7 +79,7 @@ fn put_change(out: &mut Output<'_>, t: &[u8], spot: usize, cell: Cell)
 }
 
 // The same of all cells.
-fn put_changes(out: &mut Output<'_>, t: &[u8], spot: usize, cells: &[Cell])
+fn put_changes(out: &mut Output<'_>, t: &[u8], spot: usize, cells: &[SmallCell])
     requires { Marks t.now cells.now }
     ensures { Adds out.old (later_remarks t.now spot (map (noted t.now) cells.now)) out.new }
 {
@@ -90,7 +90,7 @@ fn put_changes(out: &mut Output<'_>, t: &[u8], spot: usize, cells: &[Cell])
 
 // ---- a section
 // Whether statement i makes a rule that none of those that follow drops.
-fn is_staying(cells: &[Cell], i: usize) -> bool
+fn is_staying(cells: &[SmallCell], i: usize) -> bool
     requires { i < length cells.now }
     ensures { (t : List ℕ) → Marks t cells.now → result ≡ stays (noted t (get_or cells.now i no_cell)) (map (noted t) (drop (i + 1) cells.now)) }
 {
@@ -105,9 +105,9 @@ fn is_staying(cells: &[Cell], i: usize) -> bool
 fn put_amended(
     out: &mut Output<'_>,
     t: &[u8],
-    cell: Cell,
+    cell: SmallCell,
     spot: usize,
-    cells: &[Cell],
+    cells: &[SmallCell],
     key: &[u8],
     n: usize,
 )
@@ -122,7 +122,7 @@ fn put_amended(
 }
 
 // That of statement i, as those that follow leave it.
-fn put_line(out: &mut Output<'_>, t: &[u8], cells: &[Cell], i: usize, key: &[u8], n: usize)
+fn put_line(out: &mut Output<'_>, t: &[u8], cells: &[SmallCell], i: usize, key: &[u8], n: usize)
     requires { Marks t.now cells.now × (i < length cells.now) × (makes_rule (noted t.now (get_or cells.now i no_cell)) ≡ true) }
     ensures { Adds out.old (line_of_rule t.now key.now n (noted t.now (get_or cells.now i no_cell)) (map (noted t.now) (drop (i + 1) cells.now))) out.new }
 {
@@ -132,7 +132,7 @@ fn put_line(out: &mut Output<'_>, t: &[u8], cells: &[Cell], i: usize, key: &[u8]
 }
 
 // That line, if it stays.
-fn put_made(out: &mut Output<'_>, t: &[u8], cells: &[Cell], i: usize, key: &[u8], n: usize)
+fn put_made(out: &mut Output<'_>, t: &[u8], cells: &[SmallCell], i: usize, key: &[u8], n: usize)
     requires { Marks t.now cells.now × (i < length cells.now) }
     ensures { Adds out.old (line_if_stays t.now key.now n (noted t.now (get_or cells.now i no_cell)) (map (noted t.now) (drop (i + 1) cells.now))) out.new }
 {
@@ -142,7 +142,7 @@ fn put_made(out: &mut Output<'_>, t: &[u8], cells: &[Cell], i: usize, key: &[u8]
 }
 
 // The number of the next rule after statement i.
-fn number_after(cells: &[Cell], i: usize, n: usize) -> usize
+fn number_after(cells: &[SmallCell], i: usize, n: usize) -> usize
     requires { (n ≤ statement_limit) × (i < length cells.now) }
     ensures { ((t : List ℕ) → Marks t cells.now → result ≡ cond (stays (noted t (get_or cells.now i no_cell)) (map (noted t) (drop (i + 1) cells.now))) (n + 1) n) × (result ≤ n + 1) }
 {
@@ -150,7 +150,7 @@ fn number_after(cells: &[Cell], i: usize, n: usize) -> usize
 }
 
 // The rules of the statements in the cells.
-fn put_rules(out: &mut Output<'_>, t: &[u8], cells: &[Cell], key: &[u8])
+fn put_rules(out: &mut Output<'_>, t: &[u8], cells: &[SmallCell], key: &[u8])
     requires { Marks t.now cells.now × (length cells.now ≤ statement_limit) }
     ensures { Adds out.old (rules_legend t.now key.now 1 (map (noted t.now) cells.now)) out.new }
 {
@@ -168,7 +168,7 @@ fn put_section(
     heads: &[usize],
     rest: usize,
     head: usize,
-    cells: &mut [Cell],
+    cells: &mut [SmallCell],
 )
     requires { Heads t.now heads.now rest × (length t.now ≤ text_limit) × (head ≤ length t.now) × (length cells.old ≡ statement_limit) × (length (expand (statements t.now) (body_from t.now (next_line t.now head))) ≤ statement_limit) }
     ensures { Adds out.old (section_legend t.now (statements t.now) (statement_at t.now head 0) (left t.now (next_line t.now head))) out.new }
@@ -190,7 +190,7 @@ fn put_any(
     heads: &[usize],
     rest: usize,
     line: usize,
-    cells: &mut [Cell],
+    cells: &mut [SmallCell],
 )
     requires { Heads t.now heads.now rest × (length t.now ≤ text_limit) × (line ≤ length t.now) × (length cells.old ≡ statement_limit) × (roomy (statements t.now) (statement_at t.now line 0 ∷ left t.now (next_line t.now line)) ≡ true) }
     ensures { Adds out.old (cond (says a_section (statement_at t.now line 0)) (section_legend t.now (statements t.now) (statement_at t.now line 0) (left t.now (next_line t.now line))) []) out.new }
@@ -201,7 +201,13 @@ fn put_any(
 }
 
 // The sections of a text, from its first line on.
-fn put_sections(out: &mut Output<'_>, t: &[u8], heads: &[usize], rest: usize, cells: &mut [Cell])
+fn put_sections(
+    out: &mut Output<'_>,
+    t: &[u8],
+    heads: &[usize],
+    rest: usize,
+    cells: &mut [SmallCell],
+)
     requires { Heads t.now heads.now rest × (length t.now ≤ text_limit) × (roomy (statements t.now) (statements t.now) ≡ true) × (length cells.old ≡ statement_limit) }
     ensures { Adds out.old (legend t.now) out.new }
 {
@@ -217,7 +223,7 @@ fn put_legend(out: &mut [u8], t: &[u8], heads: &[usize], rest: usize) -> usize
     requires { Heads t.now heads.now rest × (length t.now ≤ text_limit) × (roomy (statements t.now) (statements t.now) ≡ true) }
     ensures { Wrote out.old 0 (legend t.now) out.new result }
 {
-    let mut cells = [NO_CELL; STATEMENT_LIMIT];
+    let mut cells = [NO_SMALL_CELL; STATEMENT_LIMIT];
     let mut text = Output { bytes: out, at: 0 };
     put_sections(&mut text, t, heads, rest, &mut cells);
     text.at

@@ -3,4 +3,6 @@ use Rattle.booktext.proofs.Changing.{Amends}
 use Rattle.booktext.proofs.change.amended.Given as goal
 
 abbrev pub invariant-loop-cell : goal.invariant-loop-cell
-invariant-loop-cell l = Amends l.t l.fn.rule l.spot l.cells l.last l.cell-index
+invariant-loop-cell g l =
+    let it = g.N.CellNumber in
+    Amends l.t (it.cell l.fn.rule) l.spot (it.cells l.cells) (it.cell l.last) l.cell-index

@@ -3,4 +3,4 @@ use Rattle.booktext.proofs.Changing.{Drops}
 use Rattle.booktext.proofs.change.is_dropped.Given as goal
 
 abbrev pub invariant-loop-cell : goal.invariant-loop-cell
-invariant-loop-cell l = Drops l.spot l.cells l.any l.cell-index
+invariant-loop-cell g l = Drops l.spot (g.N.CellNumber.cells l.cells) l.any l.cell-index

@@ -3,7 +3,7 @@ use mathlib.Core.Path.{◌≡◌, ◌∙◌}
 use borrow.Author.Rules.{rules}
 use Rattle.std.specs.List.{count_by}
 use Rattle.booktext.specs.Lines.{of_rule}
-use Rattle.booktext.specs.declared.cell.Cell.{Cell}
+use Rattle.booktext.specs.Cells.{Cell}
 use Rattle.booktext.proofs.Ruling.{rules_counted}
 use Rattle.booktext.proofs.rules.count_rules.Goals as goal
 

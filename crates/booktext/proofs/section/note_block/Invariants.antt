@@ -8,7 +8,7 @@ use Rattle.booktext.proofs.Noting.{Noting}
 use Rattle.booktext.proofs.section.note_block.Given as goal
 
 abbrev pub invariant-loop-at : goal.invariant-loop-at
-invariant-loop-at l = Noting l.t l.initial.cells l.count (map (give l.letter) (body_from l.t l.start)) l.cells l.n (map (give l.letter) (onward l.t (body_from l.t) l.at))
+invariant-loop-at g l = Noting l.t (g.N.CellNumber.cells l.initial.cells) l.count (map (give l.letter) (body_from l.t l.start)) (g.N.CellNumber.cells l.cells) l.n (map (give l.letter) (onward l.t (body_from l.t) l.at))
 
 abbrev pub decreases-loop-at : goal.decreases-loop-at
-decreases-loop-at l = length (onward l.t (body_from l.t) l.at)
+decreases-loop-at g l = length (onward l.t (body_from l.t) l.at)

@@ -3,6 +3,6 @@ use Rattle.booktext.proofs.Noting.{notes_then}
 use Rattle.booktext.proofs.section.note_both.Goals as goal
 
 pub returns : goal.returns
-returns c =
+returns g c =
     let a = c.args in
-    notes_then a.t.now a.cells.now a.count _ _ _ c.note-next.ensures _ _ _ c.note_taken.ensures
+    notes_then a.t.now (g.N.CellNumber.cells a.cells.now) a.count _ _ _ c.note-next.ensures _ _ _ c.note_taken.ensures

@@ -8,7 +8,7 @@ use Rattle.booktext.proofs.Noting.{Noting}
 use Rattle.booktext.proofs.section.note_section.Given as goal
 
 abbrev pub invariant-loop-at : goal.invariant-loop-at
-invariant-loop-at l = Noting l.t l.initial.cells 0 (expand (statements l.t) (body_from l.t l.start)) l.cells l.n (expand (statements l.t) (onward l.t (body_from l.t) l.at))
+invariant-loop-at g l = Noting l.t (g.N.CellNumber.cells l.initial.cells) 0 (expand (statements l.t) (body_from l.t l.start)) (g.N.CellNumber.cells l.cells) l.n (expand (statements l.t) (onward l.t (body_from l.t) l.at))
 
 abbrev pub decreases-loop-at : goal.decreases-loop-at
-decreases-loop-at l = length (onward l.t (body_from l.t) l.at)
+decreases-loop-at g l = length (onward l.t (body_from l.t) l.at)
