@@ -16,7 +16,7 @@ use Rattle.booktext.specs.Meaning.{give}
 use Rattle.booktext.specs.Changes.{spot_of, says_of, bind, amend, amended, dropped, settled_as, settled}
 use Rattle.booktext.specs.Standing.{words_from, noted, no_cell, Marked, Marks}
 use Rattle.booktext.specs.Cells.{Cell}
-use Rattle.booktext.specs.declared.cell.Cell as held
+use Rattle.booktext.specs.declared.cell.CellOf.{CellOf}
 use Rattle.booktext.proofs.Marking.{noted_third, noted_other, noted-give, noted-bind, cells_step, cells_done, mark_says, mark_at, part_cells, part_noted}
 
 -- ---- a rule that is dropped
@@ -86,10 +86,10 @@ amended-verb = amended_as verb amend-verb
         by false false = refl
 
 -- a cell amended
-abbrev pub given_to : {N : Type 0} → held.Cell N → ℕ → held.Cell N
+abbrev pub given_to : {N : Type 0} → CellOf N → ℕ → CellOf N
 given_to rule letter = record { line = rule.line; given = letter; bound = rule.bound; verb = rule.verb; spot = rule.spot }
 
-abbrev pub bound_to : {N : Type 0} → held.Cell N → N → held.Cell N
+abbrev pub bound_to : {N : Type 0} → CellOf N → N → CellOf N
 bound_to rule line = record { line = rule.line; given = rule.given; bound = Some line; verb = rule.verb; spot = rule.spot }
 
 module _ (t : List ℕ) (rule : Cell) (spot : ℕ) (cell : Cell) (m : Marked t cell) {a : Bool} (e : a ≡ (eqb cell.verb a_severity && eqb cell.spot spot)) where

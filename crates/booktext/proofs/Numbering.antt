@@ -14,14 +14,21 @@ use Rattle.booktext.specs.Changes.{spot_of, amend}
 use Rattle.booktext.specs.Contents.{letter_of, asks_code}
 use Rattle.booktext.specs.Cells.{Cell, held_number, numbered}
 use Rattle.booktext.specs.Standing.{words_from, statement_at, noted, Marked, no_cell}
-use Rattle.booktext.specs.declared.cell.Cell as held
+use Rattle.booktext.specs.declared.cell.CellOf.{CellOf}
 use Rattle.booktext.proofs.Marking.{noted_as, bound-own, bound_other}
 use Rattle.booktext.proofs.Referring.{asks-is}
 use Rattle.booktext.proofs.Ruling.{letter-own, letter-given}
 use Rattle.booktext.proofs.Changing.{given_to, bound_to, amend_severity, amend-bound}
 
 -- ---- one
-module _ {N : Type 0} (number : N → ℕ) (cell : held.Cell N → Cell) (is : (c : held.Cell N) → cell c ≡ numbered number c) (t : List ℕ) where
+pub says_here : {N : Type 0} (number : N → ℕ) (cell : CellOf N → Cell) → ((c : CellOf N) → cell c ≡ numbered number c) → (c : CellOf N) {n : ℕ} → n ≡ number c.spot → (v spot : ℕ) → (eqb c.verb v && eqb n spot) ≡ (eqb (cell c).verb v && eqb (cell c).spot spot)
+says_here number cell is c e v spot = ap₂ (λ (x y : ℕ). eqb x v && eqb y spot) (sym (ap (λ (x : Cell). x.verb) (is c))) (e ∙ sym (ap (λ (x : Cell). x.spot) (is c)))
+
+-- a rule's cell as a statement leaves it; what it has of the rule's own stays
+abbrev AmendedBy : List ℕ → Cell → ℕ → (rule after : Cell) → Type 0
+AmendedBy t by spot rule after = (noted t after ≡ amend spot (noted t rule) (noted t by)) × (after.verb ≡ rule.verb) × (after.spot ≡ rule.spot)
+
+module _ {N : Type 0} (number : N → ℕ) (cell : CellOf N → Cell) (is : (c : CellOf N) → cell c ≡ numbered number c) (t : List ℕ) where
   -- that of a line
   pub cell_made : (line given : ℕ) {at spot : N} {v p : ℕ} → number at ≡ line → v ≡ verb (statement_at t line 0) → number spot ≡ p → p ≡ spot_of (statement_at t line 0)
       → (noted t (cell (record { line = at; given = given; bound = None; verb = v; spot = spot })) ≡ statement_at t line given) × Marked t (cell (record { line = at; given = given; bound = None; verb = v; spot = spot }))
@@ -35,11 +42,7 @@ module _ {N : Type 0} (number : N → ℕ) (cell : held.Cell N → Cell) (is : (
         },
       )
 
-  -- what one statement makes of a rule; what the cell has of the rule stays
-  abbrev pub AmendedBy : Cell → ℕ → (rule after : Cell) → Type 0
-  AmendedBy by spot rule after = (noted t after ≡ amend spot (noted t rule) (noted t by)) × (after.verb ≡ rule.verb) × (after.spot ≡ rule.spot)
-
-  module _ (c : held.Cell N) where
+  module _ (c : CellOf N) where
     bound_is : {bound : Option N} → c.bound ≡ bound → (cell c).bound ≡ held_number number bound
     bound_is e = ap (λ (x : Cell). x.bound) (is c) ∙ ap (held_number number) e
 
@@ -69,7 +72,7 @@ module _ {N : Type 0} (number : N → ℕ) (cell : held.Cell N → Cell) (is : (
         letter_here h = letter-own t (cell c) (given_is ∙ h) word_here g
 
         -- a rule with the severity that it gives
-        pub severity_here : (rule : held.Cell N) (spot : ℕ) → Marked t (cell c) → {a : Bool} → a ≡ (eqb (cell c).verb a_severity && eqb (cell c).spot spot) → a ≡ true → AmendedBy (cell c) spot (cell rule) (cell (given_to rule letter))
+        pub severity_here : (rule : CellOf N) (spot : ℕ) → Marked t (cell c) → {a : Bool} → a ≡ (eqb (cell c).verb a_severity && eqb (cell c).spot spot) → a ≡ true → AmendedBy t (cell c) spot (cell rule) (cell (given_to rule letter))
         severity_here rule spot m h k =
             let now : cell (given_to rule letter) ≡ given_to (cell rule) letter = is _ ∙ ap (λ (x : Cell). given_to x letter) (sym (is rule)) in
             (ap (noted t) now ∙ amend_severity t (cell rule) spot (cell c) m h k word_here g, ap (λ (x : Cell). x.verb) now, ap (λ (x : Cell). x.spot) now)
@@ -78,8 +81,8 @@ module _ {N : Type 0} (number : N → ℕ) (cell : held.Cell N → Cell) (is : (
     letter_there h = sym given_is ∙ letter-given t (cell c) (λ e. h (sym given_is ∙ e))
 
     -- a rule with its bound
-    pub bound_by_it : (rule : held.Cell N) (spot : ℕ) → Marked t (cell c) → {a b : Bool} → a ≡ (eqb (cell c).verb a_severity && eqb (cell c).spot spot) → a ≡ false → b ≡ (eqb (cell c).verb a_bound && eqb (cell c).spot spot) → makes_rule (noted t (cell rule)) ≡ true → b ≡ true
-        → AmendedBy (cell c) spot (cell rule) (cell (bound_to rule c.line))
+    pub bound_by_it : (rule : CellOf N) (spot : ℕ) → Marked t (cell c) → {a b : Bool} → a ≡ (eqb (cell c).verb a_severity && eqb (cell c).spot spot) → a ≡ false → b ≡ (eqb (cell c).verb a_bound && eqb (cell c).spot spot) → makes_rule (noted t (cell rule)) ≡ true → b ≡ true
+        → AmendedBy t (cell c) spot (cell rule) (cell (bound_to rule c.line))
     bound_by_it rule spot m h k f ruled q =
         let now : cell (bound_to rule c.line) ≡ bound_to (cell rule) (cell c).line = is _ ∙ ap₂ (λ (x y : Cell). bound_to x y.line) (sym (is rule)) (sym (is c)) in
         (ap (noted t) now ∙ amend-bound t (cell rule) spot (cell c) m h k f ruled q, ap (λ (x : Cell). x.verb) now, ap (λ (x : Cell). x.spot) now)

@@ -10,9 +10,11 @@ ghost use Rattle.booktext.specs.Standing.{words_from, body_from, Heads, noted, M
 use crate::cell::{Cell, NO_CELL};
 use crate::change::{amended, is_dropped};
 use crate::heads::note_heads;
+use crate::line::word_of;
 use crate::rules::letter_of;
 use crate::section::{STATEMENT_LIMIT, note_section};
 use crate::word::{DROP, is_rule};
+use hl7::bytes::same_bytes;
 
 fn note_any(t: &[u8], heads: &[usize], rest: usize, cells: &mut [Cell], start: usize) -> usize
     requires { Heads t.now heads.now rest × (length cells.old ≡ statement_limit) }
@@ -52,8 +54,8 @@ fn amended_any(t: &[u8], rule: Cell, spot: usize, cells: &[Cell]) -> Cell
     amended(t, rule, spot, cells)
 }
 
-// One of a section's rules as the statements after it leave it.
-fn left_any(t: &[u8], cells: &[Cell], i: usize) -> Option<Cell>
+// One of a section's rules as the statements after it amend it.
+fn amended_at(t: &[u8], cells: &[Cell], i: usize) -> Option<Cell>
     requires { Marks t.now cells.now × (i < length cells.now) }
 {
     let rule = cells[i];
@@ -63,24 +65,26 @@ fn left_any(t: &[u8], cells: &[Cell], i: usize) -> Option<Cell>
     Some(amended_any(t, rule, rule.spot, &cells[i + 1..]))
 }
 
-// A use, the rule that it takes over, another bound for it, and a drop of it.
+// A use, the rule that it takes over, a rule of the section's own, another bound and another severity for the first, and a drop of it.
 #[test]
 fn notes_a_section(rt: HostRuntime) {
     let t =
-        b"common c\nrule PID-8 LENGTH W 1 9\nsection AX\nuse c E\nbound PID-8 LENGTH 2 5\ndrop PID-8 LENGTH\n";
+        b"common c\nrule PID-8 LENGTH W 1 9\nsection AX\nuse c E\nrule PID-7 DATE W\nbound PID-8 LENGTH 2 5\nseverity PID-8 LENGTH I\ndrop PID-8 LENGTH\n";
     let mut heads = [0; 4];
     let noted = note_heads(t, &mut heads);
     let mut cells = [NO_CELL; STATEMENT_LIMIT];
     let count = note_any(t, &heads[..noted.count], noted.rest, &mut cells, 44);
-    assert_eq!(rt; count, 4);
+    assert_eq!(rt; count, 6);
     let rule = cells[1];
     assert_eq!(rt; rule.line, 9);
     assert_eq!(rt; letter_any(t, rule), b'E');
-    assert_eq!(rt; bound_any(rule, t), 28);
-    assert!(rt; says_any(cells[3], DROP, rule.spot));
-    assert!(rt; dropped_any(&cells[2..4], rule.spot));
-    assert!(rt; !dropped_any(&cells[2..3], rule.spot));
-    let left = left_any(t, &cells[..count], 1).expect(&rt, "a rule");
+    assert!(rt; same_bytes(word_of(t, bound_any(rule, t), 0), b"1"));
+    assert_eq!(rt; letter_any(t, cells[2]), b'W');
+    assert!(rt; says_any(cells[5], DROP, rule.spot));
+    assert!(rt; dropped_any(&cells[2..6], rule.spot));
+    assert!(rt; !dropped_any(&cells[2..5], rule.spot));
+    let left = amended_at(t, &cells[..count], 1).expect(&rt, "a rule");
     assert_eq!(rt; left.line, 9);
-    assert_eq!(rt; bound_any(left, t), 70);
+    assert_eq!(rt; letter_any(t, left), b'I');
+    assert!(rt; same_bytes(word_of(t, bound_any(left, t), 0), b"2"));
 }

@@ -12,18 +12,19 @@ use crate::word::{CODE_KIND, is_placed, is_rule, kind_number, place_in};
 // A number of a cell: where a line begins, or a place and kind. A usize holds those of any text; a u32 those of texts that are not too long, in less room.
 pub trait CellNumber: Copy {
     ghost use Rattle.std.specs.Prelude.{List, ℕ, map};
-    ghost use Rattle.booktext.specs.declared.cell.Cell as held;
+    ghost use Rattle.booktext.specs.declared.cell.CellOf.{CellOf};
     ghost use Rattle.booktext.specs.Cells.{Cell, numbered};
 
     // There is room for a number.
     ghost fits: { ℕ → Type 0 };
 
-    // The number, a cell by its numbers, and all cells of a list by theirs.
+    // The number; and a cell, and cells, by their numbers. Members of their own, and not made from the first, so that they are the identity where numbers stand for
+    // themselves.
     ghost number: { Self → ℕ };
 
-    ghost cell: { held.Cell Self → Cell };
+    ghost cell: { CellOf Self → Cell };
 
-    ghost cells: { List (held.Cell Self) → List Cell };
+    ghost cells: { List (CellOf Self) → List Cell };
 
     fn of(n: usize) -> Self
         requires { fits n }
@@ -32,14 +33,15 @@ pub trait CellNumber: Copy {
     fn get(self) -> usize
         ensures { result ≡ number self };
 
-    // There is room for smaller numbers, and for each place and kind.
+    // There is room for what is smaller, and for each place and kind.
     ghost less_fits: { (n m : ℕ) → m ≤ n → fits n → fits m };
 
     ghost spot_fits: { fits 4000000 };
 
-    ghost cell_is: { (c : held.Cell Self) → cell c ≡ numbered number c };
+    // A cell is read number by number, and cells one by one.
+    ghost cell_is: { (c : CellOf Self) → cell c ≡ numbered number c };
 
-    ghost cells_are: { (cs : List (held.Cell Self)) → cells cs ≡ map cell cs };
+    ghost cells_are: { (cs : List (CellOf Self)) → cells cs ≡ map cell cs };
 }
 
 impl CellNumber for usize {
@@ -71,11 +73,9 @@ impl CellNumber for usize {
 }
 
 impl CellNumber for u32 {
-    ghost use Rattle.std.specs.Prelude.{◌<◌};
-    ghost use Rattle.std.proofs.Common.{arith};
-    ghost use Rattle.booktext.specs.Cells.{numbered_same, all_same};
+    ghost use Rattle.booktext.specs.Cells.{is_small, less_small, spot_small, numbered_same, all_same};
 
-    ghost fits = { λ n. n < 4294967296 };
+    ghost fits = { is_small };
 
     ghost number = { λ n. n };
 
@@ -91,9 +91,9 @@ impl CellNumber for u32 {
         self as usize
     }
 
-    ghost less_fits = { λ n m h k. omega (arith, h, k) };
+    ghost less_fits = { less_small };
 
-    ghost spot_fits = { omega arith };
+    ghost spot_fits = { spot_small };
 
     ghost cell_is = { numbered_same };
 
@@ -101,9 +101,9 @@ impl CellNumber for u32 {
 }
 
 // Where its line begins, where another line begins that has its bound, and the place and kind that it speaks of; the severity that it was given, else 0, and its
-// verb. The bytes stand last, so that it has no gaps.
+// verb. The bytes stand last, so that there is no gap between them.
 #[derive(Clone, Copy)]
-pub struct Cell<N = usize> {
+pub struct CellOf<N> {
     pub line: N,
     pub bound: Option<N>,
     pub spot: N,
@@ -111,8 +111,11 @@ pub struct Cell<N = usize> {
     pub verb: u8,
 }
 
+// One of a text of any length.
+pub type Cell = CellOf<usize>;
+
 // One of a text that is compiled: such a text has at most a mebibyte, and there are up to 2,048 cells at once.
-pub type SmallCell = Cell<u32>;
+pub type SmallCell = CellOf<u32>;
 
 // Stands where none is noted yet.
 pub const NO_CELL: Cell = Cell {
@@ -123,8 +126,8 @@ pub const NO_CELL: Cell = Cell {
     verb: 0,
 };
 
-// The same of a text that is compiled: a constant's value may call no function that would make both.
-pub const NO_SMALL_CELL: SmallCell = Cell {
+// Likewise. No function makes both: the value of a constant may call none.
+pub const NO_SMALL_CELL: SmallCell = SmallCell {
     line: 0,
     bound: None,
     spot: 0,
@@ -132,7 +135,7 @@ pub const NO_SMALL_CELL: SmallCell = Cell {
     verb: 0,
 };
 
-impl<N: CellNumber> Cell<N> {
+impl<N: CellNumber> CellOf<N> {
     // Whether it has this verb, and this place and kind.
     pub fn says_of(self, verb: u8, spot: usize) -> bool
         ensures { result ≡ (eqb (N.cell self).verb verb && eqb (N.cell self).spot spot) }
@@ -180,11 +183,11 @@ fn spot_at(t: &[u8], line: usize) -> usize
 }
 
 // The statement of a line, with the severity that it was given.
-pub(crate) fn cell_at<N: CellNumber>(t: &[u8], line: usize, given: u8) -> Cell<N>
+pub(crate) fn cell_at<N: CellNumber>(t: &[u8], line: usize, given: u8) -> CellOf<N>
     requires { N.fits (length t.now) × (line ≤ length t.now) }
     ensures { (noted t.now (N.cell result) ≡ statement_at t.now line given) × Marked t.now (N.cell result) }
 {
-    Cell {
+    CellOf {
         line: N::of(line),
         given,
         bound: None,

@@ -4,14 +4,14 @@ ghost use Rattle.booktext.specs.Lines.{makes_rule};
 ghost use Rattle.booktext.specs.Changes.{amend, amended, dropped, settled_as, settled};
 ghost use Rattle.booktext.specs.Standing.{noted, no_cell, Marked, Marks};
 
-use crate::cell::{Cell, CellNumber, SmallCell};
+use crate::cell::{CellNumber, CellOf, SmallCell};
 use crate::line::word_of;
 use crate::word::{BOUND, DROP, SEVERITY, is_rule};
 use hl7::bytes::byte_at;
 
 // ---- one rule
 // Whether one of the statements in the cells drops a rule of this place and kind.
-pub fn is_dropped<N: CellNumber>(cells: &[Cell<N>], spot: usize) -> bool
+pub fn is_dropped<N: CellNumber>(cells: &[CellOf<N>], spot: usize) -> bool
     ensures { (t : List ℕ) → Marks t (N.cells cells.now) → result ≡ dropped spot (map (noted t) (N.cells cells.now)) }
 {
     let mut any = false;
@@ -22,23 +22,28 @@ pub fn is_dropped<N: CellNumber>(cells: &[Cell<N>], spot: usize) -> bool
 }
 
 // A rule of this place and kind as a later statement leaves it.
-fn amend<N: CellNumber>(t: &[u8], rule: Cell<N>, spot: usize, cell: Cell<N>) -> Cell<N>
+fn amend<N: CellNumber>(t: &[u8], rule: CellOf<N>, spot: usize, cell: CellOf<N>) -> CellOf<N>
     requires { (makes_rule (noted t.now (N.cell rule)) ≡ true) × Marked t.now (N.cell cell) }
     ensures { (noted t.now (N.cell result) ≡ amend spot (noted t.now (N.cell rule)) (noted t.now (N.cell cell))) × ((N.cell result).verb ≡ (N.cell rule).verb) × ((N.cell result).spot ≡ (N.cell rule).spot) }
 {
     if cell.says_of(SEVERITY, spot) {
         let given = byte_at(word_of(t, cell.line.get(), 3), 0);
-        return Cell { given, ..rule };
+        return CellOf { given, ..rule };
     }
     if cell.says_of(BOUND, spot) {
         let bound = Some(cell.line);
-        return Cell { bound, ..rule };
+        return CellOf { bound, ..rule };
     }
     rule
 }
 
 // The same as all statements in the cells leave it.
-pub fn amended<N: CellNumber>(t: &[u8], rule: Cell<N>, spot: usize, cells: &[Cell<N>]) -> Cell<N>
+pub fn amended<N: CellNumber>(
+    t: &[u8],
+    rule: CellOf<N>,
+    spot: usize,
+    cells: &[CellOf<N>],
+) -> CellOf<N>
     requires { (makes_rule (noted t.now (N.cell rule)) ≡ true) × Marks t.now (N.cells cells.now) }
     ensures { (noted t.now (N.cell result) ≡ amended spot (noted t.now (N.cell rule)) (map (noted t.now) (N.cells cells.now))) × ((N.cell result).verb ≡ (N.cell rule).verb) × ((N.cell result).spot ≡ (N.cell rule).spot) }
 {

@@ -7,7 +7,7 @@ ghost use Rattle.booktext.specs.Words.{place_in, is_place};
 ghost use Rattle.booktext.specs.Contents.{letter_of, made, rules_of};
 ghost use Rattle.booktext.specs.Standing.{CountsRules, noted, Marks, names_in, ready, place_bytes, bound_bytes};
 
-use crate::cell::{Cell, CellNumber, SmallCell};
+use crate::cell::{CellNumber, CellOf, SmallCell};
 use crate::line::word_of;
 use crate::names::Names;
 use crate::statement::verb_at;
@@ -24,7 +24,7 @@ pub(crate) fn count_rules(cells: &[SmallCell]) -> usize
 
 // ---- bytes
 // The severity that a section gives a statement, else its own.
-pub fn letter_of<N: CellNumber>(t: &[u8], cell: Cell<N>) -> u8
+pub fn letter_of<N: CellNumber>(t: &[u8], cell: CellOf<N>) -> u8
     ensures { result ≡ letter_of (noted t.now (N.cell cell)) }
 {
     if cell.given == 0 {

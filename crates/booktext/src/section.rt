@@ -5,7 +5,7 @@ ghost use Rattle.booktext.specs.Meaning.{give, taken, expand};
 ghost use Rattle.booktext.specs.Refusals.{is_first, used_twice, statement_limit};
 ghost use Rattle.booktext.specs.Standing.{statement_at, left, body_from, Heads, told_in, noted, Marked, Holds, NotesMore};
 
-use crate::cell::{Cell, CellNumber, cell_at};
+use crate::cell::{CellNumber, CellOf, cell_at};
 use crate::heads::seek_head;
 use crate::line::{line_of, word_of};
 use crate::refer::is_first;
@@ -44,7 +44,7 @@ pub(crate) fn used_twice(t: &[u8], head: usize, start: usize) -> Result<(), Faul
 
 // ---- statements after inclusion
 // Notes one statement more.
-fn note_cell<N: CellNumber>(cells: &mut [Cell<N>], count: usize, cell: Cell<N>) -> usize
+fn note_cell<N: CellNumber>(cells: &mut [CellOf<N>], count: usize, cell: CellOf<N>) -> usize
     requires { length cells.old ≡ statement_limit }
     ensures { (t : List ℕ) → Marked t (N.cell cell) → NotesMore t (N.cells cells.old) count (N.cells cells.new) result (noted t (N.cell cell) ∷ []) }
 {
@@ -58,7 +58,7 @@ fn note_cell<N: CellNumber>(cells: &mut [Cell<N>], count: usize, cell: Cell<N>) 
 // Notes one by the position of its line, and the severity that it was given.
 fn note<N: CellNumber>(
     t: &[u8],
-    cells: &mut [Cell<N>],
+    cells: &mut [CellOf<N>],
     count: usize,
     at: usize,
     letter: u8,
@@ -72,7 +72,7 @@ fn note<N: CellNumber>(
 // Notes the statements of a common, which begin at start.
 fn note_block<N: CellNumber>(
     t: &[u8],
-    cells: &mut [Cell<N>],
+    cells: &mut [CellOf<N>],
     count: usize,
     start: usize,
     letter: u8,
@@ -97,7 +97,7 @@ fn note_taken<N: CellNumber>(
     t: &[u8],
     heads: &[usize],
     rest: usize,
-    cells: &mut [Cell<N>],
+    cells: &mut [CellOf<N>],
     count: usize,
     at: usize,
 ) -> usize
@@ -125,7 +125,7 @@ fn note_both<N: CellNumber>(
     t: &[u8],
     heads: &[usize],
     rest: usize,
-    cells: &mut [Cell<N>],
+    cells: &mut [CellOf<N>],
     count: usize,
     at: usize,
 ) -> usize
@@ -141,7 +141,7 @@ pub fn note_section<N: CellNumber>(
     t: &[u8],
     heads: &[usize],
     rest: usize,
-    cells: &mut [Cell<N>],
+    cells: &mut [CellOf<N>],
     start: usize,
 ) -> usize
     requires { Heads t.now heads.now rest × N.fits (length t.now) × (length cells.old ≡ statement_limit) }

@@ -1,10 +1,10 @@
--- `booktext::any_text::left_any` meets what it calls asks. Assumes nothing.
+-- `booktext::any_text::amended_at` meets what it calls asks. Assumes nothing.
 use mathlib.Core.Path.{sym, ap, ◌∙◌}
 use mathlib.Core.Bool.{not}
 use Rattle.booktext.specs.Lines.{of_rule}
 use Rattle.booktext.proofs.Marking.{mark_at, part_marks}
 use borrow.Author.Tests.{not-false}
-use Rattle.booktext.proofs.any_text.left_any.Goals as goal
+use Rattle.booktext.proofs.any_text.amended_at.Goals as goal
 
 pub amended_any-requires : goal.amended_any-requires
 amended_any-requires c =
